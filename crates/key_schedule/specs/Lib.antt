@@ -1,0 +1,4 @@
+pub mod Psks
+pub mod Schedule
+pub mod Exports
+pub mod Nonces
