@@ -1,0 +1,74 @@
+ghost use Rattle.std.specs.Prelude.{◌≡◌};
+ghost use Rattle.call_places.specs.Entries.{last_of};
+
+use crate::{Entry, Listed, Place, Step, later_entries_change_no_number};
+use std::collections::LinkedList;
+use std::test::Fail;
+
+// A list of entries that anybody may add to.
+#[derive(Drop)]
+struct Log {
+    entries: Vec<Entry>,
+    limit: u64,
+    quotas: LinkedList<u32>,
+}
+
+#[tactic(auto, using(crate::proofs::Last::last_is_last_of))]
+fn last_in(entries: &[Entry]) -> Option<Entry>
+    ensures { result ≡ last_of entries.now }
+{
+    entries.last().copied()
+}
+
+impl Listed for Log {
+    ghost entries = { λ log. log.entries.items };
+
+    ghost terms = { λ log. record { limit = log.limit; quotas = log.quotas } };
+
+    fn last_entry(&self) -> Option<Entry> {
+        last_in(&self.entries)
+    }
+}
+
+fn last_of_listed<V: Listed>(value: &V) -> Option<Entry> {
+    value.last_entry()
+}
+
+fn entry(call: u32, step: Step) -> Entry {
+    let place = Place {
+        lane: 0,
+        call,
+        item: 0,
+    };
+    Entry { place, step }
+}
+
+// RFC 9180, 5.2: the sequence number is raised where a message was sealed or opened.
+const STEPS: [(Step, bool); 5] = [
+    (Step::Sealed, true),
+    (Step::SealLimit, false),
+    (Step::Opened, true),
+    (Step::Failed, false),
+    (Step::OpenLimit, false),
+];
+
+#[test]
+fn a_log_is_listed_and_shows_its_last_entry(rt: HostRuntime) -> Result<(), Fail> {
+    let alloc = rt.alloc();
+    let mut log = Log {
+        entries: Vec::new(alloc),
+        limit: 2,
+        quotas: LinkedList::new(alloc),
+    };
+    assert_eq!(rt; last_of_listed(&log), None);
+    let mut call = 0;
+    for (step, advances) in STEPS {
+        assert_eq!(rt; step.advances(), advances, "{step:?}");
+        let next = entry(call, step);
+        log.entries.push(next)?;
+        assert_eq!(rt; last_of_listed(&log), Some(next), "{step:?}");
+        call = call.wrapping_add(1);
+    }
+    later_entries_change_no_number(&log.entries, &log.entries);
+    Ok(())
+}
