@@ -1,0 +1,5 @@
+pub mod Cutting
+pub mod Numbers
+pub mod HexDigits
+pub mod Told
+pub mod Held

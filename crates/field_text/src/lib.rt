@@ -1,0 +1,34 @@
+//! The fields of the batch text and of the reply text: how a text is cut into lines and pieces, what
+//! one piece is read as, and how texts, numbers and bytes are printed.
+//!
+//! A contract sees [`Pieces`] as the list of the pieces of a line that are still to be read. Each
+//! field is a definition in `specs/Fields.antt`, from a piece to a value or to the [`Reason`] why it
+//! is none, and each method answers just what the definition gives. The bytes of a field go to the
+//! end of one pool, and the field's value is their [`Span`](call_places::Span).
+//!
+//! What is printed goes through a [`Buffer`], by `specs/Printing.antt`: each call puts its piece of
+//! the text, and [`Buffer::finish`] tells whether the sink took the whole text or a prefix of it.
+//!
+//! Each call is linear in the bytes that it reads or puts. Which lines a batch or a reply has is
+//! not known here.
+#![tactic(auto)]
+
+mod buffer;
+#[cfg(test)]
+mod buffer_tests;
+mod cuts;
+mod fields;
+mod pieces;
+mod printing;
+#[cfg(test)]
+mod reading_tests;
+mod reasons;
+mod stop;
+
+pub use buffer::Buffer;
+pub use cuts::cut_at;
+pub use fields::{read_bytes, read_number};
+pub use pieces::Pieces;
+pub use printing::Printed;
+pub use reasons::Reason;
+pub use stop::Stop;
