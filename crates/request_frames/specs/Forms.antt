@@ -1,0 +1,47 @@
+-- The lines of a batch without their first word: what each one spells. The bytes of each bytes
+-- field go to the end of the pool in turn.
+use Rattle.std.specs.Prelude.{ℕ, List, Result, Ok}
+use Rattle.field_text.specs.declared.reasons.Reason.{Reason}
+use Rattle.field_text.specs.Fields.{◌>>=◌, next, exactly, number, bytes}
+use Rattle.request_frames.specs.declared.plan.ContextLine.{ContextLine}
+use Rattle.request_frames.specs.declared.plan.ContextKind.TheVariants.{Share}
+use Rattle.request_frames.specs.declared.plan.CallLine.{CallLine}
+use Rattle.request_frames.specs.declared.plan.CallLine.TheVariants.{Export}
+use Rattle.request_frames.specs.Words.{role, mode, kdf, aead}
+
+-- `share ROLE KEM KDF AEAD SECRET MODE INFO PSK PSKID LIMIT`
+unfoldable pub share : List ℕ → List (List ℕ) → Result (ContextLine × List ℕ) Reason
+share pool pieces = do
+  pieces ← exactly 10 pieces
+  (role, pieces) ← next role pieces
+  (kem, pieces) ← next (number 0 65535) pieces
+  (kdf, pieces) ← next kdf pieces
+  (aead, pieces) ← next aead pieces
+  (secret, pieces) ← next (bytes 65535 pool) pieces
+  (mode, pieces) ← next mode pieces
+  (info, pieces) ← next (bytes 65535 secret.pool) pieces
+  (psk, pieces) ← next (bytes 65535 info.pool) pieces
+  (psk_id, pieces) ← next (bytes 65535 psk.pool) pieces
+  (limit, pieces) ← next (number 1 18446744073709551615) pieces
+  Ok (
+    record {
+      kind = Share role kem secret.span;
+      kdf = kdf;
+      aead = aead;
+      mode = mode;
+      info = info.span;
+      psk = psk.span;
+      psk_id = psk_id.span;
+      limit = limit;
+    },
+    psk_id.pool,
+  )
+
+-- `export CTX BYTES LEN`
+unfoldable pub export : List ℕ → List (List ℕ) → Result (CallLine × List ℕ) Reason
+export pool pieces = do
+  pieces ← exactly 3 pieces
+  (context, pieces) ← next (number 0 65535) pieces
+  (exporter, pieces) ← next (bytes 65535 pool) pieces
+  (size, pieces) ← next (number 0 65535) pieces
+  Ok (Export context exporter.span size, exporter.pool)

@@ -1,0 +1,85 @@
+-- How large a batch may be, and what is known of the numbers and spans of its plan. Sizes are in
+-- bytes.
+use Rattle.std.specs.Prelude.{ℕ, ◌<◌, ◌≤◌, ◌^◌, List, length, sum_by, All}
+use Rattle.call_places.specs.declared.spans.Span.{Span}
+use Rattle.call_places.specs.Spans.{IsInPool}
+use Rattle.request_frames.specs.declared.plan.Plan.{Plan}
+use Rattle.request_frames.specs.declared.plan.ContextKind.{ContextKind}
+use Rattle.request_frames.specs.declared.plan.ContextKind.TheVariants as kinds
+use Rattle.request_frames.specs.declared.plan.ContextLine.{ContextLine}
+use Rattle.request_frames.specs.declared.plan.CallLine.{CallLine}
+use Rattle.request_frames.specs.declared.plan.CallLine.TheVariants as calls
+
+-- the whole input
+abbrev pub most_input : ℕ
+most_input = 67108864
+
+-- no line is a key line
+abbrev pub most_keys : ℕ
+most_keys = 0
+
+abbrev pub most_contexts : ℕ
+most_contexts = 256
+
+abbrev pub most_lanes : ℕ
+most_lanes = 1
+
+-- the items in all lanes
+abbrev pub most_items : ℕ
+most_items = 65536
+
+-- the sum of LEN of all lanes
+abbrev pub most_exported : ℕ
+most_exported = 16777216
+
+-- the items of a call
+abbrev pub items_of : CallLine → ℕ
+items_of (calls.Export context exporter size) = 1
+
+-- the LEN of a call
+abbrev pub size_of : CallLine → ℕ
+size_of (calls.Export context exporter size) = size
+
+-- the items in all lanes
+abbrev pub all_items : List (List CallLine) → ℕ
+all_items lanes = sum_by (λ lane. sum_by items_of lane) lanes
+
+-- the sum of LEN of all lanes
+abbrev pub all_sizes : List (List CallLine) → ℕ
+all_sizes lanes = sum_by (λ lane. sum_by size_of lane) lanes
+
+-- ---- what every plan that is read keeps
+
+-- a bytes field of a line: bytes of a pool of this length, at most 65,535 of them
+pub record IsField (pool : ℕ) (span : Span) : Type 0 where
+  pub in_pool : IsInPool pool span
+  pub size : span.len ≤ 65535
+
+-- each kind of context, over a pool of this length
+abbrev pub IsKindWithin : ℕ → ContextKind → Type 0
+IsKindWithin pool (kinds.Share role kem secret) = (kem < 2 ^ 16) × IsField pool secret
+
+-- a context line over a pool of this length
+pub record IsContextWithin (pool : ℕ) (line : ContextLine) : Type 0 where
+  pub kind : IsKindWithin pool line.kind
+  pub info : IsField pool line.info
+  pub psk : IsField pool line.psk
+  pub psk_id : IsField pool line.psk_id
+  pub limit_least : 1 ≤ line.limit
+  pub limit_most : line.limit < 2 ^ 64
+
+-- a call line over a pool of this length
+abbrev pub IsCallWithin : ℕ → CallLine → Type 0
+IsCallWithin pool (calls.Export context exporter size) =
+    (context ≤ 65535) × IsField pool exporter × (size ≤ 65535)
+
+-- the counts of a plan, and each of its lines
+pub record IsWithinLimits (plan : Plan) : Type 0 where
+  pub pool : length plan.pool ≤ most_input
+  pub keys : length plan.keys ≤ most_keys
+  pub contexts : length plan.contexts ≤ most_contexts
+  pub lanes : length plan.lanes ≤ most_lanes
+  pub items : all_items plan.lanes ≤ most_items
+  pub exported : all_sizes plan.lanes ≤ most_exported
+  pub context_lines : All (IsContextWithin (length plan.pool)) plan.contexts
+  pub call_lines : All (All (IsCallWithin (length plan.pool))) plan.lanes

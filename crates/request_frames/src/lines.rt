@@ -1,0 +1,69 @@
+//! What each line spells, by its form.
+
+ghost use Rattle.std.specs.Prelude.{◌≡◌, ◌+◌, ◌<◌, ◌≤◌, ◌^◌, length, vec_len, sum_by, OnOk, IfOk};
+ghost use Rattle.field_text.specs.Fields.{Gives};
+ghost use Rattle.request_frames.specs.Forms.{share as share_of, export as export_of};
+ghost use Rattle.request_frames.specs.Limits.{IsContextWithin, IsCallWithin};
+
+use crate::plan::{CallLine, ContextKind, ContextLine};
+use crate::words;
+use field_text::{Pieces, Stop};
+
+/// `share ROLE KEM KDF AEAD SECRET MODE INFO PSK PSKID LIMIT`
+#[tactic(auto, unfolding(crate::specs::Forms::share))]
+pub fn share(pool: &mut Vec<u8>, fields: &mut Pieces) -> Result<ContextLine, Stop>
+    requires room { vec_len pool.old + sum_by length fields.old < 2 ^ 32 }
+    ensures read { Gives (λ line. (line, pool.new.items)) result
+        (share_of pool.old.items fields.old) }
+    ensures within { IfOk result (IsContextWithin (vec_len pool.new)) }
+    ensures grown { OnOk result (vec_len pool.old ≤ vec_len pool.new) }
+    ensures size { OnOk result (vec_len pool.new ≤ vec_len pool.old + sum_by length fields.old) }
+{
+    fields.exactly(10)?;
+    let role = words::role(fields)?;
+    let kem = fields.number(0, 65_535)?;
+    let kdf = words::kdf(fields)?;
+    let aead = words::aead(fields)?;
+    let secret = fields.bytes(pool, 65_535)?;
+    let mode = words::mode(fields)?;
+    let info = fields.bytes(pool, 65_535)?;
+    let psk = fields.bytes(pool, 65_535)?;
+    let psk_id = fields.bytes(pool, 65_535)?;
+    let limit = fields.number(1, u64::MAX)?;
+    let kind = ContextKind::Share {
+        role,
+        kem: kem as u16,
+        secret,
+    };
+    Ok(ContextLine {
+        kind,
+        kdf,
+        aead,
+        mode,
+        info,
+        psk,
+        psk_id,
+        limit,
+    })
+}
+
+/// `export CTX BYTES LEN`
+#[tactic(auto, unfolding(crate::specs::Forms::export))]
+pub fn export(pool: &mut Vec<u8>, fields: &mut Pieces) -> Result<CallLine, Stop>
+    requires room { vec_len pool.old + sum_by length fields.old < 2 ^ 32 }
+    ensures read { Gives (λ call. (call, pool.new.items)) result
+        (export_of pool.old.items fields.old) }
+    ensures within { IfOk result (IsCallWithin (vec_len pool.new)) }
+    ensures grown { OnOk result (vec_len pool.old ≤ vec_len pool.new) }
+    ensures size { OnOk result (vec_len pool.new ≤ vec_len pool.old + sum_by length fields.old) }
+{
+    fields.exactly(3)?;
+    let context = fields.number(0, 65_535)?;
+    let exporter = fields.bytes(pool, 65_535)?;
+    let size = fields.number(0, 65_535)?;
+    Ok(CallLine::Export {
+        context: context as u32,
+        exporter,
+        size: size as u32,
+    })
+}

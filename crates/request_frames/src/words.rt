@@ -1,0 +1,118 @@
+//! The pieces of a line that are one of a few words or numbers.
+
+ghost use Rattle.std.specs.Prelude.{◌≡◌, ◌+◌, ◌≤◌, length, sum_by, OnOk};
+ghost use Rattle.field_text.specs.Fields.{Reads, next};
+ghost use Rattle.request_frames.specs.Words.{line_word as line_word_of, role as role_of, mode as mode_of, kdf as kdf_field, aead as aead_field};
+
+use field_text::{Pieces, Reason, read_number};
+use hkdf_labelled::{Aead, Kdf};
+use key_schedule::{Mode, Role};
+
+/// The first word of a line.
+#[derive(Clone, Copy, Debug, PartialEq, Eq)]
+pub enum LineWord {
+    Share,
+    Lane,
+    Export,
+    End,
+}
+
+/// Whether lines may follow.
+#[derive(Clone, Copy, Debug, PartialEq, Eq)]
+pub enum Next {
+    More,
+    Last,
+}
+
+/// The word that begins a line.
+#[tactic(auto, unfolding(field_text::specs::Fields::next))]
+pub fn line_word(fields: &mut Pieces) -> Result<LineWord, Reason>
+    ensures read { Reads (λ word. (word, fields.new)) result (next line_word_of fields.old) }
+    ensures size { OnOk result (sum_by length fields.new ≤ sum_by length fields.old) }
+{
+    let piece = fields.piece()?;
+    if piece == b"share".as_slice() {
+        Ok(LineWord::Share)
+    } else if piece == b"lane".as_slice() {
+        Ok(LineWord::Lane)
+    } else if piece == b"export".as_slice() {
+        Ok(LineWord::Export)
+    } else if piece == b"end".as_slice() {
+        Ok(LineWord::End)
+    } else {
+        Err(Reason::Word)
+    }
+}
+
+/// The next piece as ROLE.
+#[tactic(auto, unfolding(field_text::specs::Fields::next))]
+pub fn role(fields: &mut Pieces) -> Result<Role, Reason>
+    ensures read { Reads (λ role. (role, fields.new)) result (next role_of fields.old) }
+    ensures size { OnOk result (sum_by length fields.new ≤ sum_by length fields.old) }
+{
+    let piece = fields.piece()?;
+    if piece == b"send".as_slice() {
+        Ok(Role::Sender)
+    } else if piece == b"recv".as_slice() {
+        Ok(Role::Recipient)
+    } else {
+        Err(Reason::Word)
+    }
+}
+
+/// The next piece as MODE.
+#[tactic(auto, unfolding(field_text::specs::Fields::next))]
+pub fn mode(fields: &mut Pieces) -> Result<Mode, Reason>
+    ensures read { Reads (λ mode. (mode, fields.new)) result (next mode_of fields.old) }
+    ensures size { OnOk result (sum_by length fields.new ≤ sum_by length fields.old) }
+{
+    let piece = fields.piece()?;
+    if piece == b"base".as_slice() {
+        Ok(Mode::Base)
+    } else if piece == b"psk".as_slice() {
+        Ok(Mode::Psk)
+    } else {
+        Err(Reason::Word)
+    }
+}
+
+fn kdf_of(piece: &[u8]) -> Result<Kdf, Reason>
+    ensures { Reads (λ kdf. kdf) result (kdf_field piece.now) }
+{
+    match read_number(piece, 1, 3)? {
+        1 => Ok(Kdf::Sha256),
+        2 => Ok(Kdf::Sha384),
+        _ => Ok(Kdf::Sha512),
+    }
+}
+
+/// The next piece as KDF: its id in RFC 9180, 7.2.
+#[tactic(auto, unfolding(field_text::specs::Fields::next))]
+pub fn kdf(fields: &mut Pieces) -> Result<Kdf, Reason>
+    ensures read { Reads (λ kdf. (kdf, fields.new)) result (next kdf_field fields.old) }
+    ensures size { OnOk result (sum_by length fields.new ≤ sum_by length fields.old) }
+{
+    let piece = fields.piece()?;
+    kdf_of(piece)
+}
+
+fn aead_of(piece: &[u8]) -> Result<Aead, Reason>
+    ensures { Reads (λ aead. aead) result (aead_field piece.now) }
+{
+    match read_number(piece, 1, 65_535)? {
+        1 => Ok(Aead::Aes128),
+        2 => Ok(Aead::Aes256),
+        65_535 => Ok(Aead::ExportOnly),
+        _ => Err(Reason::Range),
+    }
+}
+
+/// The next piece as AEAD: its id in RFC 9180, 7.3, but not that of ChaCha20Poly1305.
+#[tactic(auto, unfolding(field_text::specs::Fields::next))]
+pub fn aead(fields: &mut Pieces) -> Result<Aead, Reason>
+    ensures read { Reads (λ aead. (aead, fields.new)) result (next aead_field fields.old) }
+    ensures size { OnOk result (sum_by length fields.new ≤ sum_by length fields.old) }
+{
+    let piece = fields.piece()?;
+    aead_of(piece)
+}
