@@ -1,0 +1,6 @@
+pub mod Fronts
+pub mod Lanes
+pub mod Loops
+pub mod Rooms
+pub mod Texts
+pub mod Whole
