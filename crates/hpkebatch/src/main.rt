@@ -1,0 +1,51 @@
+//! The command `hpkebatch`: reads one batch from standard input and writes its reply to standard
+//! output.
+//!
+//! All work is [`serve_words`]. Standard output holds the reply alone; standard error gets one line
+//! for each outcome that the reply can't tell of, and else nothing. The exit status is `status`.
+#![tactic(auto)]
+
+use batch_io::{FreeGate, StdSink, StdSource};
+use batch_runner::{Outcome, serve_words, status};
+use std::alloc::Global;
+use std::env::Env;
+use std::io::ErrorKind;
+use std::process::ExitCode;
+use std::{env, io};
+
+// The words of the command line, without the program's name.
+fn words<R: Env + Alloc<A = Global>>(rt: &R) -> io::Result<Vec<String>> {
+    let mut words = Vec::new(rt.alloc());
+    for word in env::args(rt)?.skip(1) {
+        words.push(word)?;
+    }
+    Ok(words)
+}
+
+// What standard error is told of an outcome.
+fn message(outcome: &Outcome) -> Option<&'static str> {
+    match outcome {
+        Outcome::Done | Outcome::BadBatch { .. } => None,
+        Outcome::Usage => Some("usage: hpkebatch run"),
+        Outcome::ReadFault => Some("the input could not be read"),
+        Outcome::WriteFault => Some("the reply could not be written"),
+        Outcome::OutOfMemory => Some("out of memory"),
+    }
+}
+
+fn main(rt: HostRuntime) -> ExitCode {
+    let outcome = match words(&rt) {
+        Ok(words) => {
+            let mut source = StdSource::new(rt.reader());
+            let mut sink = StdSink::new(io::writer(&rt));
+            let gate = FreeGate::new();
+            serve_words(&rt, rt.alloc(), &words, &mut source, &mut sink, &gate)
+        }
+        Err(error) if error.kind() == ErrorKind::OutOfMemory => Outcome::OutOfMemory,
+        Err(_) => Outcome::Usage,
+    };
+    if let Some(message) = message(&outcome) {
+        let _ = eprintln!(rt; "hpkebatch: {message}");
+    }
+    ExitCode::from(status(&outcome))
+}
