@@ -1,0 +1,9 @@
+pub mod Totals
+pub mod Prefixes
+pub mod Steps
+pub mod Ends
+pub mod Apart
+pub mod Seats
+pub mod Calls
+pub mod Dealing
+pub mod Closing

@@ -1,0 +1,7 @@
+pub mod Views
+pub mod Rule
+pub mod Steps
+pub mod Laws
+pub mod Passes
+pub mod Seats
+pub mod Tests
