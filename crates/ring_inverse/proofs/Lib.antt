@@ -1,0 +1,11 @@
+pub mod ReciprocalLaws
+pub mod UnitLaws
+pub mod CongruenceLaws
+pub mod LineLaws
+pub mod ClearedLaws
+pub mod Arithmetic
+pub mod Taken
+pub mod ListLaws
+pub mod Inverses
+pub mod BasisLaws
+pub mod AnswerLaws

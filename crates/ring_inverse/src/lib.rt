@@ -1,0 +1,22 @@
+//! Reciprocals in the two rings of Streamlined NTRU Prime: of an element modulo 3, and of 3f modulo
+//! q (NTRU Prime round 3, KeyGen).
+//!
+//! A [`Reciprocal`] is its own certificate: `Inverse(v)` has the product 1 with the element, and
+//! `Annihilator(u)` the product 0, with u not 0. Contracts say so by the definitions of
+//! `specs/Reciprocals.antt`, and that an annihilator comes exactly where no inverse exists: no
+//! element has both. Want of memory is the only refusal.
+//!
+//! The time depends on the element: nothing here is constant time.
+#![tactic(auto)]
+
+mod elimination;
+pub mod laws;
+mod lines;
+mod numbers;
+mod reciprocal;
+mod words;
+
+pub use reciprocal::{Reciprocal, reciprocal_3, reciprocal_3f};
+
+#[cfg(test)]
+mod tests;
