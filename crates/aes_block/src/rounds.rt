@@ -1,0 +1,141 @@
+//! Cipher (FIPS 197, 5.1) by tables.
+//!
+//! A state is four words, one a column, each with its low byte first. SubBytes, ShiftRows and
+//! MixColumns are linear but for the S-box, so a column after the three is the sum of four words,
+//! one for each byte that ShiftRows brings to it: byte i, through the S-box, times column i of the
+//! matrix of MixColumns. These words stand in four tables of `tables.rt` (`column_sum` of
+//! `proofs/Columns.antt`). The last round has no MixColumns, and reads the S-box.
+
+ghost use Rattle.std.specs.Prelude.{◌≡◌, ◌≤◌, ◌+◌, ◌*◌, [], ◌∷◌, length};
+ghost use Rattle.std.specs.Int.{byte_at};
+ghost use Rattle.byte_strings.specs.Bytes.{xor_bytes};
+ghost use Rattle.aes_block.specs.Field.{s_box};
+ghost use Rattle.aes_block.specs.Cipher.{sub_bytes, shift_rows, mixed_column, mix_columns, round_key, cipher_rounds};
+ghost use Rattle.aes_block.specs.Words.{word_bytes, state_bytes};
+
+use crate::lookups::{column0, column1, column2, column3, sub_byte};
+
+type Columns = [u32; 4];
+
+#[tactic(auto, using(crate::proofs::Columns::bytes_of_word))]
+fn word(a: u8, b: u8, c: u8, d: u8) -> u32
+    ensures { word_bytes result ≡ a ∷ b ∷ c ∷ d ∷ [] }
+{
+    u32::from_le_bytes([a, b, c, d])
+}
+
+// The words of 16 bytes.
+fn load(bytes: &[u8]) -> Columns
+    requires { length bytes.now ≡ 16 }
+    ensures { state_bytes result ≡ bytes.now }
+{
+    [
+        word(bytes[0], bytes[1], bytes[2], bytes[3]),
+        word(bytes[4], bytes[5], bytes[6], bytes[7]),
+        word(bytes[8], bytes[9], bytes[10], bytes[11]),
+        word(bytes[12], bytes[13], bytes[14], bytes[15]),
+    ]
+}
+
+// The bytes of four words.
+fn store(s: Columns) -> [u8; 16]
+    ensures { result ≡ state_bytes s }
+{
+    let [a0, a1, a2, a3] = s[0].to_le_bytes();
+    let [b0, b1, b2, b3] = s[1].to_le_bytes();
+    let [c0, c1, c2, c3] = s[2].to_le_bytes();
+    let [d0, d1, d2, d3] = s[3].to_le_bytes();
+    [
+        a0, a1, a2, a3, b0, b1, b2, b3, c0, c1, c2, c3, d0, d1, d2, d3,
+    ]
+}
+
+// A column after a round. `a` to `d` are the columns that its four bytes come from.
+fn mixed_word(a: u32, b: u32, c: u32, d: u32, key: u32) -> u32
+    ensures { word_bytes result ≡ xor_bytes
+        (mixed_column (s_box (byte_at 0 a)) (s_box (byte_at 1 b)) (s_box (byte_at 2 c))
+        (s_box (byte_at 3 d)))
+        (word_bytes key) }
+{
+    column0(a & 255) ^ column1(b >> 8 & 255) ^ column2(c >> 16 & 255) ^ column3(d >> 24) ^ key
+}
+
+#[tactic(auto, unfolding(crate::specs::Cipher::mix_columns, crate::specs::Cipher::shift_rows, crate::specs::Cipher::sub_bytes))]
+fn round(s: Columns, key: Columns) -> Columns
+    ensures { state_bytes result
+        ≡ xor_bytes (mix_columns (shift_rows (sub_bytes (state_bytes s)))) (state_bytes key) }
+{
+    [
+        mixed_word(s[0], s[1], s[2], s[3], key[0]),
+        mixed_word(s[1], s[2], s[3], s[0], key[1]),
+        mixed_word(s[2], s[3], s[0], s[1], key[2]),
+        mixed_word(s[3], s[0], s[1], s[2], key[3]),
+    ]
+}
+
+// A column after the last round.
+fn last_word(a: u32, b: u32, c: u32, d: u32, key: u32) -> u32
+    ensures { word_bytes result ≡ xor_bytes
+        (s_box (byte_at 0 a) ∷ s_box (byte_at 1 b) ∷ s_box (byte_at 2 c) ∷ s_box (byte_at 3 d) ∷ [])
+        (word_bytes key) }
+{
+    let [a, _, _, _] = a.to_le_bytes();
+    let [_, b, _, _] = b.to_le_bytes();
+    let [_, _, c, _] = c.to_le_bytes();
+    let [_, _, _, d] = d.to_le_bytes();
+    word(sub_byte(a), sub_byte(b), sub_byte(c), sub_byte(d)) ^ key
+}
+
+#[tactic(auto, unfolding(crate::specs::Cipher::shift_rows, crate::specs::Cipher::sub_bytes))]
+fn last_round(s: Columns, key: Columns) -> Columns
+    ensures { state_bytes result
+        ≡ xor_bytes (shift_rows (sub_bytes (state_bytes s))) (state_bytes key) }
+{
+    [
+        last_word(s[0], s[1], s[2], s[3], key[0]),
+        last_word(s[1], s[2], s[3], s[0], key[1]),
+        last_word(s[2], s[3], s[0], s[1], key[2]),
+        last_word(s[3], s[0], s[1], s[2], key[3]),
+    ]
+}
+
+#[tactic(auto, using(crate::proofs::Columns::sums))]
+fn add_word(a: u32, key: u32) -> u32
+    ensures { word_bytes result ≡ xor_bytes (word_bytes a) (word_bytes key) }
+{
+    a ^ key
+}
+
+fn add_round_key(s: Columns, key: Columns) -> Columns
+    ensures { state_bytes result ≡ xor_bytes (state_bytes s) (state_bytes key) }
+{
+    [
+        add_word(s[0], key[0]),
+        add_word(s[1], key[1]),
+        add_word(s[2], key[2]),
+        add_word(s[3], key[3]),
+    ]
+}
+
+// Round key `j` of an expanded key.
+fn round_key(w: &[u8], j: usize) -> Columns
+    requires { 16 * j + 16 ≤ length w.now }
+    ensures { state_bytes result ≡ round_key w.now j }
+{
+    load(&w[16 * j..16 * j + 16])
+}
+
+// Cipher with an expanded key and its number of rounds.
+#[tactic(auto, using(crate::proofs::Expanding::round_steps), unfolding(crate::specs::Cipher::cipher_rounds))]
+pub(crate) fn cipher(w: &[u8], nr: usize, block: &[u8; 16]) -> [u8; 16]
+    requires one { 1 ≤ nr }
+    requires within { 16 * nr + 16 ≤ length w.now }
+    ensures { result ≡ cipher_rounds w.now nr block.now }
+{
+    let mut state = add_round_key(load(block), round_key(w, 0));
+    for i in 1..nr {
+        let next = round(state, round_key(w, i));
+        state = next;
+    }
+    store(last_round(state, round_key(w, nr)))
+}

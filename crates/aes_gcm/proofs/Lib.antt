@@ -1,0 +1,4 @@
+pub mod XorBytes
+pub mod Streams
+pub mod Opening
+pub mod Published

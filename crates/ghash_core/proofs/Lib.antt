@@ -1,0 +1,5 @@
+pub mod Linear
+pub mod FourBits
+pub mod Rows
+pub mod Sums
+pub mod Published
