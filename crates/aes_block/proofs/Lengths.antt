@@ -1,5 +1,5 @@
 -- How many bytes the parts of the cipher have.
-use Rattle.std.proofs.Common.{◌≡◌, ◌+◌, ◌-◌, ◌*◌, ◌/◌, ◌%◌, ◌⊎◌, inl, inr, ℕ, zero, suc, Bool, true, false, if◌then◌else◌, ◌==◌, ◌&&◌, List, length, sym, ◌∙◌, refl, arith, take, drop, ap, ◌++◌, length-append, length-take, length-drop, drop-drop, get_or, [], ◌<◌}
+use Rattle.std.proofs.Common.{◌≡◌, ◌+◌, ◌-◌, ◌*◌, ◌/◌, ◌%◌, inl, inr, ℕ, zero, suc, Bool, true, false, if◌then◌else◌, ◌==◌, ◌&&◌, List, length, sym, ◌∙◌, refl, arith, take, drop, ap, length-append, length-take, length-drop, drop-drop, get_or, [], ◌<◌}
 use Rattle.std.specs.Simd.{first_chunks}
 use Rattle.std.specs.Int.Bits.{bit_xor}
 use Rattle.std.proofs.lemmas.Simd.{length-zip2}

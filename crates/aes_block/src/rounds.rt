@@ -3,8 +3,9 @@
 //! A state is four words, one a column, each with its low byte first. SubBytes, ShiftRows and
 //! MixColumns are linear but for the S-box, so a column after the three is the sum of four words,
 //! one for each byte that ShiftRows brings to it: byte i, through the S-box, times column i of the
-//! matrix of MixColumns. These words stand in four tables of `tables.rt` (`column_sum` of
-//! `proofs/Columns.antt`). The last round has no MixColumns, and reads the S-box.
+//! matrix of MixColumns. These words stand in the table `COLUMNS` (`column_sum` of
+//! `proofs/Columns.antt`). The last round has no MixColumns: it takes the S-box of each byte out of a
+//! word that has it in the row where it goes (`byte_sum`).
 
 ghost use Rattle.std.specs.Prelude.{◌≡◌, ◌≤◌, ◌+◌, ◌*◌, [], ◌∷◌, length};
 ghost use Rattle.std.specs.Int.{byte_at};
@@ -13,7 +14,7 @@ ghost use Rattle.aes_block.specs.Field.{s_box};
 ghost use Rattle.aes_block.specs.Cipher.{sub_bytes, shift_rows, mixed_column, mix_columns, round_key, cipher_rounds};
 ghost use Rattle.aes_block.specs.Words.{word_bytes, state_bytes};
 
-use crate::lookups::{column0, column1, column2, column3, sub_byte};
+use crate::lookups::{byte0, byte1, byte2, byte3, column0, column1, column2, column3};
 
 type Columns = [u32; 4];
 
@@ -79,11 +80,7 @@ fn last_word(a: u32, b: u32, c: u32, d: u32, key: u32) -> u32
         (s_box (byte_at 0 a) ∷ s_box (byte_at 1 b) ∷ s_box (byte_at 2 c) ∷ s_box (byte_at 3 d) ∷ [])
         (word_bytes key) }
 {
-    let [a, _, _, _] = a.to_le_bytes();
-    let [_, b, _, _] = b.to_le_bytes();
-    let [_, _, c, _] = c.to_le_bytes();
-    let [_, _, _, d] = d.to_le_bytes();
-    word(sub_byte(a), sub_byte(b), sub_byte(c), sub_byte(d)) ^ key
+    byte0(a & 255) ^ byte1(b >> 8 & 255) ^ byte2(c >> 16 & 255) ^ byte3(d >> 24) ^ key
 }
 
 #[tactic(auto, unfolding(crate::specs::Cipher::shift_rows, crate::specs::Cipher::sub_bytes))]

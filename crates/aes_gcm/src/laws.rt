@@ -17,6 +17,7 @@ pub fn opens_what_was_sealed(key: &GcmKey, nonce: &[u8; 12], aad: &[u8], text: &
     ensures holds { Holds key.now nonce.now aad.now (seal key.now nonce.now aad.now text.now) }
     ensures text { clear key.now nonce.now (seal key.now nonce.now aad.now text.now) ≡ text.now }
 {
+    // Reading the key tells the proof its invariant, by which the key has 16 or 32 bytes.
     let _ = &key.aes;
 }
 

@@ -61,7 +61,8 @@ impl GhashKey {
     }
 }
 
-// The same for fewer than 16 bytes, which are padded to one block, or to none.
+// From the hash of some blocks, the hash of these and of the one block that fewer than 16 bytes are
+// padded to. No byte gives no block.
 fn hash_rest(key: &GhashKey, sum: u128, bytes: &[u8]) -> u128
     requires { length bytes.now < 16 }
     ensures { result ≡ sum_after key.now sum (padded_blocks bytes.now) }
@@ -111,6 +112,7 @@ impl<'a> Ghash<'a> {
         ensures key { result.h ≡ key.now }
         ensures none { Took result [] }
     {
+        // Reading the key tells the proof its invariant, by which H is below 2^128.
         let _ = &key.h;
         Ghash { key, sum: 0 }
     }

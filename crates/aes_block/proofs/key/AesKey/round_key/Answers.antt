@@ -1,6 +1,4 @@
-use Rattle.std.proofs.Common.{◌≡◌, ◌<◌, ◌+◌, ◌*◌, ◌/◌, ℕ, List, [], length, get_or, ap, ◌∙◌, sym, arith}
-use Rattle.arrayvec.specs.ArrayVec.{array_vec_len}
-use Rattle.std.specs.Simd.{first_chunks}
+use Rattle.std.proofs.Common.{◌≡◌, ◌<◌, ◌+◌, ◌*◌, ◌/◌, [], length, get_or, ap, ◌∙◌, arith}
 use Rattle.aes_block.specs.Cipher.{expanded_key, round_key, round_count}
 use Rattle.aes_block.proofs.Lengths.{get_or-first_chunks}
 use Rattle.aes_block.proofs.key.AesKey.round_key.Goals as goal

@@ -1,7 +1,6 @@
-use Rattle.std.proofs.Common.{◌≡◌, ◌≤◌, ◌<◌, ◌+◌, ◌-◌, ◌*◌, ◌++◌, ℕ, min, length, take, drop, ap, sym, ◌∙◌, arith}
+use Rattle.std.proofs.Common.{◌≡◌, ◌≤◌, ◌+◌, ◌*◌, length, arith}
 use Rattle.std.proofs.lemmas.Bool.Decides.{nat_tests}
-use Rattle.aes_block.specs.Cipher.{cipher}
-use Rattle.aes_gcm.specs.Gcm.{counter_block, gctr, gctr_from}
+use Rattle.aes_gcm.specs.Gcm.{gctr}
 use Rattle.aes_gcm.proofs.Streams.{gctr-four}
 use Rattle.aes_gcm.proofs.key.GcmKey.add_fours.Goals as goal
 

@@ -1,7 +1,6 @@
 use Rattle.std.proofs.Common.{◌≡◌, ◌≤◌, ◌<◌, ◌+◌, ◌-◌, ◌++◌, min, length, take, drop, length-drop, ap, sym, ◌∙◌, arith}
 use Rattle.std.proofs.lemmas.List.{take_all, append-nil}
-use Rattle.aes_block.specs.Cipher.{cipher}
-use Rattle.aes_gcm.specs.Gcm.{counter_block, gctr}
+use Rattle.aes_gcm.specs.Gcm.{gctr}
 use Rattle.aes_gcm.proofs.Streams.{gctr-more, gctr_from-none}
 use Rattle.aes_gcm.proofs.key.GcmKey.add_key_stream.Goals as goal
 
