@@ -1,0 +1,143 @@
+//! Contexts, which don't change.
+
+ghost use Rattle.std.specs.Prelude.{◌≡◌, ◌≤◌, ◌<◌, ◌↔◌, length, IsSome, IsNone, IfSome, IsOk, OnOk, OnErr};
+ghost use Rattle.hpke_context.specs.Contexts.{aead_of, key_in, base_nonce_in, HasCipher, IsExportOnly, export_limit, exported_by, KeepsKey};
+
+use crate::faults::CallFault;
+use aes_gcm::GcmKey;
+use hkdf_labelled::{Suite, labeled_expand_into};
+use key_schedule::{CipherSecrets, Role, Secrets};
+use std::marker::Model;
+
+/// One end's context (RFC 9180, 5.1 and 5.2) without its sequence number: it doesn't change once
+/// made. A contract sees its role, suite, LIMIT and secrets.
+///
+/// The AES key is expanded once, when the context is made.
+#[derive(Drop)]
+pub struct Context {
+    role: Role,
+    suite: Suite,
+    limit: u64,
+    secrets: Secrets,
+    key: Option<GcmKey>,
+}
+
+impl Model for Context {
+    ghost use Rattle.std.specs.Prelude.{◌≡◌, ◌≤◌};
+    ghost use Rattle.hpke_context.specs.Contexts.{ContextView, aead_of, KeepsKey};
+
+    ghost Value = { ContextView };
+
+    ghost view = { λ c. record {
+      role = c.role;
+      suite = c.suite;
+      limit = c.limit;
+      secrets = c.secrets;
+    } };
+
+    ghost invariant = { λ c. (1 ≤ c.limit) × (aead_of c.secrets.cipher ≡ c.suite.aead)
+        × KeepsKey c.secrets.cipher c.key };
+}
+
+// The AES key of these secrets, expanded.
+fn expanded_key(secrets: &CipherSecrets) -> Option<GcmKey>
+    ensures { KeepsKey secrets.now result }
+{
+    match secrets {
+        CipherSecrets::NoCipher => None,
+        CipherSecrets::Aes128 { key, .. } => Some(GcmKey::new128(key)),
+        CipherSecrets::Aes256 { key, .. } => Some(GcmKey::new256(key)),
+    }
+}
+
+impl Context {
+    /// A context of what KeySchedule gave. `limit` is LIMIT: the numbers 0 to LIMIT - 1 are used,
+    /// where the RFC uses all that its nonce can count.
+    pub fn new(role: Role, suite: Suite, secrets: Secrets, limit: u64) -> Context
+        requires limit { 1 ≤ limit }
+        requires suite { aead_of secrets.cipher ≡ suite.aead }
+        ensures { result ≡ record { role = role; suite = suite; limit = limit; secrets = secrets } }
+    {
+        let key = expanded_key(&secrets.cipher);
+        Context {
+            role,
+            suite,
+            limit,
+            secrets,
+            key,
+        }
+    }
+
+    /// The context's end.
+    pub fn role(&self) -> Role
+        ensures { result ≡ self.now.role }
+    {
+        self.role
+    }
+
+    /// The context's algorithms.
+    pub fn suite(&self) -> &Suite
+        ensures suite { result.now ≡ self.now.suite }
+        ensures secrets { aead_of self.now.secrets.cipher ≡ self.now.suite.aead }
+    {
+        &self.suite
+    }
+
+    /// LIMIT: the first number that isn't used.
+    pub fn limit(&self) -> u64
+        ensures limit { result ≡ self.now.limit }
+        ensures least { 1 ≤ self.now.limit }
+    {
+        self.limit
+    }
+
+    /// The AEAD with the context's key. None for an export-only context.
+    pub fn cipher(&self) -> Option<&GcmKey>
+        ensures some { IsSome result ↔ HasCipher self.now }
+        ensures none { IsNone result ↔ IsExportOnly self.now }
+        ensures key { IfSome result (λ key. key.now ≡ key_in self.now.secrets.cipher) }
+    {
+        self.key.as_ref()
+    }
+
+    /// base_nonce: the nonce of number 0. None for an export-only context.
+    pub fn base_nonce(&self) -> Option<&[u8; 12]>
+        ensures some { IsSome result ↔ HasCipher self.now }
+        ensures none { IsNone result ↔ IsExportOnly self.now }
+        ensures nonce { IfSome result (λ nonce. nonce.now ≡ base_nonce_in self.now.secrets.cipher) }
+    {
+        match &self.secrets.cipher {
+            CipherSecrets::NoCipher => None,
+            CipherSecrets::Aes128 { base_nonce, .. } => Some(base_nonce),
+            CipherSecrets::Aes256 { base_nonce, .. } => Some(base_nonce),
+        }
+    }
+
+    /// The most bytes that one export gives: 255 Nh, the limit of HKDF-Expand.
+    pub fn export_limit(&self) -> usize
+        ensures { result ≡ export_limit self.now }
+    {
+        255 * self.suite.kdf.size()
+    }
+
+    /// Context.Export(exporter_context, L) (RFC 9180, 5.3): fills `out`, whose length is L.
+    ///
+    /// Either role may export, with or without a cipher, and no number is used. Both ends get the
+    /// same bytes for the same `exporter_context` and L. [`CallFault::ExportSize`] is the one
+    /// refusal; it leaves `out` as it was.
+    pub fn export_into(&self, exporter_context: &[u8], out: &mut [u8]) -> Result<(), CallFault>
+        ensures size { (result ≡ Err CallFault.ExportSize)
+            ↔ (export_limit self.now < length out.old) }
+        ensures ok { IsOk result ↔ (length out.old ≤ export_limit self.now) }
+        ensures exported { OnOk result
+            (out.new ≡ exported_by self.now exporter_context.now (length out.old)) }
+        ensures refused { OnErr result (out.new ≡ out.old) }
+    {
+        if out.len() > self.export_limit() {
+            return Err(CallFault::ExportSize);
+        }
+        let secret = self.secrets.exporter.as_slice();
+        labeled_expand_into(&self.suite, secret, b"sec", exporter_context, out);
+        Ok(())
+    }
+}

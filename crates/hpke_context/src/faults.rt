@@ -1,0 +1,33 @@
+//! Why a call of a context is refused.
+
+use std::error::Error;
+use std::fmt;
+
+/// Why a call of a context is refused. A refusal changes nothing but the count of checks.
+#[derive(Clone, Copy, Debug, PartialEq, Eq)]
+pub enum CallFault {
+    /// A recipient doesn't seal, and a sender doesn't open.
+    Role,
+    /// The suite is export-only.
+    NoCipher,
+    /// The sequence number has come to LIMIT.
+    Limit,
+    /// The tag doesn't hold at the number that is due: the bytes were changed, or are out of order.
+    Failed,
+    /// More than 255 Nh bytes are asked for.
+    ExportSize,
+}
+
+impl fmt::Display for CallFault {
+    fn fmt<W: fmt::Write>(&self, f: &mut fmt::Formatter<W>) -> fmt::Result {
+        match self {
+            CallFault::Role => write!(f, "the other role's call"),
+            CallFault::NoCipher => write!(f, "the suite is export-only"),
+            CallFault::Limit => write!(f, "the sequence number is at its limit"),
+            CallFault::Failed => write!(f, "the tag does not hold"),
+            CallFault::ExportSize => write!(f, "the export is too long"),
+        }
+    }
+}
+
+impl Error for CallFault {}
