@@ -1,0 +1,4 @@
+pub mod Lists
+pub mod Legals
+pub mod OneLane
+pub mod Numbers

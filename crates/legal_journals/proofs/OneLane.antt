@@ -1,0 +1,185 @@
+-- One lane that is served in its order.
+use Rattle.std.proofs.Common.{◌≡◌, ◌≢◌, ℕ, zero, suc, ◌+◌, ◌<◌, ◌≤◌, ◌==◌, ◌&&◌, Bool, true, false, cond, List, [], ◌∷◌, ◌++◌, length, take, drop, sym, refl, ap, ◌∙◌, subst, arith, append_assoc, Option, Some, None, inl, inr}
+use Rattle.std.specs.Prelude.{slice_get}
+use Rattle.call_places.specs.declared.entries.Place.{Place}
+use Rattle.hpke_context.specs.Answers.{Cipher, Item, Seal, Unseal, answer, run, due, next}
+use Rattle.legal_journals.specs.Batches.{Batch, Ask, Seals, Opens, Message, block, place, asked, all_asked, on, lane_of, lane_places, item_of, items_of, item_in_call, item_or_none, IsServed}
+use Rattle.legal_journals.specs.Legal.{OpensOn, StandTogether, Legal, is_same_place, reply_in, reply_of, due_after}
+use Rattle.legal_journals.proofs.Lists.{own, on-append, on-spots_same, own-on, own_spots-all_asked, own_spots-all_asked_other, all_asked-append, append-nil}
+use Rattle.legal_journals.proofs.Legals.{In, In-left, contains_in, all_asked_item, legal}
+
+-- ---- a call parts its lane
+
+pub parted : {X : Type 0} (xs : List X) (k : ℕ) (x : X) → slice_get xs k ≡ Some x → xs ≡ take k xs ++ (x ∷ drop (k + 1) xs)
+parted [] k x e = absurd (let f : None ≡ Some x = e in cc)
+parted (y ∷ xs) zero x e = ap (λ z. z ∷ xs) (let f : Some y ≡ Some x = e in cc)
+parted (y ∷ xs) (suc k) x e = ap (λ m. y ∷ m) (parted xs k x e) ∙ ap (λ n. y ∷ (take k xs ++ (x ∷ drop n (y ∷ xs)))) (let f : suc (k + 1) ≡ suc k + 1 = omega arith in f)
+
+pub few_taken : {X : Type 0} (xs : List X) (k : ℕ) (x : X) → slice_get xs k ≡ Some x → length (take k xs) ≡ k
+few_taken [] k x e = absurd (let f : None ≡ Some x = e in cc)
+few_taken (y ∷ xs) zero x e = refl
+few_taken (y ∷ xs) (suc k) x e = ap suc (few_taken xs k x e)
+
+-- the places of a lane before a call, of the call, and after it
+pub parted_places : (c : ℕ) (asks : List Ask) (k : ℕ) (a : Ask) → slice_get asks k ≡ Some a
+    → lane_places c 0 asks ≡ lane_places c 0 (take k asks) ++ (on c (asked 0 k a) ++ on c (all_asked 0 (k + 1) (drop (k + 1) asks)))
+parted_places c asks k a e =
+    let front = take k asks in
+    let back = drop (k + 1) asks in
+    let count : length front ≡ k = few_taken asks k a e in
+    let at : 0 + length front ≡ k = omega arith in
+    ap (λ xs. on c (all_asked 0 0 xs)) (parted asks k a e)
+    ∙ ap (on c) (all_asked-append 0 0 front (a ∷ back))
+    ∙ on-append c (all_asked 0 0 front) (all_asked 0 (0 + length front) (a ∷ back))
+    ∙ ap (λ n. lane_places c 0 front ++ on c (all_asked 0 n (a ∷ back))) at
+    ∙ ap (λ m. lane_places c 0 front ++ m) (on-append c (asked 0 k a) (all_asked 0 (k + 1) back))
+
+-- ---- its journal is legal
+
+no_ask : (a : Ask) → None ≡ Some a → ⊥
+no_ask a e = cc
+
+one_lane : (asks : List Ask) (c : ℕ) (l : ℕ) → own l (lane_places c 0 asks) ≡ on c (all_asked l 0 (lane_of (asks ∷ []) l))
+one_lane asks c zero = own-on 0 c (all_asked 0 0 asks) ∙ ap (on c) (own_spots-all_asked 0 0 asks)
+one_lane asks c (suc l) = own-on (suc l) c (all_asked 0 0 asks) ∙ ap (on c) (own_spots-all_asked_other (suc l) 0 0 asks (λ e. absurd (let f : 0 ≡ suc l = e in omega arith)))
+
+one_block : (asks : List Ask) (c l call n : ℕ) → OpensOn (asks ∷ []) c l call n → StandTogether (lane_places c 0 asks) (block l call 0 n)
+one_block asks c zero call n o =
+    let places : on c (asked 0 call (Opens c o.0)) ≡ block 0 call 0 n = on-spots_same c (block 0 call 0 (length o.0)) ∙ ap (block 0 call 0) o.2 in (
+      lane_places c 0 (take call asks),
+      on c (all_asked 0 (call + 1) (drop (call + 1) asks)),
+      parted_places c asks call (Opens c o.0) o.1 ∙ ap (λ m. lane_places c 0 (take call asks) ++ (m ++ on c (all_asked 0 (call + 1) (drop (call + 1) asks)))) places,
+    )
+one_block asks c (suc l) call n o = absurd (no_ask (Opens c o.0) o.1)
+
+pub one_lane_legal : (asks : List Ask) (c : ℕ) → Legal (asks ∷ []) c (lane_places c 0 asks)
+one_lane_legal asks c = legal (asks ∷ []) c (lane_places c 0 asks) (record { lanes = one_lane asks c; blocks = one_block asks c })
+
+pub no_lane_legal : (c : ℕ) → Legal [] c []
+no_lane_legal c =
+    legal [] c [] (record { lanes = λ l. refl; blocks = λ l call n o. absurd (no_ask (Opens c o.0) o.1) })
+
+-- ---- the reply of a place behind others
+
+apart : (q p : Place) → q.call < p.call → is_same_place q p ≡ false
+apart q p lt = step (q.lane == p.lane) (q.item == p.item)
+  where
+    calls : (q.call == p.call) ≡ false
+    calls = Rattle.std.proofs.Common.ne_eqb q.call p.call (λ e. absurd (omega (arith, lt, e)))
+
+    step : (x y : Bool) → ((x && (q.call == p.call)) && y) ≡ false
+    step true y = ap (λ b. b && y) calls
+    step false y = refl
+
+pub behind : (batch : Batch) (context : ℕ) (c : Cipher) (n : ℕ) (qs ps : List Place) (p : Place)
+    → ((q : Place) → In q qs → IsServed batch context q) → ((q : Place) → In q qs → q.call < p.call)
+    → reply_in (qs ++ ps) (run c n (items_of batch (qs ++ ps))) p ≡ reply_in ps (run c (due c n (items_of batch qs)) (items_of batch ps)) p
+behind batch context c n [] ps p served before = refl
+behind batch context c n (q ∷ qs) ps p served before =
+    let here = served q (inl refl) in
+    let x : Item = here.0 in
+    ap (λ o. reply_in (q ∷ (qs ++ ps)) (run c n (item_or_none o (items_of batch (qs ++ ps)))) p) here.1
+    ∙ ap (λ b. cond b (Some (answer c n x)) (reply_in (qs ++ ps) (run c (next n (answer c n x)) (items_of batch (qs ++ ps))) p)) (apart q p (before q (inl refl)))
+    ∙ behind batch context c (next n (answer c n x)) qs ps p (λ r i. served r (inr i)) (λ r i. before r (inr i))
+    ∙ ap (λ o. reply_in ps (run c (due c n (item_or_none o (items_of batch qs))) (items_of batch ps)) p) (sym here.1)
+
+same : (p : Place) → is_same_place p p ≡ true
+same p = (λ i. Rattle.std.proofs.Common.eq-eqb p.lane p.lane refl i && Rattle.std.proofs.Common.eq-eqb p.call p.call refl i && Rattle.std.proofs.Common.eq-eqb p.item p.item refl i)
+
+-- the places of earlier calls have earlier calls
+earlier : (asks : List Ask) (c k : ℕ) (q : Place) → In q (lane_places c 0 (take k asks)) → q.call < k
+earlier asks c k q i =
+    let t = all_asked_item c 0 0 (take k asks) q i in
+    let n : ℕ = t.1 in
+    let at : q.call ≡ 0 + n = t.2 in
+    let few : n < length (take k asks) = there (take k asks) n q.item t.3.0 t.3.1 in
+    let most : length (take k asks) ≤ k = taken asks k in
+    omega arith
+  where
+    there : (xs : List Ask) (n item : ℕ) (x : Item) → item_in_call (slice_get xs n) item ≡ Some (c, x) → n < length xs
+    there [] n item x e = absurd (let f : None ≡ Some (c, x) = e in cc)
+    there (y ∷ xs) zero item x e = omega arith
+    there (y ∷ xs) (suc n) item x e = let r = there xs n item x e in omega arith
+
+    taken : (xs : List Ask) (k : ℕ) → length (take k xs) ≤ k
+    taken xs zero = omega arith
+    taken [] (suc k) = omega arith
+    taken (x ∷ xs) (suc k) = let r = taken xs k in omega arith
+
+-- the reply of a call's one item
+pub answered : (asks : List Ask) (context : ℕ) (c : Cipher) (k : ℕ) (a : Ask) (x : Item) → slice_get asks k ≡ Some a
+    → on context (asked 0 k a) ≡ place 0 k 0 ∷ [] → item_of (asks ∷ []) (place 0 k 0) ≡ Some (context, x)
+    → reply_of (asks ∷ []) c (lane_places context 0 asks) (place 0 k 0) ≡ Some (answer c (due_after (asks ∷ []) c (lane_places context 0 (take k asks))) x)
+answered asks context c k a x e one item =
+    let batch = asks ∷ [] in
+    let p = place 0 k 0 in
+    let front = lane_places context 0 (take k asks) in
+    let back = on context (all_asked 0 (k + 1) (drop (k + 1) asks)) in
+    let parts : lane_places context 0 asks ≡ front ++ (p ∷ back) = parted_places context asks k a e ∙ ap (λ m. front ++ (m ++ back)) one in
+    let n = due_after batch c front in
+    ap (λ ps. reply_in ps (run c 0 (items_of batch ps)) p) parts
+    ∙ behind batch context c 0 front (p ∷ back) p
+    (λ q i. ((one_lane_legal asks context).served q).0 (contains_in (lane_places context 0 asks) q (subst (In q) (sym parts) (In-left q front (p ∷ back) i))))
+    (λ q i. earlier asks context k q i)
+    ∙ ap (λ o. reply_in (p ∷ back) (run c n (item_or_none o (items_of batch back))) p) item
+    ∙ ap (λ b. cond b (Some (answer c n x)) (reply_in back (run c (next n (answer c n x)) (items_of batch back)) p)) (same p)
+
+pub sealed : (asks : List Ask) (context : ℕ) (c : Cipher) (k : ℕ) (aad text : List ℕ) → slice_get asks k ≡ Some (Seals context aad text)
+    → reply_of (asks ∷ []) c (lane_places context 0 asks) (place 0 k 0) ≡ Some (answer c (due_after (asks ∷ []) c (lane_places context 0 (take k asks))) (Seal aad text))
+sealed asks context c k aad text e =
+    answered asks context c k (Seals context aad text) (Seal aad text) e (on-spots_same context (block 0 k 0 1)) (ap (λ (o : Option Ask). item_in_call o 0) e)
+
+pub opened : (asks : List Ask) (context : ℕ) (c : Cipher) (k : ℕ) (m : Message) → slice_get asks k ≡ Some (Opens context (m ∷ []))
+    → reply_of (asks ∷ []) c (lane_places context 0 asks) (place 0 k 0) ≡ Some (answer c (due_after (asks ∷ []) c (lane_places context 0 (take k asks))) (Unseal m.aad m.ct))
+opened asks context c k m e =
+    answered asks context c k (Opens context (m ∷ [])) (Unseal m.aad m.ct) e (on-spots_same context (block 0 k 0 1)) (ap (λ (o : Option Ask). item_in_call o 0) e)
+
+-- ---- one call more
+
+pub taken_more : {X : Type 0} (xs : List X) (k : ℕ) (x : X) → slice_get xs k ≡ Some x → take (k + 1) xs ≡ take k xs ++ (x ∷ [])
+taken_more [] k x e = absurd (let f : None ≡ Some x = e in cc)
+taken_more (y ∷ xs) zero x e = ap (λ z. z ∷ []) (let f : Some y ≡ Some x = e in cc)
+taken_more (y ∷ xs) (suc k) x e = ap (λ n. take n (y ∷ xs)) (let f : suc k + 1 ≡ suc (k + 1) = omega arith in f) ∙ ap (λ m. y ∷ m) (taken_more xs k x e)
+
+pub places_more : (c : ℕ) (asks : List Ask) (k : ℕ) (a : Ask) → slice_get asks k ≡ Some a
+    → lane_places c 0 (take (k + 1) asks) ≡ lane_places c 0 (take k asks) ++ on c (asked 0 k a)
+places_more c asks k a e =
+    let front = take k asks in
+    let count : length front ≡ k = few_taken asks k a e in
+    let at : 0 + length front ≡ k = omega arith in
+    ap (λ xs. on c (all_asked 0 0 xs)) (taken_more asks k a e)
+    ∙ ap (on c) (all_asked-append 0 0 front (a ∷ []))
+    ∙ on-append c (all_asked 0 0 front) (all_asked 0 (0 + length front) (a ∷ []))
+    ∙ ap (λ n. lane_places c 0 front ++ on c (all_asked 0 n (a ∷ []))) at
+    ∙ ap (λ m. lane_places c 0 front ++ on c m) (append-nil (asked 0 k a))
+
+-- a call that asks nothing of this context leaves its journal and the number that is due
+pub places_same : (c : ℕ) (asks : List Ask) (k : ℕ) (a : Ask) → slice_get asks k ≡ Some a → on c (asked 0 k a) ≡ []
+    → lane_places c 0 (take (k + 1) asks) ≡ lane_places c 0 (take k asks)
+places_same c asks k a e none =
+    places_more c asks k a e ∙ ap (λ m. lane_places c 0 (take k asks) ++ m) none ∙ append-nil (lane_places c 0 (take k asks))
+
+pub items_of-append : (batch : Batch) (xs ys : List Place) → items_of batch (xs ++ ys) ≡ items_of batch xs ++ items_of batch ys
+items_of-append batch [] ys = refl
+items_of-append batch (p ∷ xs) ys = ap (item_or_none (item_of batch p)) (items_of-append batch xs ys) ∙ step (item_of batch p)
+  where
+    step : (o : Option (ℕ × Item)) → item_or_none o (items_of batch xs ++ items_of batch ys) ≡ item_or_none o (items_of batch xs) ++ items_of batch ys
+    step None = refl
+    step (Some x) = refl
+
+due-append : (c : Cipher) (n : ℕ) (xs ys : List Item) → due c n (xs ++ ys) ≡ due c (due c n xs) ys
+due-append c n [] ys = refl
+due-append c n (x ∷ xs) ys = due-append c (next n (answer c n x)) xs ys
+
+-- a call of one item on this context is answered at the number that is due
+pub due_more : (asks : List Ask) (context : ℕ) (c : Cipher) (k : ℕ) (a : Ask) (x : Item) → slice_get asks k ≡ Some a
+    → on context (asked 0 k a) ≡ place 0 k 0 ∷ [] → item_of (asks ∷ []) (place 0 k 0) ≡ Some (context, x)
+    → due_after (asks ∷ []) c (lane_places context 0 (take (k + 1) asks))
+    ≡ next (due_after (asks ∷ []) c (lane_places context 0 (take k asks))) (answer c (due_after (asks ∷ []) c (lane_places context 0 (take k asks))) x)
+due_more asks context c k a x e one item =
+    let batch = asks ∷ [] in
+    let front = lane_places context 0 (take k asks) in
+    ap (λ ps. due c 0 (items_of batch ps)) (places_more context asks k a e ∙ ap (λ m. front ++ m) one)
+    ∙ ap (due c 0) (items_of-append batch front (place 0 k 0 ∷ []))
+    ∙ due-append c 0 (items_of batch front) (items_of batch (place 0 k 0 ∷ []))
+    ∙ ap (λ o. due c (due_after batch c front) (item_or_none o [])) item
