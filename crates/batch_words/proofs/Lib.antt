@@ -1,0 +1,5 @@
+pub mod Clap
+pub mod Spellings
+pub mod Grammar
+pub mod Uses
+pub mod Numbers
