@@ -1,0 +1,4 @@
+pub mod SortedOnce
+pub mod Lists
+pub mod MarkLaws
+pub mod SampleLaws
