@@ -1,0 +1,162 @@
+-- The codings of elements of R/q.
+use Rattle.std.proofs.Common.{◌≡◌, ℕ, suc, ◌+◌, ◌-◌, ◌*◌, ◌/◌, ◌%◌, ◌<◌, ◌≤◌, ℤ, pos, List, [], ◌∷◌, ◌++◌, length, map, take, replicate, get_or, arith, ap, sym, ◌∙◌, refl, inl, inr}
+use Rattle.std.specs.Prelude.{◌-ℤ◌, unsigned_abs}
+use Rattle.std.proofs.lemmas.Bool.{cases_lt}
+use Rattle.std.proofs.lemmas.List.{get_or_past, get_or-map, get_or-replicate, length-map, length-replicate, map_more}
+use Rattle.ring_core.specs.Bounds.{IsWithin}
+use Rattle.ring_core.specs.Product.{coefficients, centred, IsCentred}
+use Rattle.radix_pack.specs.declared.levels.Digit.{Digit}
+use Rattle.radix_pack.specs.Radix.{encode, encode_in, with_radices, decode, AreDigits, AreRadices, AreBelow}
+use Rattle.radix_pack.specs.Codings.{shifted, rq_digit, rq_length, rq_encode, rq_decode, rounded_radix, rounded_digit, rounded_length, rounded_encode, rounded_decode, AreMultiplesOf3}
+use Rattle.radix_pack.proofs.RoundTrip.{decode-encode, length-encode}
+use Rattle.radix_pack.proofs.PartSteps.{AreBelow-decode_in}
+use Rattle.radix_pack.proofs.Shifts.{centred_half, centred_digit, shifted_below, shifted_back, thirds_back, rounded_below, triple_below, triple_thirds}
+
+pub IsCentred-half : (q p : ℕ) (a : List ℤ) → q % 2 ≡ 1 → IsCentred q p a → IsWithin ((q - 1) / 2) a
+IsCentred-half q p a odd c k =
+    elim (cases_lt k p) [
+      | inl l ↦ omega (arith, ap unsigned_abs (c.1 k l), centred_half q (coefficients a k) odd)
+      | inr l ↦ omega (arith, ap unsigned_abs (get_or_past a k (pos 0) (omega (arith, c.0))))
+    ]
+
+-- ---- one radix for all
+
+pub AreRadices-replicate : (p m : ℕ) → 1 ≤ m → m < 16384 → AreRadices (replicate p m)
+AreRadices-replicate p m h l k b =
+    let is : get_or (replicate p m) k 0 ≡ m = get_or-replicate p k m 0 (omega (arith, length-replicate p m)) in
+    (omega (arith, is), omega (arith, is))
+
+pub AreBelow-map : (f : ℤ → ℕ) (m p : ℕ) (a : List ℤ) → length a ≡ p → ((k : ℕ) → f (coefficients a k) < m) → AreBelow (map f a) (replicate p m)
+AreBelow-map f m p a e h = (
+  length-map a f ∙ e ∙ sym (length-replicate p m),
+  λ k l.
+      let short : k < p = omega (arith, length-replicate p m) in
+      omega (arith, get_or-map f a k (pos 0) 0 (omega arith), get_or-replicate p k m 0 short, h k),
+)
+
+with_radices_map : (f : ℤ → ℕ) (m : ℕ) (a : List ℤ) → with_radices (map f a) (replicate (length a) m) ≡ map (λ c. record { value = f c; radix = m }) a
+with_radices_map f m [] = refl
+with_radices_map f m (c ∷ a) =
+    let d : Digit = record { value = f c; radix = m } in
+    ap (λ t. d ∷ t) (with_radices_map f m a)
+
+pub AreDigits-map : (f : ℤ → ℕ) (m : ℕ) (a : List ℤ) → m < 16384 → ((k : ℕ) → k < length a → f (coefficients a k) < m) → AreDigits (map (λ c. record { value = f c; radix = m }) a)
+AreDigits-map f m [] l h = tt
+AreDigits-map f m (c ∷ a) l h = (h 0 (omega arith), l, AreDigits-map f m a l (λ k b. h (suc k) (omega arith)))
+
+encode_map : (f : ℤ → ℕ) (m p : ℕ) (a : List ℤ) (xs : List Digit) → length a ≡ p → xs ≡ map (λ c. record { value = f c; radix = m }) a → encode_in (length xs) xs ≡ encode (map f a) (replicate p m)
+unfolding encode
+encode_map f m p a xs e d =
+    let digits : List Digit = map (λ c. record { value = f c; radix = m }) a in
+    let count : length digits ≡ length (replicate p m) = length-map a (λ c. record { value = f c; radix = m }) ∙ e ∙ sym (length-replicate p m) in
+    ap (λ t. encode_in (length t) t) d
+    ∙ ap (λ n. encode_in n digits) count
+    ∙ ap (λ t. encode_in (length (replicate p m)) t) (sym (with_radices_map f m a) ∙ ap (λ n. with_radices (map f a) (replicate n m)) e)
+
+pub rq_encode_is : (q p : ℕ) (a : List ℤ) (xs : List Digit) → length a ≡ p → xs ≡ map (rq_digit q) a → encode_in (length xs) xs ≡ rq_encode q p a
+unfolding rq_encode
+rq_encode_is q p a xs e d = encode_map (shifted q) q p a xs e d
+
+pub rounded_encode_is : (q p : ℕ) (a : List ℤ) (xs : List Digit) → length a ≡ p → xs ≡ map (rounded_digit q) a → encode_in (length xs) xs ≡ rounded_encode q p a
+unfolding rounded_encode
+rounded_encode_is q p a xs e d = encode_map (λ c. shifted q c / 3) (rounded_radix q) p a xs e d
+
+pub length-rq_encode : (q p : ℕ) (a : List ℤ) → length a ≡ p → length (rq_encode q p a) ≡ rq_length q p
+unfolding rq_encode rq_length
+length-rq_encode q p a e =
+    length-encode (map (shifted q) a) (replicate p q) (length-map a (shifted q) ∙ e ∙ sym (length-replicate p q))
+
+pub length-rounded_encode : (q p : ℕ) (a : List ℤ) → length a ≡ p → length (rounded_encode q p a) ≡ rounded_length q p
+unfolding rounded_encode rounded_length
+length-rounded_encode q p a e =
+    length-encode (map (λ c. shifted q c / 3) a) (replicate p (rounded_radix q)) (length-map a (λ c. shifted q c / 3) ∙ e ∙ sym (length-replicate p (rounded_radix q)))
+
+-- ---- what was encoded
+
+map_back : (f : ℤ → ℕ) (g : ℕ → ℤ) (a : List ℤ) → ((k : ℕ) → k < length a → g (f (coefficients a k)) ≡ coefficients a k) → map g (map f a) ≡ a
+map_back f g [] h = refl
+map_back f g (c ∷ a) h =
+    ap (λ t. t ∷ map g (map f a)) (h 0 (omega arith))
+    ∙ ap (λ t. c ∷ t) (map_back f g a (λ k l. h (suc k) (omega arith)))
+
+pub rq_source : (q p : ℕ) (a : List ℤ) → q % 2 ≡ 1 → q < 16384 → IsCentred q p a → rq_decode q p (rq_encode q p a) ≡ a
+unfolding rq_encode rq_decode
+rq_source q p a odd l c =
+    let w = IsCentred-half q p a odd c in
+    ap (λ rs. map (λ r. pos r -ℤ pos ((q - 1) / 2)) rs) (decode-encode (map (shifted q) a) (replicate p q) (AreRadices-replicate p q (omega arith) l) (AreBelow-map (shifted q) q p a c.0 (λ k. shifted_below q (coefficients a k) odd (w k))))
+    ∙ map_back (shifted q) (λ r. pos r -ℤ pos ((q - 1) / 2)) a (λ k _. shifted_back q (coefficients a k) (w k))
+
+pub rounded_source : (q p : ℕ) (a : List ℤ) → q % 2 ≡ 1 → q < 16384 → (q - 1) / 2 % 3 ≡ 0 → IsCentred q p a → AreMultiplesOf3 a → rounded_decode q p (rounded_encode q p a) ≡ a
+unfolding rounded_encode rounded_decode
+rounded_source q p a odd l half c m =
+    let w = IsCentred-half q p a odd c in
+    let f = λ (z : ℤ). shifted q z / 3 in
+    let g = λ (r : ℕ). pos (3 * r) -ℤ pos ((q - 1) / 2) in
+    ap (λ rs. map g rs) (decode-encode (map f a) (replicate p (rounded_radix q)) (AreRadices-replicate p (rounded_radix q) (omega arith) (omega arith)) (AreBelow-map f (rounded_radix q) p a c.0 (λ k. rounded_below q (coefficients a k) odd half (w k))))
+    ∙ map_back f g a (λ k _. ap (λ n. pos n -ℤ pos ((q - 1) / 2)) (thirds_back q (coefficients a k) half (m k) (w k)) ∙ shifted_back q (coefficients a k) (w k))
+
+-- ---- what is decoded
+
+map_same : (f g : ℕ → ℤ) (xs : List ℕ) → ((k : ℕ) → k < length xs → f (get_or xs k 0) ≡ g (get_or xs k 0)) → map f xs ≡ map g xs
+map_same f g [] h = refl
+map_same f g (x ∷ xs) h =
+    ap (λ t. t ∷ map f xs) (h 0 (omega arith)) ∙ ap (λ t. g x ∷ t) (map_same f g xs (λ k l. h (suc k) (omega arith)))
+
+map_map : (f : ℕ → ℤ) (g : ℤ → ℤ) (xs : List ℕ) → map g (map f xs) ≡ map (λ x. g (f x)) xs
+map_map f g [] = refl
+map_map f g (x ∷ xs) = ap (λ t. g (f x) ∷ t) (map_map f g xs)
+
+pub AreBelow-decode : (bytes radices : List ℕ) → AreRadices radices → AreBelow (decode bytes radices) radices
+unfolding decode
+AreBelow-decode bytes radices a = AreBelow-decode_in (length radices) radices bytes (omega arith) a
+
+-- the digits are below q, so no coefficient is changed by reduction
+centred_digits : (f : ℕ → ℕ) (q m p : ℕ) (digits : List ℕ) → AreBelow digits (replicate p m) → ((r : ℕ) → r < m → f r < q) → map (λ z. centred q z) (map (λ r. pos (f r) -ℤ pos ((q - 1) / 2)) digits) ≡ map (λ r. pos (f r) -ℤ pos ((q - 1) / 2)) digits
+centred_digits f q m p digits b h =
+    map_map (λ r. pos (f r) -ℤ pos ((q - 1) / 2)) (λ z. centred q z) digits
+    ∙ map_same (λ r. centred q (pos (f r) -ℤ pos ((q - 1) / 2))) (λ r. pos (f r) -ℤ pos ((q - 1) / 2)) digits (λ k l.
+    let short : k < length (replicate p m) = omega (arith, b.0) in
+    let is : get_or (replicate p m) k 0 ≡ m = get_or-replicate p k m 0 (omega (arith, length-replicate p m)) in
+    centred_digit q (f (get_or digits k 0)) (h (get_or digits k 0) (omega (arith, b.1 k short, is)))
+    )
+
+pub rq_decode_is : (q p : ℕ) (bytes : List ℕ) → q % 2 ≡ 1 → q < 16384 → map (λ z. centred q z) (map (λ r. pos r -ℤ pos ((q - 1) / 2)) (decode bytes (replicate p q))) ≡ rq_decode q p bytes
+unfolding rq_decode
+rq_decode_is q p bytes odd l =
+    centred_digits (λ r. r) q q p (decode bytes (replicate p q)) (AreBelow-decode bytes (replicate p q) (AreRadices-replicate p q (omega arith) l)) (λ r h. h)
+
+pub rounded_decode_is : (q p : ℕ) (bytes : List ℕ) → q % 2 ≡ 1 → q < 16384 → (q - 1) / 2 % 3 ≡ 0 → map (λ z. centred q z) (map (λ r. pos (3 * r) -ℤ pos ((q - 1) / 2)) (decode bytes (replicate p (rounded_radix q)))) ≡ rounded_decode q p bytes
+unfolding rounded_decode
+rounded_decode_is q p bytes odd l half =
+    let m = rounded_radix q in
+    centred_digits (λ r. 3 * r) q m p (decode bytes (replicate p m)) (AreBelow-decode bytes (replicate p m) (AreRadices-replicate p m (omega arith) (omega arith))) (λ r h. triple_below q r odd half h)
+
+pub AreMultiplesOf3-decode : (q p : ℕ) (bytes : List ℕ) → (q - 1) / 2 % 3 ≡ 0 → AreMultiplesOf3 (rounded_decode q p bytes)
+unfolding rounded_decode
+AreMultiplesOf3-decode q p bytes half k =
+    let digits = decode bytes (replicate p (rounded_radix q)) in
+    let g = λ (r : ℕ). pos (3 * r) -ℤ pos ((q - 1) / 2) in
+    elim (cases_lt k (length digits)) [
+      | inl l ↦ ap (λ z. unsigned_abs z % 3) (get_or-map g digits k 0 (pos 0) l) ∙ triple_thirds (get_or digits k 0) ((q - 1) / 2) half
+      | inr l ↦ ap (λ z. unsigned_abs z % 3) (get_or_past (map g digits) k (pos 0) (omega (arith, length-map digits g)))
+    ]
+
+pub length-decode : (bytes : List ℕ) (p m : ℕ) → AreRadices (replicate p m) → length (decode bytes (replicate p m)) ≡ p
+length-decode bytes p m a = (AreBelow-decode bytes (replicate p m) a).0 ∙ length-replicate p m
+
+-- one more coefficient
+pub more_mapped : (f : ℕ → ℤ) (xs : List ℤ) (digits : List ℕ) (i : ℕ) (x : ℤ) → i < length digits → x ≡ f (get_or digits i 0) → xs ≡ map f (take i digits) → xs ++ x ∷ [] ≡ map f (take (i + 1) digits)
+more_mapped f xs digits i x l e h =
+    ap (λ ys. ys ++ x ∷ []) h
+    ∙ ap (λ y. map f (take i digits) ++ y ∷ []) e
+    ∙ sym (map_more f digits i 0 l)
+
+-- ---- the digits of the code
+
+pub AreDigits-rq : (q p : ℕ) (a : List ℤ) → q % 2 ≡ 1 → q < 16384 → IsCentred q p a → AreDigits (map (rq_digit q) a)
+AreDigits-rq q p a odd l c =
+    AreDigits-map (shifted q) q a l (λ k _. shifted_below q (coefficients a k) odd (IsCentred-half q p a odd c k))
+
+pub AreDigits-rounded : (q p : ℕ) (a : List ℤ) → q % 2 ≡ 1 → q < 16384 → (q - 1) / 2 % 3 ≡ 0 → IsCentred q p a → AreDigits (map (rounded_digit q) a)
+AreDigits-rounded q p a odd l half c =
+    AreDigits-map (λ z. shifted q z / 3) (rounded_radix q) a (omega arith) (λ k _. rounded_below q (coefficients a k) odd half (IsCentred-half q p a odd c k))

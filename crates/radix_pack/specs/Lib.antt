@@ -1,0 +1,4 @@
+pub mod Radix
+pub mod Codings
+pub mod Laws
+pub mod Lengths

@@ -1,0 +1,28 @@
+//! The codings of Streamlined NTRU Prime as byte strings (NTRU Prime round 3, Encode and Decode, and
+//! the encodings of small, R/q and rounded elements).
+//!
+//! A contract sees a [`ByteList`], a [`DigitList`] and an element as lists. What each call gives
+//! stands in `specs/Radix.antt` for digits below any radices, and in `specs/Codings.antt` for the
+//! elements of a parameter set. Lengths are in bytes, and a condition of each decoding: every byte
+//! string of that length decodes, but for the small coding, which refuses what no element encodes
+//! to. The other two codings have several byte strings for one element. [`laws`] says that what was
+//! encoded decodes to its source. Else want of memory is the only refusal.
+//!
+//! Nothing here is constant time.
+#![tactic(auto)]
+
+mod elements;
+pub mod laws;
+mod levels;
+mod lists;
+mod parts;
+mod radix;
+mod small;
+
+pub use elements::{rounded_decode, rounded_encode, rq_decode, rq_encode};
+pub use lists::{ByteList, DigitList};
+pub use radix::{decode, encode};
+pub use small::{small_decode, small_encode};
+
+#[cfg(test)]
+mod tests;
