@@ -1,0 +1,130 @@
+//! Encryption and decryption.
+
+ghost use Rattle.std.specs.Prelude.{◌≡◌, pos, ◌*ℤ◌, ◌≤◌, map, vec_len, IfOk};
+ghost use Rattle.ring_core.specs.Bounds.{IsWithin};
+ghost use Rattle.ring_core.specs.Product.{centred, product};
+ghost use Rattle.ring_inverse.specs.Reciprocals.{triple};
+ghost use Rattle.sntrup_core.specs.Encryption.{rounded, encrypted, decrypted, ones};
+
+use crate::keys::{PublicPoly, SecretPolys};
+use ring_core::{Multiplier, Params, Rq, Small};
+use std::alloc::{AllocError as OutOfMemory, Global};
+
+// The centred residue modulo 3.
+fn residue_3(number: i16) -> i8
+    ensures { result ≡ centred 3 number }
+{
+    ((i32::from(number) + 1).rem_euclid(3) - 1) as i8
+}
+
+// The multiple of 3 that is nearest.
+fn round(number: i16) -> i32
+    ensures { result ≡ rounded number }
+{
+    i32::from(number) - i32::from(residue_3(number))
+}
+
+// The multiples of 3 that are nearest to the numbers of the list.
+fn round_all(alloc: Global, list: &[i16]) -> Result<Vec<i32>, OutOfMemory>
+    ensures { IfOk result (λ v. v.items ≡ map rounded list.now) }
+{
+    let mut numbers = Vec::with_capacity(alloc, list.len())?;
+    for number in list {
+        numbers.push(round(*number))?;
+    }
+    Ok(numbers)
+}
+
+// Three times the number.
+fn triple_of(number: i16) -> i32
+    ensures { result ≡ pos 3 *ℤ number }
+{
+    3 * i32::from(number)
+}
+
+// The numbers of the list, times 3.
+fn triple_all(alloc: Global, list: &[i16]) -> Result<Vec<i32>, OutOfMemory>
+    ensures { IfOk result (λ v. v.items ≡ map (λ z. pos 3 *ℤ z) list.now) }
+{
+    let mut numbers = Vec::with_capacity(alloc, list.len())?;
+    for number in list {
+        numbers.push(triple_of(*number))?;
+    }
+    Ok(numbers)
+}
+
+// The centred residues modulo 3 of the numbers of the list.
+fn residues_3(alloc: Global, list: &[i16]) -> Result<Vec<i8>, OutOfMemory>
+    ensures { IfOk result (λ v. v.items ≡ map (λ z. centred 3 z) list.now) }
+{
+    let mut numbers = Vec::with_capacity(alloc, list.len())?;
+    for number in list {
+        numbers.push(residue_3(*number))?;
+    }
+    Ok(numbers)
+}
+
+/// Encrypt (NTRU Prime round 3): each coefficient of h r in R/q goes to the nearest multiple of 3.
+///
+/// Meant for a short `r`; any small one is taken.
+pub fn encrypt<S: Params, M: Multiplier>(
+    alloc: Global,
+    mult: &M,
+    r: &Small<S>,
+    public: &PublicPoly<S>,
+) -> Result<Rq<S>, OutOfMemory>
+    ensures { IfOk result (λ c. c ≡ encrypted S.P S.modulus r.now public.now.h) }
+{
+    let product = mult.mul_q_small(alloc, &public.h, r)?;
+    let numbers = round_all(alloc, product.as_slice())?;
+    Rq::from_coefficients(alloc, &numbers)
+}
+
+// 3 f c in R/q.
+fn times_3f<S: Params, M: Multiplier>(
+    alloc: Global,
+    mult: &M,
+    c: &Rq<S>,
+    f: &Small<S>,
+) -> Result<Rq<S>, OutOfMemory>
+    ensures { IfOk result (λ e. e ≡ product S.modulus S.P (triple f.now) c.now) }
+{
+    let product = mult.mul_q_small(alloc, c, f)?;
+    let numbers = triple_all(alloc, product.as_slice())?;
+    Rq::from_coefficients(alloc, &numbers)
+}
+
+// w ones, and then zeros up to p numbers.
+fn ones_and_zeros(alloc: Global, p: usize, w: usize) -> Result<Vec<i8>, OutOfMemory>
+    requires { w ≤ p }
+    ensures count { IfOk result (λ v. vec_len v ≡ p) }
+    ensures small { IfOk result (λ v. IsWithin 1 v.items) }
+    ensures list { IfOk result (λ v. v.items ≡ ones p w) }
+{
+    let mut list = vec![in alloc; 1i8; w]?;
+    let zeros = vec![in alloc; 0i8; p - w]?;
+    list.extend_from_slice(&zeros)?;
+    Ok(list)
+}
+
+/// Decrypt (NTRU Prime round 3): e = 3 f c in R/q, taken modulo 3, times 1/g.
+///
+/// Where the result is not short, it is w ones followed by zeros. So every `c` is taken.
+pub fn decrypt<S: Params, M: Multiplier>(
+    alloc: Global,
+    mult: &M,
+    c: &Rq<S>,
+    secret: &SecretPolys<S>,
+) -> Result<Small<S>, OutOfMemory>
+    ensures { IfOk result (λ r. r
+        ≡ decrypted S.P S.modulus S.W c.now secret.now.f secret.now.ginv) }
+{
+    let masked = times_3f(alloc, mult, c, &secret.f)?;
+    let e = Small::from_vec(residues_3(alloc, masked.as_slice())?);
+    let r = mult.mul_3(alloc, &e, &secret.ginv)?;
+    if r.weight() == S::W {
+        Ok(r)
+    } else {
+        Ok(Small::from_vec(ones_and_zeros(alloc, S::P, S::W)?))
+    }
+}

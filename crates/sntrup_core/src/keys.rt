@@ -1,0 +1,146 @@
+//! Keys and how they are drawn.
+
+ghost use Rattle.std.specs.Prelude.{◌≡◌, ◌≢◌, ◌↔◌, ℕ, ◌+◌, ◌*◌, ◌^◌, ◌≤◌, IfOk, IfSome, IfNone, OnOk};
+ghost use Rattle.ring_inverse.specs.Reciprocals.{HasInverse};
+ghost use Rattle.rand_words.specs.Samples.{small};
+ghost use Rattle.rand_words.specs.Words.{words_from};
+ghost use Rattle.sntrup_core.specs.declared.keys.KeyFault.TheVariants.{OutOfMemory};
+ghost use Rattle.sntrup_core.specs.Keys.{FindsG, IsExhausted, FindsNoInverse, IsKey, IsInvertible, IsFoundWith};
+
+use rand_words::{Words, short_random, small_random};
+use ring_core::{Multiplier, Params, Rq, Small};
+use ring_inverse::{Reciprocal, reciprocal_3, reciprocal_3f};
+use std::alloc::{AllocError, Global};
+
+/// A public key: h = g/(3f) in R/q.
+#[derive(Drop)]
+pub struct PublicPoly<S: Params> {
+    pub h: Rq<S>,
+}
+
+/// A secret key: the short f, and 1/g in R/3.
+#[derive(Drop)]
+pub struct SecretPolys<S: Params> {
+    pub f: Small<S>,
+    pub ginv: Small<S>,
+}
+
+/// Why there is no key.
+#[derive(Clone, Copy, Debug, PartialEq, Eq)]
+pub enum KeyFault {
+    /// None of the 64 drawn g has an inverse in R/3.
+    Exhausted = 1,
+    /// 3f has no inverse in R/q.
+    NoInverse = 2,
+    /// Memory ran out.
+    OutOfMemory = 3,
+}
+
+impl From<AllocError> for KeyFault {
+    ghost from_gives = { λ _ fault. fault ≡ OutOfMemory };
+
+    fn from(_error: AllocError) -> KeyFault {
+        KeyFault::OutOfMemory
+    }
+}
+
+const MOST_DRAWS: usize = 64;
+
+// A small polynomial with its inverse in R/3.
+#[derive(Drop)]
+struct Invertible<S: Params> {
+    g: Small<S>,
+    ginv: Small<S>,
+}
+
+// The small polynomial of the next p words, where it has an inverse in R/3.
+fn draw_invertible<S: Params, R: Words, M: Multiplier>(
+    alloc: Global,
+    words: &mut R,
+    mult: &M,
+) -> Result<Option<Invertible<S>>, AllocError>
+    requires { R.place words.old + S.P ≤ 2 ^ 32 }
+    ensures some { IfOk result (λ drawn. IfSome drawn (λ a.
+        IsInvertible S.P (R.word words.old) (R.place words.old) a.g a.ginv)) }
+    ensures none { IfOk result (λ drawn. IfNone drawn
+        (¬ HasInverse 3 S.P (small (words_from (R.word words.old) (R.place words.old) S.P)))) }
+    ensures taken { OnOk result (R.place words.new ≡ R.place words.old + S.P) }
+    ensures stays { R.word words.new ≡ R.word words.old }
+{
+    let g = small_random::<S, R>(alloc, words)?;
+    let reciprocal = reciprocal_3(alloc, mult, &g)?;
+    match reciprocal {
+        Reciprocal::Inverse(ginv) => Ok(Some(Invertible { g, ginv })),
+        Reciprocal::Annihilator(_) => Ok(None),
+    }
+}
+
+// The first of 64 small polynomials that has an inverse in R/3, where one has.
+fn find_invertible<S: Params, R: Words, M: Multiplier>(
+    alloc: Global,
+    words: &mut R,
+    mult: &M,
+) -> Result<Option<Invertible<S>>, AllocError>
+    requires { R.place words.old + 64 * S.P ≤ 2 ^ 32 }
+    ensures some { IfOk result (λ drawn. IfSome drawn (λ a. IsFoundWith S.P (R.word words.old)
+        (R.place words.old) (R.place words.new) a.g a.ginv)) }
+    ensures none { IfOk result (λ drawn. IfNone drawn
+        (IsExhausted S.P (R.word words.old) (R.place words.old)
+        × (R.place words.new ≡ R.place words.old + 64 * S.P))) }
+    ensures stays { R.word words.new ≡ R.word words.old }
+{
+    for _draw in 0..MOST_DRAWS {
+        let drawn = draw_invertible::<S, R, M>(alloc, words, mult)?;
+        match drawn {
+            Some(found) => return Ok(Some(found)),
+            None => {}
+        }
+    }
+    Ok(None)
+}
+
+/// KeyGen (NTRU Prime round 3): a key from random words.
+///
+/// Draws g until it has an inverse in R/3, at most 64 times; then f; then h is g/(3f). Takes
+/// 64 p words where there is no g, and else p for each draw of g and p for f: at most 65 p. After
+/// `OutOfMemory` some words may have been taken.
+pub fn keygen<S: Params, R: Words, M: Multiplier>(
+    alloc: Global,
+    words: &mut R,
+    mult: &M,
+) -> Result<(PublicPoly<S>, SecretPolys<S>), KeyFault>
+    requires { R.place words.old + 65 * S.P ≤ 2 ^ 32 }
+    ensures key { IfOk result (λ k. (j : ℕ) × FindsG S.P (R.word words.old) (R.place words.old) j
+        × IsKey S.P S.modulus S.W (R.word words.old) (R.place words.old) j
+        k.0.h k.1.f k.1.ginv) }
+    ensures exhausted { result ≢ Err KeyFault.OutOfMemory → ((result ≡ Err KeyFault.Exhausted)
+        ↔ IsExhausted S.P (R.word words.old) (R.place words.old)) }
+    ensures no_inverse { result ≢ Err KeyFault.OutOfMemory → ((result ≡ Err KeyFault.NoInverse)
+        ↔ FindsNoInverse S.P S.modulus S.W (R.word words.old) (R.place words.old)) }
+    ensures taken { result ≢ Err KeyFault.OutOfMemory
+        → (j : ℕ) → FindsG S.P (R.word words.old) (R.place words.old) j
+        → R.place words.new ≡ R.place words.old + (j + 2) * S.P }
+    ensures exhausted_taken { result ≡ Err KeyFault.Exhausted
+        → R.place words.new ≡ R.place words.old + 64 * S.P }
+    ensures stays { R.word words.new ≡ R.word words.old }
+{
+    let drawn = find_invertible::<S, R, M>(alloc, words, mult)?;
+    let Some(found) = drawn else {
+        return Err(KeyFault::Exhausted);
+    };
+    let f = short_random::<S, R>(alloc, words)?;
+    let reciprocal = reciprocal_3f(alloc, mult, &f)?;
+    match reciprocal {
+        Reciprocal::Inverse(v) => {
+            let h = mult.mul_q_small(alloc, &v, &found.g)?;
+            Ok((
+                PublicPoly { h },
+                SecretPolys {
+                    f,
+                    ginv: found.ginv,
+                },
+            ))
+        }
+        Reciprocal::Annihilator(_) => Err(KeyFault::NoInverse),
+    }
+}
