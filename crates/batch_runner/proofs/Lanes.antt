@@ -1,14 +1,14 @@
 -- The replies of a lane, one more at a time, while their room is written from its front on.
-use Rattle.std.proofs.Common.{◌≡◌, ◌≤◌, ◌<◌, ◌+◌, ℕ, List, [], ◌∷◌, ◌++◌, length, take, drop, get_or, set, refl, sym, ap, ◌∙◌, codes, append-nil, arith}
+use Rattle.std.proofs.Common.{◌≡◌, ◌≤◌, ◌<◌, ◌+◌, ℕ, List, [], ◌∷◌, ◌++◌, length, take, drop, get_or, set, refl, sym, ap, ◌∙◌, codes, append-nil, append_assoc, add-zero, zero-add, arith}
 use Rattle.std.specs.List.{All, flat_map}
-use Rattle.std.proofs.lemmas.List.{drop-take, take-take, take_more, take_more_set}
+use Rattle.std.proofs.lemmas.List.{drop-take, take-take, take_more, take_more_set, length-take-le}
 use Rattle.std.proofs.lemmas.List.Elements.{All-head, All-tail, All-append, All-cons}
 use Rattle.std.proofs.lemmas.List.Concat.{flat_map-append}
 use Rattle.call_places.specs.declared.spans.Span.{Span}
 use Rattle.call_places.specs.Spans.{IsInPool, span_bytes}
 use Rattle.request_frames.specs.declared.replies.Reply.{Reply}
 use Rattle.request_frames.specs.declared.replies.Reply.TheVariants.{Blank, Sealed, Opened, Failed, Limit, Exported, Refused}
-use Rattle.request_frames.specs.ReplyText.{served_line, exported_line, reply_line, IsInRange}
+use Rattle.request_frames.specs.ReplyText.{served_line, exported_line, reply_line, numbered, IsInRange}
 
 -- the bytes that a span names in a front
 span_in_front : (n : ℕ) (xs : List ℕ) (span : Span) → IsInPool n span
@@ -61,22 +61,36 @@ ranges_more_reply m n replies i reply lt le within last =
     (All-append (IsInRange n) (take i replies) (reply ∷ []) (ranges_more m n (take i replies) le within)
     (All-cons (IsInRange n) reply [] last (λ k d lt. absurd (omega (arith, lt)))))
 
--- the lines of one element more
-one_more : {A : Type 0} (line : A → List ℕ) (xs : List A) (x : A) → flat_map line (xs ++ x ∷ []) ≡ flat_map line xs ++ line x
-one_more line xs x =
-    flat_map-append line xs (x ∷ []) ∙ ap (λ zs. flat_map line xs ++ zs) (append-nil (line x))
+-- the texts of one element more
+numbered-snoc : {A : Type 0} (text : ℕ → A → List ℕ) (start : ℕ) (xs : List A) (x : A)
+    → numbered text start (xs ++ x ∷ []) ≡ numbered text start xs ++ text (start + length xs) x
+unfolding numbered
+numbered-snoc text start [] x = append-nil (text start x) ∙ ap (λ (n : ℕ). text n x) (sym (add-zero start))
+numbered-snoc text start (y ∷ ys) x =
+    let place : (start + 1) + length ys ≡ start + length (y ∷ ys) = omega arith in
+    ap (λ (more : List ℕ). text start y ++ more) (numbered-snoc text (start + 1) ys x)
+    ∙ sym (append_assoc (text start y) (numbered text (start + 1) ys) (text ((start + 1) + length ys) x))
+    ∙ ap (λ (n : ℕ). (text start y ++ numbered text (start + 1) ys) ++ text n x) place
+
+numbered_more : {A : Type 0} (text : ℕ → A → List ℕ) (xs : List A) (i : ℕ) (d : A) → i < length xs
+    → numbered text 0 (take (i + 1) xs) ≡ numbered text 0 (take i xs) ++ text i (get_or xs i d)
+numbered_more {A} text xs i d lt =
+    let taken : 0 + length (take i xs) ≡ i = zero-add _ ∙ length-take-le i xs (omega (arith, lt)) in
+    ap (λ (ys : List A). numbered text 0 ys) (take_more xs i d lt)
+    ∙ numbered-snoc text 0 (take i xs) (get_or xs i d)
+    ∙ ap (λ (n : ℕ). numbered text 0 (take i xs) ++ text n (get_or xs i d)) taken
 
 -- one more reply's line, while the front stays
-pub lines_more_reply : {A : Type 0} (line : A → List ℕ) (calls : List A) (n : ℕ) (xs ys : List ℕ) (replies : List Reply) (i : ℕ) (reply : Reply) (d : A)
+pub lines_more_reply : {A : Type 0} (line : ℕ → A → List ℕ) (calls : List A) (n : ℕ) (xs ys : List ℕ) (replies : List Reply) (i : ℕ) (reply : Reply) (d : A)
     → i < length replies → i < length calls
     → All (IsInRange n) (take i replies) → take n ys ≡ take n xs
-    → flat_map (reply_line xs) (take i replies) ≡ flat_map line (take i calls)
-    → reply_line ys reply ≡ line (get_or calls i d)
-    → flat_map (reply_line ys) (take (i + 1) (set replies i reply)) ≡ flat_map line (take (i + 1) calls)
+    → flat_map (reply_line xs) (take i replies) ≡ numbered line 0 (take i calls)
+    → reply_line ys reply ≡ line i (get_or calls i d)
+    → flat_map (reply_line ys) (take (i + 1) (set replies i reply)) ≡ numbered line 0 (take (i + 1) calls)
 lines_more_reply line calls n xs ys replies i reply d lt there within same before last =
     ap (flat_map (reply_line ys)) (take_more_set replies i reply lt)
-    ∙ one_more (reply_line ys) (take i replies) reply
+    ∙ flat_map-append (reply_line ys) (take i replies) (reply ∷ [])
+    ∙ ap (λ zs. flat_map (reply_line ys) (take i replies) ++ zs) (append-nil (reply_line ys reply))
     ∙ ap (λ zs. zs ++ reply_line ys reply) (lines_front n ys xs (take i replies) within same ∙ before)
-    ∙ ap (λ zs. flat_map line (take i calls) ++ zs) last
-    ∙ sym (one_more line (take i calls) (get_or calls i d))
-    ∙ ap (flat_map line) (sym (take_more calls i d there))
+    ∙ ap (λ zs. numbered line 0 (take i calls) ++ zs) last
+    ∙ sym (numbered_more line calls i d there)

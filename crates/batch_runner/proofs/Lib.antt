@@ -1,6 +1,9 @@
-pub mod Fronts
+pub mod Begins
+pub mod Here
 pub mod Lanes
 pub mod Loops
-pub mod Rooms
+pub mod Served
+pub mod Single
+pub mod Stands
 pub mod Texts
 pub mod Whole

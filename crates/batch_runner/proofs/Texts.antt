@@ -1,17 +1,14 @@
 -- The text of the answers to a plan.
-use Rattle.std.proofs.Common.{◌≡◌, ◌≤◌, ℕ, List, [], ◌++◌, length, map, take, drop, Result, sym, ap, ◌∙◌, append-nil, arith}
-use Rattle.std.specs.Prelude.{replicate}
-use Rattle.std.specs.List.{All, flat_map, refill}
+use Rattle.std.proofs.Common.{◌≡◌, ◌≤◌, List, [], ◌++◌, length, map, take, ap, ◌∙◌, append-nil, arith}
+use Rattle.std.specs.List.{refill}
 use Rattle.std.proofs.lemmas.List.{drop_all, take_all}
-use Rattle.key_schedule.specs.declared.psks.PskFault.{PskFault}
 use Rattle.request_frames.specs.declared.plan.Plan.{Plan}
 use Rattle.request_frames.specs.declared.replies.Answers.{Answers}
-use Rattle.request_frames.specs.declared.replies.LaneAnswers.{LaneAnswers}
 use Rattle.request_frames.specs.ReplyText.{answers_text, lane_replies}
-use Rattle.batch_runner.specs.declared.set_up.Standing.{Standing}
-use Rattle.batch_runner.specs.SetUp.{context_reply}
-use Rattle.batch_runner.specs.Calls.{call_line}
-use Rattle.batch_runner.specs.Text.{contexts_of, plan_text}
+use Rattle.batch_runner.specs.SetUp.{contexts_of, context_reply}
+use Rattle.batch_runner.specs.Text.{plan_text, all_lane_lines, IsReply}
+use Rattle.batch_runner.specs.Serving.{journals_of}
+use Rattle.batch_runner.proofs.Begins.{all_legal}
 
 -- a list that was written over as a whole
 pub refill_all : {X : Type 0} (xs ys : List X) → length ys ≡ length xs → refill (length xs) xs ys ≡ ys
@@ -20,11 +17,19 @@ refill_all xs ys same =
     ∙ ap (take (length xs)) (append-nil ys)
     ∙ take_all (length xs) ys (omega (arith, same))
 
--- the text of answers whose parts are those of the plan
-pub plan_text-parts : (plan : Plan) (answers : Answers) (contexts : List (Result Standing PskFault))
-    → contexts ≡ contexts_of plan → answers.keys ≡ [] → answers.contexts ≡ map context_reply contexts
-    → map lane_replies answers.lanes ≡ map (flat_map (call_line contexts plan.pool)) plan.lanes
-    → answers.journals ≡ replicate (length plan.contexts) []
-    → answers_text answers ≡ plan_text plan
+text_parts : (plan : Plan) (answers : Answers)
+    → answers.keys ≡ [] → answers.contexts ≡ map context_reply (contexts_of plan)
+    → map lane_replies answers.lanes ≡ all_lane_lines plan (journals_of plan) 0 plan.lanes
+    → answers.journals ≡ journals_of plan
+    → answers_text answers ≡ plan_text plan (journals_of plan)
 unfolding plan_text
-plan_text-parts plan answers contexts stand keys replies lanes journals = cc
+text_parts plan answers keys replies lanes journals = cc
+
+-- the text of answers whose parts are those of the plan
+pub is_reply : (plan : Plan) (answers : Answers) → length plan.lanes ≤ 1
+    → answers.keys ≡ [] → answers.contexts ≡ map context_reply (contexts_of plan)
+    → map lane_replies answers.lanes ≡ all_lane_lines plan (journals_of plan) 0 plan.lanes
+    → answers.journals ≡ journals_of plan
+    → IsReply plan (answers_text answers)
+is_reply plan answers few keys replies lanes journals =
+    (journals_of plan, all_legal plan few, text_parts plan answers keys replies lanes journals)

@@ -1,12 +1,9 @@
 -- What was read of a source that tells its bytes.
-use Rattle.std.proofs.Common.{◌≡◌, ◌≤◌, ◌<◌, ℕ, List, ◌++◌, length, Option, Some, None, Result, inl, inr, sym, ap, subst, ◌∙◌, append-nil, length-append, arith}
+use Rattle.std.proofs.Common.{◌≡◌, ◌<◌, ℕ, List, ◌++◌, length, Option, Some, None, inl, inr, sym, ap, subst, ◌∙◌, append-nil, length-append, arith}
 use Rattle.std.proofs.lemmas.Bool.Decides.{nat_tests}
 use Rattle.field_text.specs.declared.reasons.Reason.TheVariants.{Size}
-use Rattle.request_frames.specs.declared.plan.Plan.{Plan}
-use Rattle.request_frames.specs.declared.plan.BadBatch.{BadBatch}
 use Rattle.request_frames.specs.Limits.{most_input}
 use Rattle.request_frames.specs.Batch.{batch, bad}
-use Rattle.batch_runner.specs.declared.reading.TheConstants.{INPUT_LIMIT}
 use Rattle.batch_runner.specs.Input.{IsInput}
 
 -- a text that is too large, whatever it holds

@@ -1,36 +1,98 @@
--- What the calls of a plan are answered.
-use Rattle.std.specs.Prelude.{ℕ, ◌*◌, List, Option, Some, None, Result, Ok, Err, nat_lt, nat_le, slice_get, if◌then◌else◌}
+-- What the calls of a plan ask of its contexts, and what they are answered.
+use Rattle.std.specs.Prelude.{ℕ, List, [], ◌∷◌, ◌++◌, codes, decimal, map, false, Option, Some, None, slice_index_or}
 use Rattle.call_places.specs.Spans.{span_bytes}
-use Rattle.hkdf_labelled.specs.Suites.{hash_size}
-use Rattle.key_schedule.specs.Exports.{exported}
-use Rattle.key_schedule.specs.declared.psks.PskFault.{PskFault}
+use Rattle.call_places.specs.declared.entries.Place.{Place}
+use Rattle.hpke_context.specs.Answers.{Cipher, Answer, Sealed_at, Opened_at, Failed_at, At_limit}
+use Rattle.hpke_context.specs.Contexts.{ContextView, cipher_of, exported_by}
+use Rattle.legal_journals.specs.Batches.{Ask, Nothing, Seals, Opens, Batch, place}
+use Rattle.legal_journals.specs.Legal.{reply_of}
+use Rattle.request_frames.specs.declared.plan.Plan.{Plan}
 use Rattle.request_frames.specs.declared.plan.CallLine.{CallLine}
-use Rattle.request_frames.specs.declared.plan.CallLine.TheVariants.{Export}
-use Rattle.request_frames.specs.declared.replies.CallRefusal.TheVariants.{NoContext, ExportSize}
-use Rattle.request_frames.specs.ReplyText.{exported_line, refused_line}
-use Rattle.batch_runner.specs.declared.set_up.Standing.{Standing}
+use Rattle.request_frames.specs.declared.plan.CallLine.TheVariants.{Seal, Unseal, Export}
+use Rattle.request_frames.specs.declared.replies.CallRefusal.{CallRefusal}
+use Rattle.request_frames.specs.Calls.{refusal}
+use Rattle.request_frames.specs.ReplyText.{served_line, exported_line, refused_line}
+use Rattle.batch_runner.specs.SetUp.{contexts_of, standing_at, export_limits}
 
--- the context of this number, where there is one and it stands
-abbrev pub standing_in : Option (Result Standing PskFault) → Option Standing
-standing_in None = None
-standing_in (Some (Ok standing)) = Some standing
-standing_in (Some (Err fault)) = None
+-- ---- what a call asks
 
-abbrev pub standing_at : List (Result Standing PskFault) → ℕ → Option Standing
-standing_at contexts number = standing_in (slice_get contexts number)
+-- why a call of a plan is refused, or that it isn't
+abbrev pub call_refusal : Plan → CallLine → Option CallRefusal
+call_refusal plan call = refusal plan.contexts (export_limits plan) call
 
--- an export of so many bytes: refused without a context, refused above 255 Nh, else exported
-abbrev pub export_line : Option Standing → List ℕ → ℕ → List ℕ
-export_line None exporter_context size = refused_line NoContext
-export_line (Some standing) exporter_context size =
-    if nat_lt (255 * hash_size standing.suite.kdf) size then refused_line ExportSize
-    else exported_line (exported standing.suite standing.exporter_secret exporter_context size)
+-- what a call asks that isn't refused; its spans name bytes of the pool
+abbrev pub asked_by : List ℕ → CallLine → Ask
+asked_by pool (Seal context item) = Seals context (span_bytes pool item.aad) (span_bytes pool item.text)
+asked_by pool (Unseal context item) =
+    Opens context (record { aad = span_bytes pool item.aad; ct = span_bytes pool item.text } ∷ [])
+asked_by pool (Export context exporter size) = Nothing
 
--- the bytes of such an export, if it is not refused
-abbrev pub exported_size : Standing → ℕ → ℕ
-exported_size standing size = if nat_le size (255 * hash_size standing.suite.kdf) then size else 0
+abbrev pub ask_unless : Option CallRefusal → Ask → Ask
+ask_unless None ask = ask
+ask_unless (Some refused) ask = Nothing
 
--- the reply line of a call, whose spans name bytes of the pool
-abbrev pub call_line : List (Result Standing PskFault) → List ℕ → CallLine → List ℕ
-call_line contexts pool (Export context exporter size) =
-    export_line (standing_at contexts context) (span_bytes pool exporter) size
+abbrev pub ask_of : Plan → CallLine → Ask
+ask_of plan call = ask_unless (call_refusal plan call) (asked_by plan.pool call)
+
+-- what all calls of a plan ask
+abbrev pub batch_of : Plan → Batch
+batch_of plan = map (map (ask_of plan)) plan.lanes
+
+-- ---- what it is answered
+
+-- what no context can do: no place of a legal journal asks it
+abbrev pub no_cipher : Cipher
+no_cipher =
+    record {
+      limit = 0;
+      sealed = λ n aad text. [];
+      holds = λ n aad ct. false;
+      clear = λ n aad ct. [];
+    }
+
+abbrev pub cipher_in : Option ContextView → Cipher
+cipher_in None = no_cipher
+cipher_in (Some context) = cipher_of context
+
+-- what the context of this number can do
+abbrev pub cipher_at : Plan → ℕ → Cipher
+cipher_at plan number = cipher_in (standing_at (contexts_of plan) number)
+
+abbrev pub journal_at : List (List Place) → ℕ → List Place
+journal_at journals number = slice_index_or journals number []
+
+-- the line of the answer to an item; a place that stands in no journal has none
+abbrev pub answer_line : Option Answer → List ℕ
+answer_line None = []
+answer_line (Some (Sealed_at number ct)) = served_line (codes "sealed ") number ct
+answer_line (Some (Opened_at number text)) = served_line (codes "opened ") number text
+answer_line (Some (Failed_at number)) = codes "failed " ++ decimal number ++ codes "\n"
+answer_line (Some At_limit) = codes "limit\n"
+
+-- the line of a place: its reply in the journal of its context
+abbrev pub place_reply : Plan → List (List Place) → ℕ → Place → List ℕ
+place_reply plan journals context p =
+    answer_line (reply_of (batch_of plan) (cipher_at plan context) (journal_at journals context) p)
+
+-- the line of an export that isn't refused (RFC 9180, 5.3)
+abbrev pub export_line : Option ContextView → List ℕ → ℕ → List ℕ
+export_line None exporter_context size = []
+export_line (Some context) exporter_context size = exported_line (exported_by context exporter_context size)
+
+-- the line of a call that isn't refused, by its lane and its number there
+abbrev pub served_reply : Plan → List (List Place) → ℕ → ℕ → CallLine → List ℕ
+served_reply plan journals lane number (Seal context item) =
+    place_reply plan journals context (place lane number 0)
+served_reply plan journals lane number (Unseal context item) =
+    place_reply plan journals context (place lane number 0)
+served_reply plan journals lane number (Export context exporter size) =
+    export_line (standing_at (contexts_of plan) context) (span_bytes plan.pool exporter) size
+
+abbrev pub line_unless : Option CallRefusal → List ℕ → List ℕ
+line_unless None line = line
+line_unless (Some refused) line = refused_line refused
+
+-- the reply line of a call
+abbrev pub call_line : Plan → List (List Place) → ℕ → ℕ → CallLine → List ℕ
+call_line plan journals lane number call =
+    line_unless (call_refusal plan call) (served_reply plan journals lane number call)

@@ -1,6 +1,6 @@
-pub mod Words
 pub mod Input
 pub mod Outcomes
 pub mod SetUp
 pub mod Calls
 pub mod Text
+pub mod Serving

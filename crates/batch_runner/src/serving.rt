@@ -8,19 +8,21 @@ ghost use Rattle.field_text.specs.declared.reasons.Reason.{Reason};
 ghost use Rattle.field_text.specs.Printing.{AppendsPrefix};
 ghost use Rattle.request_frames.specs.Batch.{Spells, BadAt, batch};
 ghost use Rattle.request_frames.specs.Limits.{IsWithinLimits};
-ghost use Rattle.request_frames.specs.ReplyText.{answers_text, IsAnswered};
+ghost use Rattle.request_frames.specs.ReplyText.{answers_text, bad_text, IsAnswered};
 ghost use Rattle.batch_runner.specs.declared.reading.TheConstants.{INPUT_LIMIT};
 ghost use Rattle.batch_runner.specs.Input.{IsInput};
 ghost use Rattle.batch_runner.specs.Outcomes.{outcome_for};
-ghost use Rattle.batch_runner.specs.Text.{plan_text, due_for, due_text};
-ghost use Rattle.batch_runner.specs.Words.{command_of as command_of_words};
+ghost use Rattle.batch_runner.specs.Text.{IsReply, IsDue};
+ghost use Rattle.batch_words.specs.Words.{command_of};
 
 use crate::answering::answer_lanes;
 use crate::outcomes::Outcome;
 use crate::reading::{ReadStop, read_input};
 use crate::set_up::{context_replies, export_limits, set_up};
-use crate::words::{Command, command_of};
-use batch_io::{Gate, Sink, Source};
+use crate::standing::all_begun;
+use aes_gcm::Checks;
+use batch_io::{Gate, PureSink, PureSource, Sink, Source};
+use batch_words::{Command, read_words};
 use request_frames::{
     Answers, BadBatch, PlainList, Plan, Printed, ReadBatchFault, print_answers, print_bad,
     read_batch,
@@ -30,34 +32,38 @@ use std::sync::Wait;
 use std::thread::Threads;
 
 // The answers to a plan. All memory is taken before the first call is answered.
-#[tactic(auto, unfolding(crate::specs::Text::plan_text))]
-fn answers_to(alloc: Global, plan: &Plan) -> Result<Answers, AllocError>
-    requires { IsWithinLimits plan.now }
-    ensures text { IfOk result (λ answers. answers_text answers ≡ plan_text plan.now) }
+fn answers_to(alloc: Global, plan: &Plan, checks: &mut Checks) -> Result<Answers, AllocError>
+    requires within { IsWithinLimits plan.now }
+    requires count { checks.old ≡ 0 }
+    ensures text { IfOk result (λ answers. IsReply plan.now (answers_text answers)) }
     ensures answered { IfOk result (IsAnswered plan.now) }
 {
     let contexts = set_up(alloc, plan)?;
     let replies = context_replies(alloc, &contexts)?;
     let limits = export_limits(alloc, &contexts)?;
+    let mut slots = all_begun(alloc, contexts)?;
     let keys = PlainList::from_vec(Vec::new(alloc));
     let mut answers = Answers::for_plan(alloc, plan, keys, replies, &limits)?;
-    answer_lanes(&contexts, plan, answers.lanes.as_mut_slice());
+    let journals = answers.journals.as_mut_slice();
+    let lanes = answers.lanes.as_mut_slice();
+    answer_lanes(plan, &limits, &mut slots, journals, lanes, checks);
     Ok(answers)
 }
 
 // Writes the replies to a plan.
-fn reply_to<K: Sink>(alloc: Global, plan: &Plan, sink: &mut K) -> Outcome
-    requires { IsWithinLimits plan.now }
+fn reply_to<K: Sink>(alloc: Global, plan: &Plan, checks: &mut Checks, sink: &mut K) -> Outcome
+    requires within { IsWithinLimits plan.now }
+    requires count { checks.old ≡ 0 }
     ensures outcomes { (result ≡ Outcome.Done) ⊎ (result ≡ Outcome.WriteFault)
         ⊎ (result ≡ Outcome.OutOfMemory) }
-    ensures done { result ≡ Outcome.Done
-        → Appends (K.written sink.old) (K.written sink.new) (plan_text plan.now) }
-    ensures cut { result ≡ Outcome.WriteFault
-        → AppendsPrefix (K.written sink.old) (K.written sink.new) (plan_text plan.now) }
+    ensures done { result ≡ Outcome.Done → (text : List ℕ) × IsReply plan.now text
+        × Appends (K.written sink.old) (K.written sink.new) text }
+    ensures cut { result ≡ Outcome.WriteFault → (text : List ℕ) × IsReply plan.now text
+        × AppendsPrefix (K.written sink.old) (K.written sink.new) text }
     ensures failed { result ≡ Outcome.WriteFault → Rose (K.faults sink.old) (K.faults sink.new) }
     ensures unwritten { result ≡ Outcome.OutOfMemory → sink.new ≡ sink.old }
 {
-    let Ok(answers) = answers_to(alloc, plan) else {
+    let Ok(answers) = answers_to(alloc, plan, checks) else {
         return Outcome::OutOfMemory;
     };
     match print_answers(plan, &answers, sink) {
@@ -71,9 +77,9 @@ fn tell_bad<K: Sink>(bad: &BadBatch, sink: &mut K) -> Outcome
     ensures outcomes { (result ≡ Outcome.BadBatch bad.now.line bad.now.reason)
         ⊎ (result ≡ Outcome.WriteFault) }
     ensures whole { result ≢ Outcome.WriteFault
-        → Appends (K.written sink.old) (K.written sink.new) (due_for (Err bad.now)) }
+        → Appends (K.written sink.old) (K.written sink.new) (bad_text bad.now) }
     ensures cut { result ≡ Outcome.WriteFault
-        → AppendsPrefix (K.written sink.old) (K.written sink.new) (due_for (Err bad.now)) }
+        → AppendsPrefix (K.written sink.old) (K.written sink.new) (bad_text bad.now) }
     ensures failed { result ≡ Outcome.WriteFault → Rose (K.faults sink.old) (K.faults sink.new) }
 {
     match print_bad(bad, sink) {
@@ -85,19 +91,20 @@ fn tell_bad<K: Sink>(bad: &BadBatch, sink: &mut K) -> Outcome
     }
 }
 
-// Writes the text that is due for an input.
-fn answer_input<K: Sink>(alloc: Global, input: &[u8], sink: &mut K) -> Outcome
+// Writes a text that is due for an input.
+fn answer_input<K: Sink>(alloc: Global, input: &[u8], checks: &mut Checks, sink: &mut K) -> Outcome
+    requires { checks.old ≡ 0 }
     ensures outcomes { (result ≡ outcome_for (batch input.now)) ⊎ (result ≡ Outcome.WriteFault)
         ⊎ (result ≡ Outcome.OutOfMemory) }
-    ensures whole { result ≡ outcome_for (batch input.now)
-        → Appends (K.written sink.old) (K.written sink.new) (due_text input.now) }
-    ensures cut { result ≡ Outcome.WriteFault
-        → AppendsPrefix (K.written sink.old) (K.written sink.new) (due_text input.now) }
+    ensures whole { result ≡ outcome_for (batch input.now) → (text : List ℕ) × IsDue input.now text
+        × Appends (K.written sink.old) (K.written sink.new) text }
+    ensures cut { result ≡ Outcome.WriteFault → (text : List ℕ) × IsDue input.now text
+        × AppendsPrefix (K.written sink.old) (K.written sink.new) text }
     ensures failed { result ≡ Outcome.WriteFault → Rose (K.faults sink.old) (K.faults sink.new) }
     ensures unwritten { result ≡ Outcome.OutOfMemory → sink.new ≡ sink.old }
 {
     match read_batch(alloc, input) {
-        Ok(plan) => reply_to(alloc, &plan, sink),
+        Ok(plan) => reply_to(alloc, &plan, checks, sink),
         Err(fault) => match fault {
             ReadBatchFault::Bad(bad) => tell_bad(&bad, sink),
             ReadBatchFault::OutOfMemory => Outcome::OutOfMemory,
@@ -105,40 +112,84 @@ fn answer_input<K: Sink>(alloc: Global, input: &[u8], sink: &mut K) -> Outcome
     }
 }
 
-/// Does what the words ask for: reads a batch from `source` and writes the text that is due to
+// The command `run`: reads a batch and answers it.
+fn run<S: Source, K: Sink>(
+    alloc: Global,
+    source: &mut S,
+    sink: &mut K,
+    checks: &mut Checks,
+) -> Outcome
+    requires { checks.old ≡ 0 }
+    ensures usage { result ≢ Outcome.Usage }
+    ensures done { result ≡ Outcome.Done → (input : List ℕ)
+        × IsInput (S.left source.old) (S.left source.new) input × IsOk (batch input)
+        × (text : List ℕ) × IsDue input text
+        × Appends (K.written sink.old) (K.written sink.new) text }
+    ensures bad { (line : ℕ) (reason : Reason) → result ≡ Outcome.BadBatch line reason
+        → (input : List ℕ) × IsInput (S.left source.old) (S.left source.new) input
+        × BadAt input line reason
+        × (text : List ℕ) × IsDue input text
+        × Appends (K.written sink.old) (K.written sink.new) text }
+    ensures cut { result ≡ Outcome.WriteFault → (input : List ℕ)
+        × IsInput (S.left source.old) (S.left source.new) input
+        × (text : List ℕ) × IsDue input text
+        × AppendsPrefix (K.written sink.old) (K.written sink.new) text }
+    ensures unwritten { (result ≡ Outcome.ReadFault) ⊎ (result ≡ Outcome.OutOfMemory)
+        → sink.new ≡ sink.old }
+    ensures read_fault { result ≡ Outcome.ReadFault → Rose (S.faults source.old) (S.faults source.new) }
+    ensures write_fault { result ≡ Outcome.WriteFault → Rose (K.faults sink.old) (K.faults sink.new) }
+    ensures taken { (front : List ℕ) × Consumes (S.left source.old) (S.left source.new) front
+        × (length front ≤ INPUT_LIMIT) }
+    ensures complete { (input : List ℕ) → S.left source.old ≡ Some input
+        → ¬ Rose (S.faults source.old) (S.faults source.new)
+        → ¬ Rose (K.faults sink.old) (K.faults sink.new)
+        → (result ≡ outcome_for (batch input)) ⊎ (result ≡ Outcome.OutOfMemory) }
+{
+    match read_input(alloc, source) {
+        Ok(input) => answer_input(alloc, &input, checks, sink),
+        Err(ReadStop::Fault) => Outcome::ReadFault,
+        Err(ReadStop::OutOfMemory) => Outcome::OutOfMemory,
+    }
+}
+
+/// Does what the words ask for: reads a batch from `source` and writes a text that is due to
 /// `sink`, and tells how the run ended. `words` doesn't hold the program's name.
 ///
-/// The command grammar is `command_of` of `specs/Words.antt`. The text that is due is `due_text` of
-/// `specs/Text.antt`: the replies to the batch, or its first bad line. At most 67,108,865 bytes are
-/// taken, each turn of the reading takes one at least, and all memory that the answers need is
-/// taken before the first call is answered. No lane is served on a thread, so `gate` is told
-/// nothing.
+/// The command grammar is `command_of` of batch_words. A text is due where `IsDue` of
+/// `specs/Text.antt` says so: the replies to the batch with legal journals of its contexts, which
+/// the text itself prints, or the first bad line of the input. At most 67,108,865 bytes are taken,
+/// each turn of the reading takes one at least, and all memory that the answers need is taken before
+/// the first call is answered. The lanes are served one after another, however many workers the words
+/// ask for, and `gate` is told nothing.
 ///
 /// The input is what the source tells, and the text written what the sink tells; over ends that
 /// tell nothing the clauses speak of the outcomes and the counts of faults alone.
 pub fn serve_words<R: Threads + Wait + Sync, S: Source, K: Sink, G: Gate + Sync>(
-    _rt: &R,
+    rt: &R,
     alloc: Global,
     words: &[String],
     source: &mut S,
     sink: &mut K,
     _gate: &G,
 ) -> Outcome
-    ensures usage { (result ≡ Outcome.Usage)
-        ↔ (command_of_words (map string_bytes words.now) ≡ None) }
+    ensures usage { result ≢ Outcome.OutOfMemory
+        → ((result ≡ Outcome.Usage) ↔ (command_of (map string_bytes words.now) ≡ None)) }
     ensures untouched { result ≡ Outcome.Usage → (source.new ≡ source.old) × (sink.new ≡ sink.old) }
 
     // What was written, for the input that was read.
     ensures done { result ≡ Outcome.Done → (input : List ℕ)
         × IsInput (S.left source.old) (S.left source.new) input × IsOk (batch input)
-        × Appends (K.written sink.old) (K.written sink.new) (due_text input) }
+        × (text : List ℕ) × IsDue input text
+        × Appends (K.written sink.old) (K.written sink.new) text }
     ensures bad { (line : ℕ) (reason : Reason) → result ≡ Outcome.BadBatch line reason
         → (input : List ℕ) × IsInput (S.left source.old) (S.left source.new) input
         × BadAt input line reason
-        × Appends (K.written sink.old) (K.written sink.new) (due_text input) }
+        × (text : List ℕ) × IsDue input text
+        × Appends (K.written sink.old) (K.written sink.new) text }
     ensures cut { result ≡ Outcome.WriteFault → (input : List ℕ)
         × IsInput (S.left source.old) (S.left source.new) input
-        × AppendsPrefix (K.written sink.old) (K.written sink.new) (due_text input) }
+        × (text : List ℕ) × IsDue input text
+        × AppendsPrefix (K.written sink.old) (K.written sink.new) text }
     ensures unwritten { (result ≡ Outcome.ReadFault) ⊎ (result ≡ Outcome.OutOfMemory)
         → sink.new ≡ sink.old }
 
@@ -152,17 +203,31 @@ pub fn serve_words<R: Threads + Wait + Sync, S: Source, K: Sink, G: Gate + Sync>
 
     // An input that is told, and no fault, leave only its own outcome and want of memory.
     ensures complete { (input : List ℕ) → S.left source.old ≡ Some input
-        → command_of_words (map string_bytes words.now) ≢ None
+        → command_of (map string_bytes words.now) ≢ None
         → ¬ Rose (S.faults source.old) (S.faults source.new)
         → ¬ Rose (K.faults sink.old) (K.faults sink.new)
         → (result ≡ outcome_for (batch input)) ⊎ (result ≡ Outcome.OutOfMemory) }
 {
-    let Some(Command::Run) = command_of(words) else {
-        return Outcome::Usage;
-    };
-    match read_input(alloc, source) {
-        Ok(input) => answer_input(alloc, &input, sink),
-        Err(ReadStop::Fault) => Outcome::ReadFault,
-        Err(ReadStop::OutOfMemory) => Outcome::OutOfMemory,
+    match read_words(alloc, words) {
+        Ok(Some(Command::Run { .. })) => run(alloc, source, sink, &mut Checks::new(rt)),
+        Ok(None) => Outcome::Usage,
+        Err(_) => Outcome::OutOfMemory,
     }
+}
+
+/// The same over ends that never fail: no fault is answered, and words in the grammar leave only the
+/// input's own outcome and want of memory.
+pub fn serve_pure<R: Threads + Wait + Sync, G: Gate + Sync>(
+    rt: &R,
+    alloc: Global,
+    words: &[String],
+    source: &mut PureSource,
+    sink: &mut PureSink,
+    gate: &G,
+) -> Outcome
+    ensures faultless { (result ≢ Outcome.ReadFault) × (result ≢ Outcome.WriteFault) }
+    ensures complete { command_of (map string_bytes words.now) ≢ None
+        → (result ≡ outcome_for (batch source.old)) ⊎ (result ≡ Outcome.OutOfMemory) }
+{
+    serve_words(rt, alloc, words, source, sink, gate)
 }

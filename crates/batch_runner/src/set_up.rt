@@ -1,46 +1,64 @@
 //! The set-up of a plan: which contexts stand, and why the others are refused.
 
-ghost use Rattle.std.specs.Prelude.{◌≡◌, length, map, IfOk, IfSome, MatchOption, slice_get};
-ghost use Rattle.request_frames.specs.Limits.{IsContextWithin, IsWithinLimits};
-ghost use Rattle.batch_runner.specs.Calls.{standing_at};
-ghost use Rattle.batch_runner.specs.SetUp.{standing_of, refusal_of, context_reply, export_limit};
-ghost use Rattle.batch_runner.specs.Text.{contexts_of};
+ghost use Rattle.std.specs.Prelude.{◌≡◌, length, map, IfOk};
+ghost use Rattle.call_places.specs.Spans.{span_bytes};
+ghost use Rattle.request_frames.specs.Limits.{IsKindWithin, IsContextWithin, IsWithinLimits};
+ghost use Rattle.request_frames.specs.Calls.{context_role};
+ghost use Rattle.batch_runner.specs.SetUp.{suite_of, shared_secret_of, context_of, contexts_of, context_reply, limit_of, refusal_of};
 
-use hkdf_labelled::{Prk, Suite};
-use key_schedule::{PskFault, schedule};
+use hkdf_labelled::Suite;
+use hpke_context::Context;
+use key_schedule::{PskFault, Role, schedule};
 use request_frames::{
     ContextKind, ContextLine, ContextRefusal, ContextReplies, ContextReply, PlainList, Plan,
 };
 use std::alloc::{AllocError, Global};
 
-/// A context that stands, as far as exports need it.
-#[derive(Drop)]
-pub(crate) struct Standing {
-    pub(crate) suite: Suite,
-    pub(crate) exporter_secret: Prk,
+/// What becomes of a context line.
+pub(crate) type SetUp = Result<Context, PskFault>;
+
+// The algorithms of a context line.
+fn suite_of(line: &ContextLine) -> Suite
+    ensures { result ≡ suite_of line.now }
+{
+    let ContextKind::Share { kem, .. } = line.kind;
+    Suite {
+        kem,
+        kdf: line.kdf,
+        aead: line.aead,
+    }
 }
 
-/// What becomes of a context line.
-pub(crate) type SetUp = Result<Standing, PskFault>;
+// Whose context it is.
+fn role_of(kind: &ContextKind) -> Role
+    ensures { result ≡ context_role kind.now }
+{
+    match *kind {
+        ContextKind::Share { role, .. } => role,
+    }
+}
+
+// The bytes of shared_secret.
+fn shared_secret<'a>(pool: &'a [u8], kind: &ContextKind) -> &'a [u8]
+    requires { IsKindWithin (length pool.now) kind.now }
+    ensures { result.now ≡ span_bytes pool.now (shared_secret_of kind.now) }
+{
+    match *kind {
+        ContextKind::Share { secret, .. } => secret.of(pool),
+    }
+}
 
 // Sets a context up (RFC 9180, 5.1).
 fn stand(pool: &[u8], line: &ContextLine) -> SetUp
     requires { IsContextWithin (length pool.now) line.now }
-    ensures { result ≡ standing_of pool.now line.now }
+    ensures { result ≡ context_of pool.now line.now }
 {
-    let ContextKind::Share { kem, secret, .. } = line.kind;
-    let suite = Suite {
-        kem,
-        kdf: line.kdf,
-        aead: line.aead,
-    };
+    let suite = suite_of(line);
+    let secret = shared_secret(pool, &line.kind);
     let info = line.info.of(pool);
     let (psk, psk_id) = (line.psk.of(pool), line.psk_id.of(pool));
-    match schedule(&suite, line.mode, secret.of(pool), info, psk, psk_id) {
-        Ok(secrets) => Ok(Standing {
-            suite,
-            exporter_secret: secrets.exporter,
-        }),
+    match schedule(&suite, line.mode, secret, info, psk, psk_id) {
+        Ok(secrets) => Ok(Context::new(role_of(&line.kind), suite, secrets, line.limit)),
         Err(fault) => Err(fault),
     }
 }
@@ -91,32 +109,21 @@ pub(crate) fn context_replies(
 }
 
 fn export_limit(context: &SetUp) -> u32
-    ensures { result ≡ export_limit context.now }
+    ensures { result ≡ limit_of context.now }
 {
     match context {
-        Ok(standing) => 255 * standing.suite.kdf.size() as u32,
+        Ok(context) => context.export_limit() as u32,
         Err(_) => 0,
     }
 }
 
 /// For each context the most bytes that it exports, and 0 where it is refused.
 pub(crate) fn export_limits(alloc: Global, contexts: &[SetUp]) -> Result<Vec<u32>, AllocError>
-    ensures { IfOk result (λ limits. limits.items ≡ map export_limit contexts.now) }
+    ensures { IfOk result (λ limits. limits.items ≡ map limit_of contexts.now) }
 {
     let mut limits = Vec::new(alloc);
     'contexts: for context in contexts {
         limits.push(export_limit(context))?;
     }
     Ok(limits)
-}
-
-/// The context of this number, where there is one and it stands.
-pub(crate) fn standing_at(contexts: &[SetUp], number: u32) -> Option<&Standing>
-    ensures { MatchOption result (standing_at contexts.now number ≡ None)
-        (λ standing. standing_at contexts.now number ≡ Some standing.now) }
-{
-    match contexts.get(number as usize) {
-        Some(Ok(standing)) => Some(standing),
-        _ => None,
-    }
 }

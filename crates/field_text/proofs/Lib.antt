@@ -3,3 +3,4 @@ pub mod Numbers
 pub mod HexDigits
 pub mod Told
 pub mod Held
+pub mod Spellings

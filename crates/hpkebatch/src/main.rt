@@ -26,7 +26,7 @@ fn words<R: Env + Alloc<A = Global>>(rt: &R) -> io::Result<Vec<String>> {
 fn message(outcome: &Outcome) -> Option<&'static str> {
     match outcome {
         Outcome::Done | Outcome::BadBatch { .. } => None,
-        Outcome::Usage => Some("usage: hpkebatch run"),
+        Outcome::Usage => Some("usage: hpkebatch run [--workers W]"),
         Outcome::ReadFault => Some("the input could not be read"),
         Outcome::WriteFault => Some("the reply could not be written"),
         Outcome::OutOfMemory => Some("out of memory"),

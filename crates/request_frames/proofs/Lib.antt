@@ -1,5 +1,8 @@
-pub mod Kept
 pub mod Judging
+pub mod SpelledFields
+pub mod SpelledPlans
 pub mod Chains
 pub mod Numbering
 pub mod Rooms
+pub mod Counts
+pub mod Kept

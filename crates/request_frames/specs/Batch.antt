@@ -16,11 +16,11 @@ use Rattle.request_frames.specs.declared.plan.ReadBatchFault.TheVariants as faul
 use Rattle.request_frames.specs.declared.plan.Plan.{Plan}
 use Rattle.request_frames.specs.declared.plan.CallLine.{CallLine}
 use Rattle.request_frames.specs.declared.words.LineWord.{LineWord}
-use Rattle.request_frames.specs.declared.words.LineWord.TheVariants.{Share, Lane, Export, End}
+use Rattle.request_frames.specs.declared.words.LineWord.TheVariants.{Share, Lane, Seal, Unseal, Export, End}
 use Rattle.request_frames.specs.declared.words.Next.{Next}
 use Rattle.request_frames.specs.declared.words.Next.TheVariants.{More, Last}
 use Rattle.request_frames.specs.Words.{line_word}
-use Rattle.request_frames.specs.Forms.{share, export}
+use Rattle.request_frames.specs.Forms.{share, seal, unseal, export}
 use Rattle.request_frames.specs.Limits.{most_input, most_contexts, most_lanes, most_items, most_exported, items_of, size_of, all_items, all_sizes}
 
 -- ---- order
@@ -29,6 +29,8 @@ use Rattle.request_frames.specs.Limits.{most_input, most_contexts, most_lanes, m
 abbrev pub may_stand : LineWord → Plan → Bool
 may_stand Share plan = length plan.lanes == 0
 may_stand Lane plan = true
+may_stand Seal plan = nat_lt 0 (length plan.lanes)
+may_stand Unseal plan = nat_lt 0 (length plan.lanes)
 may_stand Export plan = nat_lt 0 (length plan.lanes)
 may_stand End plan = true
 
@@ -68,6 +70,18 @@ with_lane plan pieces = do
   count ← at_most most_lanes (length plan.lanes + 1)
   Ok (record plan { lanes = plan.lanes ++ [] ∷ [] })
 
+-- `seal ..`
+unfoldable pub with_seal : Plan → List (List ℕ) → Result Plan Reason
+with_seal plan pieces = do
+  (call, pool) ← seal plan.pool pieces
+  with_call (record plan { pool = pool }) call
+
+-- `unseal ..`
+unfoldable pub with_unseal : Plan → List (List ℕ) → Result Plan Reason
+with_unseal plan pieces = do
+  (call, pool) ← unseal plan.pool pieces
+  with_call (record plan { pool = pool }) call
+
 -- `export ..`
 unfoldable pub with_export : Plan → List (List ℕ) → Result Plan Reason
 with_export plan pieces = do
@@ -81,6 +95,12 @@ with_line plan Share pieces = do
   Ok (More, plan)
 with_line plan Lane pieces = do
   plan ← with_lane plan pieces
+  Ok (More, plan)
+with_line plan Seal pieces = do
+  plan ← with_seal plan pieces
+  Ok (More, plan)
+with_line plan Unseal pieces = do
+  plan ← with_unseal plan pieces
   Ok (More, plan)
 with_line plan Export pieces = do
   plan ← with_export plan pieces

@@ -1,7 +1,9 @@
 pub mod Words
-pub mod Forms
 pub mod Limits
+pub mod Forms
 pub mod Batch
+pub mod PlanText
 pub mod Drafts
 pub mod ReplyText
+pub mod Calls
 pub mod Room

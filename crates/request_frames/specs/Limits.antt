@@ -2,6 +2,7 @@
 -- bytes.
 use Rattle.std.specs.Prelude.{ℕ, ◌<◌, ◌≤◌, ◌^◌, List, length, sum_by, All}
 use Rattle.call_places.specs.declared.spans.Span.{Span}
+use Rattle.call_places.specs.declared.spans.Item.{Item}
 use Rattle.call_places.specs.Spans.{IsInPool}
 use Rattle.request_frames.specs.declared.plan.Plan.{Plan}
 use Rattle.request_frames.specs.declared.plan.ContextKind.{ContextKind}
@@ -32,13 +33,35 @@ most_items = 65536
 abbrev pub most_exported : ℕ
 most_exported = 16777216
 
+-- AAD, and each other bytes field that has no limit of its own
+abbrev pub most_field : ℕ
+most_field = 65535
+
+-- PT
+abbrev pub most_plaintext : ℕ
+most_plaintext = 1048576
+
+-- CT: a plaintext and its tag
+abbrev pub most_ciphertext : ℕ
+most_ciphertext = 1048592
+
 -- the items of a call
 abbrev pub items_of : CallLine → ℕ
+items_of (calls.Seal context item) = 1
+items_of (calls.Unseal context item) = 1
 items_of (calls.Export context exporter size) = 1
 
 -- the LEN of a call
 abbrev pub size_of : CallLine → ℕ
+size_of (calls.Seal context item) = 0
+size_of (calls.Unseal context item) = 0
 size_of (calls.Export context exporter size) = size
+
+-- the size of a call's PT or CT
+abbrev pub text_size : CallLine → ℕ
+text_size (calls.Seal context item) = item.text.len
+text_size (calls.Unseal context item) = item.text.len
+text_size (calls.Export context exporter size) = 0
 
 -- the items in all lanes
 abbrev pub all_items : List (List CallLine) → ℕ
@@ -48,32 +71,45 @@ all_items lanes = sum_by (λ lane. sum_by items_of lane) lanes
 abbrev pub all_sizes : List (List CallLine) → ℕ
 all_sizes lanes = sum_by (λ lane. sum_by size_of lane) lanes
 
+-- the sizes of the PT and CT of all lanes
+abbrev pub all_texts : List (List CallLine) → ℕ
+all_texts lanes = sum_by (λ lane. sum_by text_size lane) lanes
+
 -- ---- what every plan that is read keeps
 
--- a bytes field of a line: bytes of a pool of this length, at most 65,535 of them
-pub record IsField (pool : ℕ) (span : Span) : Type 0 where
+-- a bytes field of a line: bytes of a pool of this length, and no more than its limit
+pub record IsField (most pool : ℕ) (span : Span) : Type 0 where
   pub in_pool : IsInPool pool span
-  pub size : span.len ≤ 65535
+  pub size : span.len ≤ most
+
+-- AAD, and a text with a limit of its own
+pub record IsItemWithin (most pool : ℕ) (item : Item) : Type 0 where
+  pub aad : IsField most_field pool item.aad
+  pub text : IsField most pool item.text
 
 -- each kind of context, over a pool of this length
 abbrev pub IsKindWithin : ℕ → ContextKind → Type 0
-IsKindWithin pool (kinds.Share role kem secret) = (kem < 2 ^ 16) × IsField pool secret
+IsKindWithin pool (kinds.Share role kem secret) = (kem < 2 ^ 16) × IsField most_field pool secret
 
 -- a context line over a pool of this length
 pub record IsContextWithin (pool : ℕ) (line : ContextLine) : Type 0 where
   pub kind : IsKindWithin pool line.kind
-  pub info : IsField pool line.info
-  pub psk : IsField pool line.psk
-  pub psk_id : IsField pool line.psk_id
+  pub info : IsField most_field pool line.info
+  pub psk : IsField most_field pool line.psk
+  pub psk_id : IsField most_field pool line.psk_id
   pub limit_least : 1 ≤ line.limit
   pub limit_most : line.limit < 2 ^ 64
 
 -- a call line over a pool of this length
 abbrev pub IsCallWithin : ℕ → CallLine → Type 0
+IsCallWithin pool (calls.Seal context item) =
+    (context ≤ 65535) × IsItemWithin most_plaintext pool item
+IsCallWithin pool (calls.Unseal context item) =
+    (context ≤ 65535) × IsItemWithin most_ciphertext pool item
 IsCallWithin pool (calls.Export context exporter size) =
-    (context ≤ 65535) × IsField pool exporter × (size ≤ 65535)
+    (context ≤ 65535) × IsField most_field pool exporter × (size ≤ 65535)
 
--- the counts of a plan, and each of its lines
+-- the counts of a plan, and each of its lines. The texts of its calls share no byte of the pool
 pub record IsWithinLimits (plan : Plan) : Type 0 where
   pub pool : length plan.pool ≤ most_input
   pub keys : length plan.keys ≤ most_keys
@@ -81,5 +117,6 @@ pub record IsWithinLimits (plan : Plan) : Type 0 where
   pub lanes : length plan.lanes ≤ most_lanes
   pub items : all_items plan.lanes ≤ most_items
   pub exported : all_sizes plan.lanes ≤ most_exported
+  pub texts : all_texts plan.lanes ≤ length plan.pool
   pub context_lines : All (IsContextWithin (length plan.pool)) plan.contexts
   pub call_lines : All (All (IsCallWithin (length plan.pool))) plan.lanes

@@ -10,7 +10,7 @@ pub struct BadCase {
     pub reason: Reason,
 }
 
-pub const BAD: [BadCase; 51] = [
+pub const BAD: [BadCase; 67] = [
     BadCase {
         what: "no byte",
         text: b"",
@@ -108,8 +108,44 @@ pub const BAD: [BadCase; 51] = [
         reason: Reason::Word,
     },
     BadCase {
-        what: "a word of no line",
-        text: b"hpkebatch 1\nseal 0 - -\nend\n",
+        what: "the word `rand`",
+        text: b"hpkebatch 1\nrand\nend\n",
+        line: 2,
+        reason: Reason::Word,
+    },
+    BadCase {
+        what: "the word `keygen`",
+        text: b"hpkebatch 1\nkeygen\nend\n",
+        line: 2,
+        reason: Reason::Word,
+    },
+    BadCase {
+        what: "the word `secret`",
+        text: b"hpkebatch 1\nsecret\nend\n",
+        line: 2,
+        reason: Reason::Word,
+    },
+    BadCase {
+        what: "the word `peer`",
+        text: b"hpkebatch 1\npeer\nend\n",
+        line: 2,
+        reason: Reason::Word,
+    },
+    BadCase {
+        what: "the word `send`",
+        text: b"hpkebatch 1\nsend\nend\n",
+        line: 2,
+        reason: Reason::Word,
+    },
+    BadCase {
+        what: "the word `recv`",
+        text: b"hpkebatch 1\nrecv\nend\n",
+        line: 2,
+        reason: Reason::Word,
+    },
+    BadCase {
+        what: "the word `unsealall`",
+        text: b"hpkebatch 1\nunsealall\nend\n",
         line: 2,
         reason: Reason::Word,
     },
@@ -172,6 +208,66 @@ pub const BAD: [BadCase; 51] = [
         text: b"hpkebatch 1\nlane\nexport 0  - 32\nend\n",
         line: 3,
         reason: Reason::Fields,
+    },
+    BadCase {
+        what: "two fields of `seal`",
+        text: b"hpkebatch 1\nlane\nseal 0 -\nend\n",
+        line: 3,
+        reason: Reason::Fields,
+    },
+    BadCase {
+        what: "an empty PT",
+        text: b"hpkebatch 1\nlane\nseal 0 - \nend\n",
+        line: 3,
+        reason: Reason::Hex,
+    },
+    BadCase {
+        what: "a leading zero in the CTX of `seal`",
+        text: b"hpkebatch 1\nlane\nseal 00 - -\nend\n",
+        line: 3,
+        reason: Reason::Number,
+    },
+    BadCase {
+        what: "capital hex digits in PT",
+        text: b"hpkebatch 1\nlane\nseal 0 - AB\nend\n",
+        line: 3,
+        reason: Reason::Hex,
+    },
+    BadCase {
+        what: "a capital letter in `seal`",
+        text: b"hpkebatch 1\nlane\nSeal 0 - -\nend\n",
+        line: 3,
+        reason: Reason::Word,
+    },
+    BadCase {
+        what: "a `seal` before the lane",
+        text: b"hpkebatch 1\nseal 0 - -\nend\n",
+        line: 2,
+        reason: Reason::Order,
+    },
+    BadCase {
+        what: "CTX before AAD",
+        text: b"hpkebatch 1\nlane\nseal 65536 x -\nend\n",
+        line: 3,
+        reason: Reason::Range,
+    },
+    BadCase {
+        what: "four fields of `unseal`",
+        text: b"hpkebatch 1\nlane\nunseal 0 - - -\nend\n",
+        line: 3,
+        reason: Reason::Fields,
+    },
+    BadCase {
+        what: "an `unseal` before the lane, without its fields",
+        text: b"hpkebatch 1\nunseal\nend\n",
+        line: 2,
+        reason: Reason::Order,
+    },
+    BadCase {
+        what: "three hex digits of CT",
+        text: b"hpkebatch 1\nlane\nunseal 0 - 000\nend\n",
+        line: 3,
+        reason: Reason::Hex,
     },
     BadCase {
         what: "nine fields of `share`",
@@ -316,64 +412,5 @@ pub const BAD: [BadCase; 51] = [
         text: b"hpkebatch 1\nshare send 32 1 1 ab base - - - 9\nlane\nexport 0 - x\n",
         line: 4,
         reason: Reason::Number,
-    },
-];
-
-// A text of parts: `before`, `part` so many times, and `after`. All are own, as above.
-pub struct LongCase {
-    pub what: &'static str,
-    pub before: &'static [u8],
-    pub part: &'static [u8],
-    pub times: usize,
-    pub after: &'static [u8],
-    pub line: u32,
-    pub reason: Reason,
-}
-
-pub const LONG: [LongCase; 5] = [
-    LongCase {
-        what: "257 contexts",
-        before: b"hpkebatch 1\n",
-        part: b"share send 32 1 1 ab base - - - 9\n",
-        times: 257,
-        after: b"",
-        line: 258,
-        reason: Reason::Count,
-    },
-    LongCase {
-        what: "257 exports of 65535 bytes",
-        before: b"hpkebatch 1\nlane\n",
-        part: b"export 0 - 65535\n",
-        times: 257,
-        after: b"",
-        line: 259,
-        reason: Reason::Count,
-    },
-    LongCase {
-        what: "65,537 exports of no byte",
-        before: b"hpkebatch 1\nlane\n",
-        part: b"export 0 - 0\n",
-        times: 65_537,
-        after: b"",
-        line: 65_539,
-        reason: Reason::Count,
-    },
-    LongCase {
-        what: "a secret of 65,536 bytes",
-        before: b"hpkebatch 1\nshare send 32 1 1 ",
-        part: b"00",
-        times: 65_536,
-        after: b" base - - - 9\n",
-        line: 2,
-        reason: Reason::Size,
-    },
-    LongCase {
-        what: "an exporter of 65,536 bytes",
-        before: b"hpkebatch 1\nlane\nexport 0 ",
-        part: b"ff",
-        times: 65_536,
-        after: b" 32\n",
-        line: 3,
-        reason: Reason::Size,
     },
 ];

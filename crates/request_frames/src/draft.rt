@@ -2,8 +2,8 @@
 
 ghost use Rattle.std.specs.Prelude.{◌≡◌, ◌+◌, ◌<◌, ◌≤◌, ◌^◌, length, sum_by, OnOk, IfOk, true, false};
 ghost use Rattle.field_text.specs.Fields.{Gives, Reads};
-ghost use Rattle.request_frames.specs.Batch.{may_stand, in_order as in_order_of, with_call as call_of, with_share as share_of, with_lane as lane_of, with_export as export_of, with_line as line_of, line_after, empty_plan};
-ghost use Rattle.request_frames.specs.Limits.{size_of, IsCallWithin, IsContextWithin, IsWithinLimits};
+ghost use Rattle.request_frames.specs.Batch.{may_stand, in_order as in_order_of, with_call as call_of, with_share as share_of, with_lane as lane_of, with_seal as seal_of, with_unseal as unseal_of, with_export as export_of, with_line as line_of, line_after, empty_plan};
+ghost use Rattle.request_frames.specs.Limits.{size_of, text_size, all_texts, IsCallWithin, IsContextWithin, IsWithinLimits};
 ghost use Rattle.request_frames.specs.Drafts.{plan_of, IsKept};
 
 use crate::lists::PlainList;
@@ -29,10 +29,12 @@ pub struct Draft {
     size_sum: u32,
 }
 
-fn size_of_export(call: &CallLine) -> u32
+// The LEN of a call.
+fn size_of(call: &CallLine) -> u32
     ensures { result ≡ size_of call.now }
 {
     match *call {
+        CallLine::Seal { .. } | CallLine::Unseal { .. } => 0,
         CallLine::Export { size, .. } => size,
     }
 }
@@ -58,6 +60,8 @@ impl Draft {
         requires kept { IsKept self.old }
         requires open { self.old.in_lane ≡ true }
         requires within { IsCallWithin (length (plan_of self.old).pool) call }
+        requires text { all_texts (plan_of self.old).lanes + text_size call
+            ≤ length (plan_of self.old).pool }
         ensures read { Gives (λ _. plan_of self.new) result (call_of (plan_of self.old) call) }
         ensures kept { OnOk result (IsKept self.new) }
         ensures pool { self.new.pool.items ≡ self.old.pool.items }
@@ -65,7 +69,7 @@ impl Draft {
         if self.calls.len() >= MOST_ITEMS {
             return Err(Stop::Bad(Reason::Count));
         }
-        let size_sum = self.size_sum + size_of_export(&call);
+        let size_sum = self.size_sum + size_of(&call);
         if size_sum > MOST_EXPORTED {
             return Err(Stop::Bad(Reason::Count));
         }
@@ -109,6 +113,36 @@ impl Draft {
         Ok(())
     }
 
+    #[tactic(auto, using(crate::proofs::Kept::kept_facts), unfolding(crate::specs::Batch::with_seal))]
+    fn with_seal(&mut self, fields: &mut Pieces) -> Result<(), Stop>
+        requires room { length (plan_of self.old).pool + sum_by length fields.old ≤ 67108864 }
+        requires kept { IsKept self.old }
+        requires open { self.old.in_lane ≡ true }
+        ensures read { Gives (λ _. plan_of self.new) result
+            (seal_of (plan_of self.old) fields.old) }
+        ensures kept { OnOk result (IsKept self.new) }
+        ensures size { OnOk result (length (plan_of self.new).pool
+            ≤ length (plan_of self.old).pool + sum_by length fields.old) }
+    {
+        let call = lines::seal(&mut self.pool, fields)?;
+        self.with_call(call)
+    }
+
+    #[tactic(auto, using(crate::proofs::Kept::kept_facts), unfolding(crate::specs::Batch::with_unseal))]
+    fn with_unseal(&mut self, fields: &mut Pieces) -> Result<(), Stop>
+        requires room { length (plan_of self.old).pool + sum_by length fields.old ≤ 67108864 }
+        requires kept { IsKept self.old }
+        requires open { self.old.in_lane ≡ true }
+        ensures read { Gives (λ _. plan_of self.new) result
+            (unseal_of (plan_of self.old) fields.old) }
+        ensures kept { OnOk result (IsKept self.new) }
+        ensures size { OnOk result (length (plan_of self.new).pool
+            ≤ length (plan_of self.old).pool + sum_by length fields.old) }
+    {
+        let call = lines::unseal(&mut self.pool, fields)?;
+        self.with_call(call)
+    }
+
     #[tactic(auto, using(crate::proofs::Kept::kept_facts), unfolding(crate::specs::Batch::with_export))]
     fn with_export(&mut self, fields: &mut Pieces) -> Result<(), Stop>
         requires room { length (plan_of self.old).pool + sum_by length fields.old ≤ 67108864 }
@@ -131,7 +165,7 @@ impl Draft {
         let stands = match word {
             LineWord::Share => !self.in_lane,
             LineWord::Lane | LineWord::End => true,
-            LineWord::Export => self.in_lane,
+            LineWord::Seal | LineWord::Unseal | LineWord::Export => self.in_lane,
         };
         if stands { Ok(()) } else { Err(Reason::Order) }
     }
@@ -150,6 +184,8 @@ impl Draft {
         match word {
             LineWord::Share => self.with_share(fields)?,
             LineWord::Lane => self.with_lane(fields)?,
+            LineWord::Seal => self.with_seal(fields)?,
+            LineWord::Unseal => self.with_unseal(fields)?,
             LineWord::Export => self.with_export(fields)?,
             LineWord::End => {
                 fields.exactly(0)?;

@@ -2,12 +2,20 @@
 
 ghost use Rattle.std.specs.Prelude.{◌≡◌, ◌+◌, ◌<◌, ◌≤◌, ◌^◌, length, vec_len, sum_by, OnOk, IfOk};
 ghost use Rattle.field_text.specs.Fields.{Gives};
-ghost use Rattle.request_frames.specs.Forms.{share as share_of, export as export_of};
-ghost use Rattle.request_frames.specs.Limits.{IsContextWithin, IsCallWithin};
+ghost use Rattle.request_frames.specs.Forms.{share as share_of, seal as seal_of, unseal as unseal_of, export as export_of};
+ghost use Rattle.request_frames.specs.Limits.{text_size, IsContextWithin, IsCallWithin};
 
 use crate::plan::{CallLine, ContextKind, ContextLine};
 use crate::words;
+use call_places::Item;
 use field_text::{Pieces, Stop};
+
+// The most bytes of a field that has no limit of its own.
+const MOST_FIELD: usize = 65_535;
+
+const MOST_PLAINTEXT: usize = 1_048_576;
+
+const MOST_CIPHERTEXT: usize = 1_048_592;
 
 /// `share ROLE KEM KDF AEAD SECRET MODE INFO PSK PSKID LIMIT`
 #[tactic(auto, unfolding(crate::specs::Forms::share))]
@@ -24,11 +32,11 @@ pub fn share(pool: &mut Vec<u8>, fields: &mut Pieces) -> Result<ContextLine, Sto
     let kem = fields.number(0, 65_535)?;
     let kdf = words::kdf(fields)?;
     let aead = words::aead(fields)?;
-    let secret = fields.bytes(pool, 65_535)?;
+    let secret = fields.bytes(pool, MOST_FIELD)?;
     let mode = words::mode(fields)?;
-    let info = fields.bytes(pool, 65_535)?;
-    let psk = fields.bytes(pool, 65_535)?;
-    let psk_id = fields.bytes(pool, 65_535)?;
+    let info = fields.bytes(pool, MOST_FIELD)?;
+    let psk = fields.bytes(pool, MOST_FIELD)?;
+    let psk_id = fields.bytes(pool, MOST_FIELD)?;
     let limit = fields.number(1, u64::MAX)?;
     let kind = ContextKind::Share {
         role,
@@ -47,6 +55,42 @@ pub fn share(pool: &mut Vec<u8>, fields: &mut Pieces) -> Result<ContextLine, Sto
     })
 }
 
+/// `seal CTX AAD PT`
+#[tactic(auto, unfolding(crate::specs::Forms::seal))]
+pub fn seal(pool: &mut Vec<u8>, fields: &mut Pieces) -> Result<CallLine, Stop>
+    requires room { vec_len pool.old + sum_by length fields.old < 2 ^ 32 }
+    ensures read { Gives (λ call. (call, pool.new.items)) result
+        (seal_of pool.old.items fields.old) }
+    ensures within { IfOk result (IsCallWithin (vec_len pool.new)) }
+    ensures grown { IfOk result (λ call. vec_len pool.old + text_size call ≤ vec_len pool.new) }
+    ensures size { OnOk result (vec_len pool.new ≤ vec_len pool.old + sum_by length fields.old) }
+{
+    fields.exactly(3)?;
+    let context = fields.number(0, 65_535)? as u32;
+    let aad = fields.bytes(pool, MOST_FIELD)?;
+    let text = fields.bytes(pool, MOST_PLAINTEXT)?;
+    let item = Item { aad, text };
+    Ok(CallLine::Seal { context, item })
+}
+
+/// `unseal CTX AAD CT`
+#[tactic(auto, unfolding(crate::specs::Forms::unseal))]
+pub fn unseal(pool: &mut Vec<u8>, fields: &mut Pieces) -> Result<CallLine, Stop>
+    requires room { vec_len pool.old + sum_by length fields.old < 2 ^ 32 }
+    ensures read { Gives (λ call. (call, pool.new.items)) result
+        (unseal_of pool.old.items fields.old) }
+    ensures within { IfOk result (IsCallWithin (vec_len pool.new)) }
+    ensures grown { IfOk result (λ call. vec_len pool.old + text_size call ≤ vec_len pool.new) }
+    ensures size { OnOk result (vec_len pool.new ≤ vec_len pool.old + sum_by length fields.old) }
+{
+    fields.exactly(3)?;
+    let context = fields.number(0, 65_535)? as u32;
+    let aad = fields.bytes(pool, MOST_FIELD)?;
+    let text = fields.bytes(pool, MOST_CIPHERTEXT)?;
+    let item = Item { aad, text };
+    Ok(CallLine::Unseal { context, item })
+}
+
 /// `export CTX BYTES LEN`
 #[tactic(auto, unfolding(crate::specs::Forms::export))]
 pub fn export(pool: &mut Vec<u8>, fields: &mut Pieces) -> Result<CallLine, Stop>
@@ -54,12 +98,12 @@ pub fn export(pool: &mut Vec<u8>, fields: &mut Pieces) -> Result<CallLine, Stop>
     ensures read { Gives (λ call. (call, pool.new.items)) result
         (export_of pool.old.items fields.old) }
     ensures within { IfOk result (IsCallWithin (vec_len pool.new)) }
-    ensures grown { OnOk result (vec_len pool.old ≤ vec_len pool.new) }
+    ensures grown { IfOk result (λ call. vec_len pool.old + text_size call ≤ vec_len pool.new) }
     ensures size { OnOk result (vec_len pool.new ≤ vec_len pool.old + sum_by length fields.old) }
 {
     fields.exactly(3)?;
     let context = fields.number(0, 65_535)?;
-    let exporter = fields.bytes(pool, 65_535)?;
+    let exporter = fields.bytes(pool, MOST_FIELD)?;
     let size = fields.number(0, 65_535)?;
     Ok(CallLine::Export {
         context: context as u32,

@@ -73,6 +73,16 @@ pub struct ContextLine {
 /// One call of a lane, on the context of this number. Spans are of the plan's pool.
 #[derive(Clone, Copy, Debug, PartialEq, Eq)]
 pub enum CallLine {
+    /// `ContextS.Seal(aad, pt)` (RFC 9180, 5.2), with the item's text as pt.
+    Seal {
+        context: u32,
+        item: Item,
+    },
+    /// `ContextR.Open(aad, ct)` (RFC 9180, 5.2), with the item's text as ct.
+    Unseal {
+        context: u32,
+        item: Item,
+    },
     /// `Context.Export(exporter_context, L)` (RFC 9180, 5.3), with `size` as L, in bytes.
     Export {
         context: u32,

@@ -1,12 +1,13 @@
-use crate::bad_texts::{BAD, LONG};
+use crate::bad_texts::BAD;
+use crate::long_texts::{CIPHERTEXTS, LONG, LongCase, PLAINTEXTS};
 use crate::{
     BadBatch, CallLine, ContextKind, ContextLine, PlainList, ReadBatchFault, Reason, one_reading,
-    read_batch,
+    one_spelling, read_batch,
 };
-use call_places::Span;
+use call_places::{Item, Span};
 use hkdf_labelled::{Aead, Kdf};
 use key_schedule::{Mode, Role};
-use std::alloc::Global;
+use std::alloc::{AllocError, Global};
 use std::test::Fail;
 
 fn refusal_of(alloc: Global, text: &[u8]) -> Option<BadBatch> {
@@ -29,20 +30,43 @@ fn a_bad_text_has_its_first_bad_line_and_reason(rt: HostRuntime) -> Result<(), F
     Ok(())
 }
 
+// Whether the text of these parts has the bad line and the reason that are due.
+fn is_refused(alloc: Global, case: &LongCase) -> Result<bool, AllocError> {
+    let mut text = Vec::from_slice(alloc, case.before)?;
+    for _ in 0..case.times {
+        text.extend_from_slice(case.part)?;
+    }
+    text.extend_from_slice(case.after)?;
+    let want = BadBatch {
+        line: case.line,
+        reason: case.reason,
+    };
+    Ok(refusal_of(alloc, &text) == Some(want))
+}
+
 #[test]
 fn a_limit_is_passed_by_one(rt: HostRuntime) -> Result<(), Fail> {
     for case in &LONG {
         let what = case.what;
-        let mut text = Vec::from_slice(rt.alloc(), case.before)?;
-        for _ in 0..case.times {
-            text.extend_from_slice(case.part)?;
-        }
-        text.extend_from_slice(case.after)?;
-        let want = BadBatch {
-            line: case.line,
-            reason: case.reason,
-        };
-        assert_eq!(rt; refusal_of(rt.alloc(), &text), Some(want), "{what}");
+        assert!(rt; is_refused(rt.alloc(), case)?, "{what}");
+    }
+    Ok(())
+}
+
+#[test]
+fn a_plaintext_is_too_long_by_one(rt: HostRuntime) -> Result<(), Fail> {
+    for case in &PLAINTEXTS {
+        let what = case.what;
+        assert!(rt; is_refused(rt.alloc(), case)?, "{what}");
+    }
+    Ok(())
+}
+
+#[test]
+fn a_ciphertext_is_too_long_by_one(rt: HostRuntime) -> Result<(), Fail> {
+    for case in &CIPHERTEXTS {
+        let what = case.what;
+        assert!(rt; is_refused(rt.alloc(), case)?, "{what}");
     }
     Ok(())
 }
@@ -52,6 +76,8 @@ share send 32 1 2 00ff psk 0a0b 0102 03 1
 share recv 65535 3 65535 - base - - - 18446744073709551615
 lane
 export 0 4b 65535
+seal 1 0c0d 0e
+unseal 65535 - 0f10
 export 65535 - 0
 end
 ";
@@ -89,15 +115,29 @@ const CONTEXTS: [ContextLine; 2] = [
     },
 ];
 
-const CALLS: [CallLine; 2] = [
+const CALLS: [CallLine; 4] = [
     CallLine::Export {
         context: 0,
         exporter: Span { start: 7, len: 1 },
         size: 65_535,
     },
+    CallLine::Seal {
+        context: 1,
+        item: Item {
+            aad: Span { start: 8, len: 2 },
+            text: Span { start: 10, len: 1 },
+        },
+    },
+    CallLine::Unseal {
+        context: 65_535,
+        item: Item {
+            aad: Span { start: 11, len: 0 },
+            text: Span { start: 11, len: 2 },
+        },
+    },
     CallLine::Export {
         context: 65_535,
-        exporter: Span { start: 8, len: 0 },
+        exporter: Span { start: 13, len: 0 },
         size: 0,
     },
 ];
@@ -105,9 +145,12 @@ const CALLS: [CallLine; 2] = [
 #[test]
 fn a_batch_is_read_with_its_plan(rt: HostRuntime) -> Result<(), Fail> {
     one_reading();
+    one_spelling();
     match read_batch(rt.alloc(), WHOLE) {
         Ok(plan) => {
-            let pool = [0x00, 0xff, 0x0a, 0x0b, 0x01, 0x02, 0x03, 0x4b];
+            let pool = [
+                0x00, 0xff, 0x0a, 0x0b, 0x01, 0x02, 0x03, 0x4b, 0x0c, 0x0d, 0x0e, 0x0f, 0x10,
+            ];
             assert_eq!(rt; plan.pool.as_slice(), pool.as_slice());
             assert_eq!(rt; plan.contexts.as_slice(), CONTEXTS.as_slice());
             assert!(rt; plan.seed.is_none());

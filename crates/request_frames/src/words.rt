@@ -13,6 +13,8 @@ use key_schedule::{Mode, Role};
 pub enum LineWord {
     Share,
     Lane,
+    Seal,
+    Unseal,
     Export,
     End,
 }
@@ -35,6 +37,10 @@ pub fn line_word(fields: &mut Pieces) -> Result<LineWord, Reason>
         Ok(LineWord::Share)
     } else if piece == b"lane".as_slice() {
         Ok(LineWord::Lane)
+    } else if piece == b"seal".as_slice() {
+        Ok(LineWord::Seal)
+    } else if piece == b"unseal".as_slice() {
+        Ok(LineWord::Unseal)
     } else if piece == b"export".as_slice() {
         Ok(LineWord::Export)
     } else if piece == b"end".as_slice() {

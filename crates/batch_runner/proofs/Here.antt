@@ -1,0 +1,93 @@
+-- The context and the journal that a call takes out of all, and what it puts back.
+use Rattle.std.proofs.Common.{◌≡◌, ◌<◌, ◌+◌, ℕ, List, [], ◌∷◌, length, get_or, set, Some, Result, Ok, sym, ap, subst, ◌∙◌, arith}
+use Rattle.std.specs.Prelude.{slice_get, option_map}
+use Rattle.std.proofs.lemmas.Option.{slice_get_within, slice_get-get_or, get_or_from_slice_get, same_Some}
+use Rattle.call_places.specs.declared.entries.Place.{Place}
+use Rattle.key_schedule.specs.declared.psks.PskFault.{PskFault}
+use Rattle.hpke_context.specs.Answers.{Item}
+use Rattle.hpke_context.specs.Contexts.{ContextView, answer_now}
+use Rattle.legal_journals.specs.Batches.{Ask, place}
+use Rattle.request_frames.specs.declared.plan.Plan.{Plan}
+use Rattle.batch_runner.specs.declared.standing.Standing.{Standing}
+use Rattle.batch_runner.specs.SetUp.{contexts_of}
+use Rattle.batch_runner.specs.Calls.{batch_of, journal_at, answer_line, place_reply}
+use Rattle.batch_runner.specs.Serving.{noted, asks_in, places_after, journals_of, standing_with, slot_after, StandAfter}
+use Rattle.batch_runner.proofs.Stands.{AsksOne, fits, stand_more, reply_here}
+
+pub index_same : {X : Type 0} (xs : List X) (i : ℕ) (d e : X) → i < length xs → get_or xs i d ≡ get_or xs i e
+index_same xs i d e lt = same_Some _ _ (sym (slice_get-get_or xs i d lt) ∙ slice_get-get_or xs i e lt)
+
+-- the slots of all contexts after k calls
+abbrev pub Slots : Plan → ℕ → List (Result Standing PskFault) → Type 0
+Slots plan k slots = (c : ℕ) → slice_get slots c ≡ option_map (slot_after plan k c) (slice_get (contexts_of plan) c)
+
+slot_found : (plan : Plan) (k c : ℕ) (slots : List (Result Standing PskFault)) (view : ContextView)
+    → slice_get (contexts_of plan) c ≡ Some (Ok view) → Slots plan k slots
+    → slice_get slots c ≡ Some (Ok (standing_with plan view (places_after plan k c)))
+unfolding slot_after
+slot_found plan k c slots view found stand = stand c ∙ ap (option_map (slot_after plan k c)) found
+
+pub slot_within : (plan : Plan) (k c : ℕ) (slots : List (Result Standing PskFault)) (view : ContextView)
+    → slice_get (contexts_of plan) c ≡ Some (Ok view) → Slots plan k slots → c < length slots
+slot_within plan k c slots view found stand = slice_get_within slots c _ (slot_found plan k c slots view found stand)
+
+pub slot_at : (plan : Plan) (k c : ℕ) (slots : List (Result Standing PskFault)) (view : ContextView) (d : Result Standing PskFault)
+    → slice_get (contexts_of plan) c ≡ Some (Ok view) → Slots plan k slots
+    → get_or slots c d ≡ Ok (standing_with plan view (places_after plan k c))
+slot_at plan k c slots view d found stand = get_or_from_slice_get slots c _ d (slot_found plan k c slots view found stand)
+
+pub standing_is : (plan : Plan) (k c : ℕ) (slots : List (Result Standing PskFault)) (view : ContextView) (d : Result Standing PskFault) (standing : Standing)
+    → slice_get (contexts_of plan) c ≡ Some (Ok view) → Slots plan k slots → get_or slots c d ≡ Ok standing
+    → standing ≡ standing_with plan view (places_after plan k c)
+standing_is plan k c slots view d standing found stand is =
+    let same : Ok standing ≡ Ok (standing_with plan view (places_after plan k c)) = sym is ∙ slot_at plan k c slots view d found stand in
+    cc
+
+-- what the context is
+pub context_is : (plan : Plan) (view : ContextView) (places : List Place) (standing : Standing) → standing ≡ standing_with plan view places
+    → standing.sequential.context ≡ view
+unfolding standing_with
+context_is plan view places standing is = ap (λ (s : Standing). s.sequential.context) is
+
+pub places_is : (plan : Plan) (view : ContextView) (places : List Place) (standing : Standing) → standing ≡ standing_with plan view places
+    → standing.places ≡ length places
+unfolding standing_with
+places_is plan view places standing is = ap (λ (s : Standing). s.places) is
+
+-- its journal has room
+pub room_here : (plan : Plan) (k d : ℕ) (a : Ask) (x : Item) (view : ContextView) (slots : List (Result Standing PskFault)) (books : List (List Place)) (standing : Standing) (e : List Place)
+    → AsksOne plan k d a x → StandAfter plan k slots books → d < length plan.contexts
+    → standing ≡ standing_with plan view (places_after plan k d) → standing.places < length (get_or books d e)
+room_here plan k d a x view slots books standing e asks stand within is =
+    let lt : d < length books = omega (arith, stand.count) in
+    let same : get_or books d e ≡ journal_at books d = index_same books d e [] lt in
+    omega (arith, places_is plan view (places_after plan k d) standing is, fits plan k d a x asks, (stand.journals d within).room, ap length same)
+
+-- all of them when they are put back
+pub stand_now : (plan : Plan) (k d : ℕ) (a : Ask) (x : Item) (view : ContextView) (slots : List (Result Standing PskFault)) (books : List (List Place))
+    (standing new : Standing) (e journal : List Place) (p : Place)
+    → AsksOne plan k d a x → slice_get (contexts_of plan) d ≡ Some (Ok view) → d < length plan.contexts → StandAfter plan k slots books
+    → standing ≡ standing_with plan view (places_after plan k d)
+    → new ≡ noted standing x → p ≡ place 0 k 0 → journal ≡ set (get_or books d e) standing.places p
+    → StandAfter plan (k + 1) (set slots d (Ok new)) (set books d journal)
+stand_now plan k d a x view slots books standing new e journal p asks found within stand is new_is p_is journal_is =
+    let places = places_after plan k d in
+    let lt : d < length books = omega (arith, stand.count) in
+    let whole : new ≡ noted (standing_with plan view places) x = new_is ∙ ap (λ (s : Standing). noted s x) is in
+    let written : journal ≡ set (journal_at books d) (length places) (place 0 k 0) =
+    journal_is
+    ∙ ap (λ j. set j standing.places p) (index_same books d e [] lt)
+    ∙ ap (λ n. set (journal_at books d) n p) (places_is plan view places standing is)
+    ∙ ap (set (journal_at books d) (length places)) p_is in
+    subst (λ (j : List Place). StandAfter plan (k + 1) (set slots d (Ok new)) (set books d j)) (sym written)
+    (subst (λ (s : Standing). StandAfter plan (k + 1) (set slots d (Ok s)) (set books d (set (journal_at books d) (length places) (place 0 k 0)))) (sym whole)
+    (stand_more plan k d a x view slots books asks found within stand))
+
+-- the reply is that of its place in the journal
+pub line_now : (plan : Plan) (k d : ℕ) (a : Ask) (x : Item) (view : ContextView) (standing : Standing) → batch_of plan ≡ asks_in plan ∷ []
+    → AsksOne plan k d a x → slice_get (contexts_of plan) d ≡ Some (Ok view) → d < length plan.contexts
+    → standing ≡ standing_with plan view (places_after plan k d)
+    → answer_line (Some (answer_now standing.sequential x)) ≡ place_reply plan (journals_of plan) d (place 0 k 0)
+line_now plan k d a x view standing batch asks found within is =
+    ap (λ (s : Standing). answer_line (Some (answer_now s.sequential x))) is
+    ∙ reply_here plan k d a x view batch asks found within

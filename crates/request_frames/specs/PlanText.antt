@@ -1,0 +1,87 @@
+-- The text of a plan, line by line in the order of the format. A line's pieces are parted by single
+-- spaces, and a line feed ends it. Numbers are decimal without leading zeros, bytes are lower-case
+-- hex digits, `-` for none. A span names bytes of the plan's pool.
+use Rattle.std.specs.Prelude.{ℕ, List, [], ◌∷◌, ◌++◌, codes, decimal}
+use Rattle.std.specs.List.{flat_map, join_with_byte}
+use Rattle.call_places.specs.Spans.{span_bytes}
+use Rattle.call_places.specs.declared.spans.Span.{Span}
+use Rattle.hkdf_labelled.specs.Suites.{kdf_id, aead_id}
+use Rattle.key_schedule.specs.declared.modes.Role.{Role}
+use Rattle.key_schedule.specs.declared.modes.Role.TheVariants.{Sender, Recipient}
+use Rattle.key_schedule.specs.declared.modes.Mode.{Mode}
+use Rattle.key_schedule.specs.declared.modes.Mode.TheVariants.{Base, Psk}
+use Rattle.field_text.specs.Cuts.{space}
+use Rattle.field_text.specs.Printing.{hex_text}
+use Rattle.request_frames.specs.declared.plan.ContextKind.{ContextKind}
+use Rattle.request_frames.specs.declared.plan.ContextKind.TheVariants.{Share}
+use Rattle.request_frames.specs.declared.plan.ContextLine.{ContextLine}
+use Rattle.request_frames.specs.declared.plan.CallLine.{CallLine}
+use Rattle.request_frames.specs.declared.plan.CallLine.TheVariants.{Seal, Unseal, Export}
+use Rattle.request_frames.specs.declared.plan.Plan.{Plan}
+
+-- ---- pieces
+
+-- ROLE
+abbrev pub role_word : Role → List ℕ
+role_word Sender = codes "send"
+role_word Recipient = codes "recv"
+
+-- MODE
+abbrev pub mode_word : Mode → List ℕ
+mode_word Base = codes "base"
+mode_word Psk = codes "psk"
+
+-- a bytes field
+abbrev pub span_text : List ℕ → Span → List ℕ
+span_text pool span = hex_text (span_bytes pool span)
+
+-- of a context line of each kind: `share ROLE KEM KDF AEAD SECRET MODE INFO PSK PSKID LIMIT`
+abbrev pub context_pieces : List ℕ → ContextLine → ContextKind → List (List ℕ)
+context_pieces pool context (Share role kem secret) =
+    codes "share"
+    ∷ role_word role
+    ∷ decimal kem
+    ∷ decimal (kdf_id context.kdf)
+    ∷ decimal (aead_id context.aead)
+    ∷ span_text pool secret
+    ∷ mode_word context.mode
+    ∷ span_text pool context.info
+    ∷ span_text pool context.psk
+    ∷ span_text pool context.psk_id
+    ∷ decimal context.limit
+    ∷ []
+
+-- of a call line: `seal CTX AAD PT`, `unseal CTX AAD CT`, `export CTX BYTES LEN`
+abbrev pub call_pieces : List ℕ → CallLine → List (List ℕ)
+call_pieces pool (Seal context item) =
+    codes "seal" ∷ decimal context ∷ span_text pool item.aad ∷ span_text pool item.text ∷ []
+call_pieces pool (Unseal context item) =
+    codes "unseal" ∷ decimal context ∷ span_text pool item.aad ∷ span_text pool item.text ∷ []
+call_pieces pool (Export context exporter size) =
+    codes "export" ∷ decimal context ∷ span_text pool exporter ∷ decimal size ∷ []
+
+-- ---- lines
+
+-- a line of these pieces
+abbrev pub line_text : List (List ℕ) → List ℕ
+line_text pieces = join_with_byte space pieces ++ codes "\n"
+
+-- a context line
+abbrev pub context_text : List ℕ → ContextLine → List ℕ
+context_text pool context = line_text (context_pieces pool context context.kind)
+
+-- a call line
+abbrev pub call_text : List ℕ → CallLine → List ℕ
+call_text pool call = line_text (call_pieces pool call)
+
+-- `lane` and the lines of its calls
+abbrev pub lane_text : List ℕ → List CallLine → List ℕ
+lane_text pool calls = codes "lane\n" ++ flat_map (call_text pool) calls
+
+-- the whole text
+abbrev pub text_of : Plan → List ℕ
+text_of plan =
+    codes "hpkebatch 1\n"
+    ++ flat_map (context_text plan.pool) plan.contexts
+    ++ flat_map (lane_text plan.pool) plan.lanes
+    ++ codes "end\n"

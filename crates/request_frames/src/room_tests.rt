@@ -1,0 +1,132 @@
+//! The refusals of a plan's calls, and the room for its replies.
+
+ghost use Rattle.request_frames.specs.Limits.{IsWithinLimits};
+
+use crate::{Answers, CallRefusal, ContextReply, PlainList, Plan, call_refusal, read_batch};
+use std::alloc::Global;
+use std::test::Fail;
+
+// A batch of one lane with the export limits of its contexts, and what is due for it: the refusal of
+// each call, the bytes of all replies, and the places of each journal.
+struct RoomCase {
+    source: &'static str,
+    text: &'static str,
+    export_limits: &'static [u32],
+    refusals: &'static [Option<CallRefusal>],
+    bytes: usize,
+    places: &'static [usize],
+}
+
+const ROOMS: [RoomCase; 5] = [
+    RoomCase {
+        source: "RFC 9180, A.1.1.1, sequence numbers 0 and 1: two seals",
+        text: "hpkebatch 1\nshare send 32 1 1 fe0e18c9f024ce43799ae393c7e8fe8fce9d218875e8227b0187c04e7d2ea1fc base 4f6465206f6e2061204772656369616e2055726e - - 2\nlane\nseal 0 436f756e742d30 4265617574792069732074727574682c20747275746820626561757479\nseal 0 436f756e742d31 4265617574792069732074727574682c20747275746820626561757479\nend\n",
+        export_limits: &[8_160],
+        refusals: &[None, None],
+        bytes: 90,
+        places: &[2],
+    },
+    RoomCase {
+        source: "the same, opened, and once more with another tag",
+        text: "hpkebatch 1\nshare recv 32 1 1 fe0e18c9f024ce43799ae393c7e8fe8fce9d218875e8227b0187c04e7d2ea1fc base 4f6465206f6e2061204772656369616e2055726e - - 1\nlane\nunseal 0 436f756e742d30 f938558b5d72f1a23810b4be2ab4f84331acc02fc97babc53a52ae8218a355a96d8770ac83d07bea87e13c512a\nunseal 0 436f756e742d31 af2d7e9ac9ae7e270f46ba1f975be53c09f8d875bdc8535458c2494e8a6eab251c03d0c22a56b8ca42c2063b84\nunseal 0 436f756e742d31 af2d7e9ac9ae7e270f46ba1f975be53c09f8d875bdc8535458c2494e8a6eab251c03d0c22a56b8ca42c2063b85\nend\n",
+        export_limits: &[8_160],
+        refusals: &[None, None, None],
+        bytes: 87,
+        places: &[3],
+    },
+    RoomCase {
+        source: "own: an export-only context",
+        text: "hpkebatch 1\nshare send 32 1 65535 fe0e18c9f024ce43799ae393c7e8fe8fce9d218875e8227b0187c04e7d2ea1fc base - - - 1\nlane\nseal 0 - -\nexport 0 - 8160\nexport 0 - 8161\nexport 0 - 0\nend\n",
+        export_limits: &[8_160],
+        refusals: &[
+            Some(CallRefusal::NoCipher),
+            None,
+            Some(CallRefusal::ExportSize),
+            None,
+        ],
+        bytes: 8160,
+        places: &[0],
+    },
+    RoomCase {
+        source: "own: a recipient, and a number of no context",
+        text: "hpkebatch 1\nshare recv 32 1 1 fe0e18c9f024ce43799ae393c7e8fe8fce9d218875e8227b0187c04e7d2ea1fc base 4f6465206f6e2061204772656369616e2055726e - - 9\nlane\nseal 0 - -\nunseal 1 - -\nunseal 0 - 00\nend\n",
+        export_limits: &[8_160],
+        refusals: &[Some(CallRefusal::Role), Some(CallRefusal::NoContext), None],
+        bytes: 0,
+        places: &[1],
+    },
+    RoomCase {
+        source: "own: three contexts, the first of which was refused",
+        text: "hpkebatch 1\nshare recv 32 1 1 fe0e18c9f024ce43799ae393c7e8fe8fce9d218875e8227b0187c04e7d2ea1fc base 4f6465206f6e2061204772656369616e2055726e - - 1\nshare send 32 1 1 fe0e18c9f024ce43799ae393c7e8fe8fce9d218875e8227b0187c04e7d2ea1fc base 4f6465206f6e2061204772656369616e2055726e - - 9\nshare recv 32 1 65535 fe0e18c9f024ce43799ae393c7e8fe8fce9d218875e8227b0187c04e7d2ea1fc base 4f6465206f6e2061204772656369616e2055726e - - 9\nlane\nunseal 0 436f756e742d30 f938558b5d72f1a23810b4be2ab4f84331acc02fc97babc53a52ae8218a355a96d8770ac83d07bea87e13c512a\nunseal 1 436f756e742d30 f938558b5d72f1a23810b4be2ab4f84331acc02fc97babc53a52ae8218a355a96d8770ac83d07bea87e13c512a\nseal 1 - 00\nseal 2 - -\nunseal 2 - -\nexport 0 - 0\nexport 2 - 3\nend\n",
+        export_limits: &[0, 8_160, 8_160],
+        refusals: &[
+            Some(CallRefusal::NoContext),
+            Some(CallRefusal::Role),
+            None,
+            Some(CallRefusal::Role),
+            Some(CallRefusal::NoCipher),
+            Some(CallRefusal::NoContext),
+            None,
+        ],
+        bytes: 20,
+        places: &[0, 1, 0],
+    },
+];
+
+// The answers of a plan whose contexts all stand.
+fn answers(alloc: Global, plan: &Plan, export_limits: &[u32]) -> Result<Answers, Fail>
+    requires { IsWithinLimits plan.now }
+{
+    let keys = PlainList::from_vec(Vec::new(alloc));
+    let mut contexts = Vec::new(alloc);
+    for _line in plan.contexts.as_slice() {
+        contexts.push(ContextReply::Shared)?;
+    }
+    let contexts = PlainList::from_vec(contexts);
+    Ok(Answers::for_plan(alloc, plan, keys, contexts, export_limits)?)
+}
+
+fn places_of(alloc: Global, answers: &Answers) -> Result<Vec<usize>, Fail> {
+    let mut places = Vec::new(alloc);
+    for journal in answers.journals.as_slice() {
+        places.push(journal.as_slice().len())?;
+    }
+    Ok(places)
+}
+
+#[test]
+fn each_call_has_its_room_or_its_refusal(rt: HostRuntime) -> Result<(), Fail> {
+    let alloc = rt.alloc();
+    for case in &ROOMS {
+        let source = case.source;
+        let Ok(plan) = read_batch(alloc, case.text.as_bytes()) else {
+            assert!(rt; false, "{source}");
+            return Ok(());
+        };
+        let answers = answers(alloc, &plan, case.export_limits)?;
+        let [calls] = plan.lanes.as_slice() else {
+            assert!(rt; false, "{source}");
+            return Ok(());
+        };
+        let [lane] = answers.lanes.as_slice() else {
+            assert!(rt; false, "{source}");
+            return Ok(());
+        };
+        for (call, want) in calls.as_slice().iter().zip(case.refusals) {
+            let refusal = call_refusal(plan.contexts.as_slice(), case.export_limits, call);
+            assert_eq!(rt; refusal, *want, "{source}");
+        }
+        assert_eq!(rt; lane.pool.as_slice().len(), case.bytes, "{source}");
+        assert_eq!(rt;
+            lane.replies.as_slice().len(),
+            case.refusals.len(),
+            "{source}"
+        );
+        assert_eq!(rt;
+            places_of(alloc, &answers)?.as_slice(),
+            case.places,
+            "{source}"
+        );
+    }
+    Ok(())
+}
