@@ -1,0 +1,6 @@
+mod Parts
+mod Rounds
+mod Drawing
+mod Agreement
+mod Generating
+mod Choosing

@@ -1,0 +1,4 @@
+pub mod Sizes
+pub mod Hashes
+pub mod Kem
+pub mod Laws

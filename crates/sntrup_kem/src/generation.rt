@@ -1,0 +1,146 @@
+//! How keys are made from random words.
+
+ghost use Rattle.std.specs.Prelude.{◌≡◌, ◌≢◌, ◌↔◌, ℕ, ◌+◌, ◌*◌, ◌^◌, ◌<◌, ◌≤◌, length, take, ◌++◌, IfOk, OnOk, vec_len};
+ghost use Rattle.radix_pack.specs.Codings.{small_length, rq_length, IsMalformed};
+ghost use Rattle.sntrup_core.specs.Keys.{FindsG, IsExhausted, FindsNoInverse};
+ghost use Rattle.sntrup_kem.specs.Sizes.{degree, modulus, weight, rho_words, secret_size};
+ghost use Rattle.sntrup_kem.specs.Hashes.{key_hash};
+ghost use Rattle.sntrup_kem.specs.Kem.{word_bytes, drawn_rho, IsCodedKey, IsGenerated};
+
+use crate::hashes::key_hash;
+use crate::keys::{PublicKey, SecretKey};
+use radix_pack::{ByteList, rq_encode, small_encode};
+use rand_words::Words;
+use ring_core::{Multiplier, Params, Sntrup761};
+use sntrup_core::{KeyFault, keygen};
+use std::alloc::{AllocError, Global};
+
+// How many words rho is made of, and how many of their bytes it has.
+const RHO_WORDS: usize = 48;
+
+const RHO_SIZE: usize = 191;
+
+const SECRET_SIZE: usize = 1763;
+
+// The codings of a key.
+#[derive(Drop)]
+struct CodedKey {
+    public: ByteList,
+    f: ByteList,
+    ginv: ByteList,
+}
+
+// KeyGen, and its codings.
+fn coded_key<S: Params, R: Words, M: Multiplier>(
+    alloc: Global,
+    words: &mut R,
+    mult: &M,
+) -> Result<CodedKey, KeyFault>
+    requires { R.place words.old + 65 * S.P ≤ 2 ^ 32 }
+    ensures key { IfOk result (λ k. (j : ℕ)
+        × FindsG S.P (R.word words.old) (R.place words.old) j
+        × (j < 64)
+        × (R.place words.new ≡ R.place words.old + (j + 2) * S.P)
+        × IsCodedKey S.P S.modulus S.W (R.word words.old) (R.place words.old) j
+        k.public k.f k.ginv) }
+    ensures public_count { IfOk result (λ k. length k.public ≡ rq_length S.modulus S.P) }
+    ensures f_count { IfOk result (λ k. length k.f ≡ small_length S.P) }
+    ensures ginv_count { IfOk result (λ k. length k.ginv ≡ small_length S.P) }
+    ensures f_form { IfOk result (λ k. ¬ IsMalformed S.P k.f) }
+    ensures ginv_form { IfOk result (λ k. ¬ IsMalformed S.P k.ginv) }
+    ensures exhausted { result ≢ Err KeyFault.OutOfMemory → ((result ≡ Err KeyFault.Exhausted)
+        ↔ IsExhausted S.P (R.word words.old) (R.place words.old)) }
+    ensures no_inverse { result ≢ Err KeyFault.OutOfMemory → ((result ≡ Err KeyFault.NoInverse)
+        ↔ FindsNoInverse S.P S.modulus S.W (R.word words.old) (R.place words.old)) }
+    ensures taken { result ≢ Err KeyFault.OutOfMemory
+        → (j : ℕ) → FindsG S.P (R.word words.old) (R.place words.old) j
+        → R.place words.new ≡ R.place words.old + (j + 2) * S.P }
+    ensures exhausted_taken { result ≡ Err KeyFault.Exhausted
+        → R.place words.new ≡ R.place words.old + 64 * S.P }
+    ensures stays { R.word words.new ≡ R.word words.old }
+{
+    let (public, secret) = keygen::<S, R, M>(alloc, words, mult)?;
+    Ok(CodedKey {
+        public: rq_encode(alloc, &public.h)?,
+        f: small_encode(alloc, &secret.f)?,
+        ginv: small_encode(alloc, &secret.ginv)?,
+    })
+}
+
+// The next words as bytes, each its low byte first.
+fn draw_bytes<R: Words>(alloc: Global, words: &mut R, count: usize) -> Result<Vec<u8>, AllocError>
+    requires { R.place words.old + count ≤ 2 ^ 32 }
+    ensures bytes { IfOk result (λ v. v.items
+        ≡ word_bytes (R.word words.old) (R.place words.old) count) }
+    ensures taken { OnOk result (R.place words.new ≡ R.place words.old + count) }
+    ensures stays { R.word words.new ≡ R.word words.old }
+{
+    let mut bytes = Vec::new(alloc);
+    for _word in 0..count {
+        bytes.extend_from_slice(&words.next_word().to_le_bytes())?;
+    }
+    Ok(bytes)
+}
+
+// rho, from the next 48 words.
+fn draw_rho<R: Words>(alloc: Global, words: &mut R) -> Result<ByteList, AllocError>
+    requires { R.place words.old + rho_words ≤ 2 ^ 32 }
+    ensures bytes { IfOk result (λ b. b ≡ drawn_rho (R.word words.old) (R.place words.old)) }
+    ensures count { IfOk result (λ b. length b ≡ 191) }
+    ensures taken { OnOk result (R.place words.new ≡ R.place words.old + rho_words) }
+    ensures stays { R.word words.new ≡ R.word words.old }
+{
+    let mut bytes = draw_bytes(alloc, words, RHO_WORDS)?;
+    bytes.truncate(RHO_SIZE);
+    Ok(ByteList::from_vec(bytes))
+}
+
+// The parts of a secret key, one after the other.
+fn secret_bytes(alloc: Global, key: &CodedKey, rho: &ByteList) -> Result<ByteList, AllocError>
+    ensures bytes { IfOk result (λ b. b ≡ key.now.f ++ key.now.ginv ++ key.now.public ++ rho.now
+        ++ key_hash key.now.public) }
+    ensures count { IfOk result (λ b. length b ≡ length key.now.f + length key.now.ginv
+        + length key.now.public + length rho.now + 32) }
+{
+    let mut bytes = Vec::with_capacity(alloc, SECRET_SIZE)?;
+    bytes.extend_from_slice(key.f.as_slice())?;
+    bytes.extend_from_slice(key.ginv.as_slice())?;
+    bytes.extend_from_slice(key.public.as_slice())?;
+    bytes.extend_from_slice(rho.as_slice())?;
+    bytes.extend_from_slice(&key_hash(key.public.as_slice()))?;
+    Ok(ByteList::from_vec(bytes))
+}
+
+/// KeyGen with rho (NTRU Prime round 3): a pair of keys from random words.
+///
+/// Takes the words of [`keygen`], and where these give a key 48 more. After `OutOfMemory` some words
+/// may have been taken.
+pub fn generate<R: Words, M: Multiplier>(
+    alloc: Global,
+    words: &mut R,
+    mult: &M,
+) -> Result<(PublicKey, SecretKey), KeyFault>
+    requires { R.place words.old + 65 * degree + rho_words ≤ 2 ^ 32 }
+    ensures keys { IfOk result (λ k. (j : ℕ)
+        × FindsG degree (R.word words.old) (R.place words.old) j
+        × IsGenerated (R.word words.old) (R.place words.old) j k.0 k.1
+        × (R.place words.new ≡ R.place words.old + (j + 2) * degree + rho_words)) }
+    ensures exhausted { result ≢ Err KeyFault.OutOfMemory → ((result ≡ Err KeyFault.Exhausted)
+        ↔ IsExhausted degree (R.word words.old) (R.place words.old)) }
+    ensures no_inverse { result ≢ Err KeyFault.OutOfMemory → ((result ≡ Err KeyFault.NoInverse)
+        ↔ FindsNoInverse degree modulus weight (R.word words.old) (R.place words.old)) }
+    ensures exhausted_taken { result ≡ Err KeyFault.Exhausted
+        → R.place words.new ≡ R.place words.old + 64 * degree }
+    ensures no_inverse_taken { result ≡ Err KeyFault.NoInverse
+        → (j : ℕ) → FindsG degree (R.word words.old) (R.place words.old) j
+        → R.place words.new ≡ R.place words.old + (j + 2) * degree }
+    ensures stays { R.word words.new ≡ R.word words.old }
+{
+    let key = coded_key::<Sntrup761, R, M>(alloc, words, mult)?;
+    let rho = draw_rho(alloc, words)?;
+    let secret = secret_bytes(alloc, &key, &rho)?;
+    Ok((
+        PublicKey::from_list(key.public),
+        SecretKey::from_list(secret),
+    ))
+}
