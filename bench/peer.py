@@ -53,7 +53,6 @@ class Context:
     def export(self, exporter_context, size):
         return self.labeled_expand(self.exporter_secret, b"sec", exporter_context, size)
 
-
     def gcm(self):
         if self.cipher is None:
             from cryptography.hazmat.primitives.ciphers.aead import AESGCM
