@@ -1,5 +1,8 @@
 //! Why a call of a context is refused.
 
+ghost use Rattle.std.specs.Prelude.{Some};
+ghost use Rattle.hpke_context.specs.Faults.{fault_text};
+
 use std::error::Error;
 use std::fmt;
 
@@ -19,14 +22,16 @@ pub enum CallFault {
 }
 
 impl fmt::Display for CallFault {
+    ghost output = { λ fault. Some (fault_text fault) };
+
     fn fmt<W: fmt::Write>(&self, f: &mut fmt::Formatter<W>) -> fmt::Result {
-        match self {
-            CallFault::Role => write!(f, "the other role's call"),
-            CallFault::NoCipher => write!(f, "the suite is export-only"),
-            CallFault::Limit => write!(f, "the sequence number is at its limit"),
-            CallFault::Failed => write!(f, "the tag does not hold"),
-            CallFault::ExportSize => write!(f, "the export is too long"),
-        }
+        f.write_str(match self {
+            CallFault::Role => "the other role's call",
+            CallFault::NoCipher => "the suite is export-only",
+            CallFault::Limit => "the sequence number is at its limit",
+            CallFault::Failed => "the tag does not hold",
+            CallFault::ExportSize => "the export is too long",
+        })
     }
 }
 

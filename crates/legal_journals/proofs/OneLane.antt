@@ -3,6 +3,7 @@ use Rattle.std.proofs.Common.{◌≡◌, ◌≢◌, ℕ, zero, suc, ◌+◌, ◌
 use Rattle.std.specs.Prelude.{slice_get}
 use Rattle.call_places.specs.declared.entries.Place.{Place}
 use Rattle.hpke_context.specs.Answers.{Cipher, Item, Seal, Unseal, answer, run, due, next}
+use Rattle.hpke_context.proofs.Runs.{due-append}
 use Rattle.legal_journals.specs.Batches.{Batch, Ask, Seals, Opens, Message, block, place, asked, all_asked, on, lane_of, lane_places, item_of, items_of, item_in_call, item_or_none, IsServed}
 use Rattle.legal_journals.specs.Legal.{OpensOn, StandTogether, Legal, is_same_place, reply_in, reply_of, due_after}
 use Rattle.legal_journals.proofs.Lists.{own, on-append, on-spots_same, own-on, own_spots-all_asked, own_spots-all_asked_other, all_asked-append, append-nil}
@@ -166,10 +167,6 @@ items_of-append batch (p ∷ xs) ys = ap (item_or_none (item_of batch p)) (items
     step : (o : Option (ℕ × Item)) → item_or_none o (items_of batch xs ++ items_of batch ys) ≡ item_or_none o (items_of batch xs) ++ items_of batch ys
     step None = refl
     step (Some x) = refl
-
-due-append : (c : Cipher) (n : ℕ) (xs ys : List Item) → due c n (xs ++ ys) ≡ due c (due c n xs) ys
-due-append c n [] ys = refl
-due-append c n (x ∷ xs) ys = due-append c (next n (answer c n x)) xs ys
 
 -- a call of one item on this context is answered at the number that is due
 pub due_more : (asks : List Ask) (context : ℕ) (c : Cipher) (k : ℕ) (a : Ask) (x : Item) → slice_get asks k ≡ Some a
