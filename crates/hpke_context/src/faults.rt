@@ -10,15 +10,15 @@ use std::fmt;
 #[derive(Clone, Copy, Debug, PartialEq, Eq)]
 pub enum CallFault {
     /// A recipient doesn't seal, and a sender doesn't open.
-    Role,
+    Role = 1,
     /// The suite is export-only.
-    NoCipher,
+    NoCipher = 2,
     /// The sequence number has come to LIMIT.
-    Limit,
+    Limit = 3,
     /// The tag doesn't hold at the number that is due: the bytes were changed, or are out of order.
-    Failed,
+    Failed = 4,
     /// More than 255 Nh bytes are asked for.
-    ExportSize,
+    ExportSize = 5,
 }
 
 impl fmt::Display for CallFault {

@@ -2,3 +2,4 @@ pub mod Psks
 pub mod Schedule
 pub mod Exports
 pub mod Nonces
+pub mod Faults

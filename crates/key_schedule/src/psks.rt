@@ -1,21 +1,38 @@
 //! Whether a pre-shared key fits the mode (RFC 9180, 5.1).
 
-ghost use Rattle.std.specs.Prelude.{◌≡◌, ◌↔◌, []};
+ghost use Rattle.std.specs.Prelude.{◌≡◌, ◌↔◌, [], Some};
+ghost use Rattle.key_schedule.specs.Faults.{fault_text};
 ghost use Rattle.key_schedule.specs.Psks.{IsGiven, OneIsMissing, verify_psk_inputs};
 
 use crate::modes::Mode;
+use std::error::Error;
+use std::fmt;
 
 /// Why a psk, its id and the mode don't go together, in the order in which it is tested. An empty
 /// psk or psk_id is one that isn't given. The RFC raises an error in the same cases.
 #[derive(Clone, Copy, Debug, PartialEq, Eq)]
 pub enum PskFault {
     /// Exactly one of psk and psk_id is given.
-    Inconsistent,
+    Inconsistent = 1,
     /// A psk is given in mode base, which takes none.
-    Unneeded,
+    Unneeded = 2,
     /// No psk is given in mode psk.
-    Missing,
+    Missing = 3,
 }
+
+impl fmt::Display for PskFault {
+    ghost output = { λ fault. Some (fault_text fault) };
+
+    fn fmt<W: fmt::Write>(&self, f: &mut fmt::Formatter<W>) -> fmt::Result {
+        f.write_str(match self {
+            PskFault::Inconsistent => "one of psk and psk_id is missing",
+            PskFault::Unneeded => "mode base takes no psk",
+            PskFault::Missing => "mode psk needs a psk",
+        })
+    }
+}
+
+impl Error for PskFault {}
 
 // VerifyPSKInputs (RFC 9180, 5.1).
 pub(crate) fn verify_psk_inputs(mode: Mode, psk: &[u8], psk_id: &[u8]) -> Result<(), PskFault>

@@ -1,3 +1,4 @@
 pub mod Keys
 pub mod Encryption
 pub mod Laws
+pub mod Faults

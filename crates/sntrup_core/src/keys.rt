@@ -1,16 +1,19 @@
 //! Keys and how they are drawn.
 
-ghost use Rattle.std.specs.Prelude.{◌≡◌, ◌≢◌, ◌↔◌, ℕ, ◌+◌, ◌*◌, ◌^◌, ◌≤◌, IfOk, IfSome, IfNone, OnOk};
+ghost use Rattle.std.specs.Prelude.{◌≡◌, ◌≢◌, ◌↔◌, ℕ, ◌+◌, ◌*◌, ◌^◌, ◌≤◌, IfOk, IfSome, IfNone, OnOk, Some};
 ghost use Rattle.ring_inverse.specs.Reciprocals.{HasInverse};
 ghost use Rattle.rand_words.specs.Samples.{small};
 ghost use Rattle.rand_words.specs.Words.{words_from};
 ghost use Rattle.sntrup_core.specs.declared.keys.KeyFault.TheVariants.{OutOfMemory};
+ghost use Rattle.sntrup_core.specs.Faults.{fault_text};
 ghost use Rattle.sntrup_core.specs.Keys.{FindsG, IsExhausted, FindsNoInverse, IsKey, IsInvertible, IsFoundWith};
 
 use rand_words::{Words, short_random, small_random};
 use ring_core::{Multiplier, Params, Rq, Small};
 use ring_inverse::{Reciprocal, reciprocal_3, reciprocal_3f};
 use std::alloc::{AllocError, Global};
+use std::error::Error;
+use std::fmt;
 
 /// A public key: h = g/(3f) in R/q.
 #[derive(Drop)]
@@ -35,6 +38,20 @@ pub enum KeyFault {
     /// Memory ran out.
     OutOfMemory = 3,
 }
+
+impl fmt::Display for KeyFault {
+    ghost output = { λ fault. Some (fault_text fault) };
+
+    fn fmt<W: fmt::Write>(&self, f: &mut fmt::Formatter<W>) -> fmt::Result {
+        f.write_str(match self {
+            KeyFault::Exhausted => "no polynomial drawn for g has an inverse",
+            KeyFault::NoInverse => "3f has no inverse",
+            KeyFault::OutOfMemory => "out of memory",
+        })
+    }
+}
+
+impl Error for KeyFault {}
 
 impl From<AllocError> for KeyFault {
     ghost from_gives = { λ _ fault. fault ≡ OutOfMemory };

@@ -1,13 +1,16 @@
 //! Keys as bytes.
 
-ghost use Rattle.std.specs.Prelude.{◌≡◌, ◌≢◌, ◌↔◌, IsTrue, length, IfOk};
+ghost use Rattle.std.specs.Prelude.{◌≡◌, ◌≢◌, ◌↔◌, IsTrue, length, IfOk, Some};
 ghost use Rattle.radix_pack.specs.Codings.{IsMalformed};
 ghost use Rattle.sntrup_kem.specs.Sizes.{degree, small_size, public_size, hash_size, secret_size};
+ghost use Rattle.sntrup_kem.specs.Faults.{fault_text};
 ghost use Rattle.sntrup_kem.specs.Kem.{f_part, ginv_part, public_part, rho_part, hash_part, HasMalformedPart};
 
 use radix_pack::{ByteList, small_decode};
 use ring_core::Sntrup761;
 use std::alloc::{AllocError as OutOfMemory, Global};
+use std::error::Error;
+use std::fmt;
 use std::marker::Model;
 
 const SMALL_SIZE: usize = 191;
@@ -26,6 +29,20 @@ pub enum KeyBytesFault {
     /// Memory ran out.
     OutOfMemory = 3,
 }
+
+impl fmt::Display for KeyBytesFault {
+    ghost output = { λ fault. Some (fault_text fault) };
+
+    fn fmt<W: fmt::Write>(&self, f: &mut fmt::Formatter<W>) -> fmt::Result {
+        f.write_str(match self {
+            KeyBytesFault::Length => "the key has another length",
+            KeyBytesFault::Form => "the bytes encode no key",
+            KeyBytesFault::OutOfMemory => "out of memory",
+        })
+    }
+}
+
+impl Error for KeyBytesFault {}
 
 impl From<OutOfMemory> for KeyBytesFault {
     ghost use Rattle.sntrup_kem.specs.declared.keys.KeyBytesFault.TheVariants.{OutOfMemory};
