@@ -3,13 +3,25 @@ ghost use Rattle.std.specs.Prelude.{◌≡◌, length};
 use crate::encapsulation::hide;
 use crate::hashes::key_hash;
 use crate::{Enc, KeyBytesFault, PublicKey, SecretKey, decap, encap, generate};
-use hex::FromHex;
+use hex::{FromHex, FromHexError};
 use radix_pack::small_decode;
 use rand_words::SeedStream;
 use ring_core::{Plain, Sntrup761};
 use sha2::{Digest, Sha256};
 use std::alloc::Global;
+use std::process::Abort;
 use std::test::Fail;
+
+// The calls of the crate stand in small functions that promise nothing: what their contracts say of
+// p = 761 is long, and no test needs it.
+
+fn bytes_of(text: &str) -> Result<[u8; 32], FromHexError> {
+    <[u8; 32]>::from_hex(text)
+}
+
+fn digest_of(bytes: &[u8]) -> [u8; 32] {
+    Sha256::digest(bytes)
+}
 
 // The keys of stream 0 of a seed.
 fn keys_of(alloc: Global, seed: &[u8; 32]) -> Option<(PublicKey, SecretKey)> {
@@ -19,6 +31,29 @@ fn keys_of(alloc: Global, seed: &[u8; 32]) -> Option<(PublicKey, SecretKey)> {
 // The encapsulation of stream 1 of a seed, and its session key.
 fn encapsulated(alloc: Global, seed: &[u8; 32], public: &PublicKey) -> Option<(Enc, [u8; 32])> {
     encap(alloc, &mut SeedStream::new(seed, 1), &Plain, public).ok()
+}
+
+fn decapsulated(alloc: Global, enc: &[u8], secret: &SecretKey) -> Option<[u8; 32]>
+    requires { length enc.now ≡ 1039 }
+{
+    decap(alloc, &Plain, enc, secret).ok()
+}
+
+// The secret key that is read from another's bytes.
+fn read_again(alloc: Global, secret: &SecretKey) -> Option<SecretKey> {
+    SecretKey::from_bytes(alloc, secret.as_slice()).ok()
+}
+
+fn public_in(alloc: Global, secret: &SecretKey) -> Option<PublicKey> {
+    secret.public(alloc).ok()
+}
+
+fn fault_of_public(alloc: Global, bytes: &[u8]) -> Option<KeyBytesFault> {
+    PublicKey::from_bytes(alloc, bytes).err()
+}
+
+fn fault_of_secret(alloc: Global, bytes: &[u8]) -> Option<KeyBytesFault> {
+    SecretKey::from_bytes(alloc, bytes).err()
 }
 
 struct KemCase {
@@ -56,43 +91,59 @@ const KEM_CASES: [KemCase; 3] = [
     },
 ];
 
+fn assert_keys(
+    rt: &impl Abort,
+    case: &KemCase,
+    public: &PublicKey,
+    secret: &SecretKey,
+) -> Result<(), FromHexError> {
+    let seed = case.seed;
+    let want = bytes_of(case.sha256_pk)?;
+    assert_eq!(rt; digest_of(public.as_slice()), want, "public key, {seed}");
+    let want = bytes_of(case.sha256_sk)?;
+    assert_eq!(rt; digest_of(secret.as_slice()), want, "secret key, {seed}");
+    Ok(())
+}
+
+// Encapsulates for the public key, and decapsulates with the secret key.
+fn assert_session(
+    rt: &impl Abort,
+    alloc: Global,
+    case: &KemCase,
+    public: &PublicKey,
+    secret: &SecretKey,
+) -> Result<(), FromHexError> {
+    let seed = case.seed;
+    let made = encapsulated(alloc, &bytes_of(seed)?, public);
+    let (enc, key) = made.expect(rt, "an encapsulation");
+    let want = bytes_of(case.sha256_enc)?;
+    assert_eq!(rt; digest_of(enc.as_slice()), want, "encapsulation, {seed}");
+    let want = bytes_of(case.shared_secret)?;
+    assert_eq!(rt; key, want, "session key, {seed}");
+    let opened = decapsulated(alloc, enc.as_slice(), secret);
+    assert_eq!(rt; opened, Some(want), "decapsulated, {seed}");
+    Ok(())
+}
+
+fn assert_case(rt: &impl Abort, alloc: Global, case: &KemCase) -> Result<(), FromHexError> {
+    let seed = case.seed;
+    let (public, secret) = keys_of(alloc, &bytes_of(seed)?).expect(rt, "keys");
+    assert_keys(rt, case, &public, &secret)?;
+    let read = read_again(alloc, &secret).expect(rt, "a secret key");
+    assert_session(rt, alloc, case, &public, &read)?;
+    let held = public_in(alloc, &read).expect(rt, "a public key");
+    assert_eq!(rt;
+        held.as_slice(),
+        public.as_slice(),
+        "held public key, {seed}"
+    );
+    Ok(())
+}
+
 #[test]
 fn keys_and_session_keys_are_those_of_other_implementations(rt: HostRuntime) -> Result<(), Fail> {
     for case in &KEM_CASES {
-        let seed = case.seed;
-        let seed_bytes = <[u8; 32]>::from_hex(seed)?;
-        let (public, secret) = keys_of(rt.alloc(), &seed_bytes).expect(&rt, "keys");
-        let want = <[u8; 32]>::from_hex(case.sha256_pk)?;
-        assert_eq!(rt;
-            Sha256::digest(public.as_slice()),
-            want,
-            "public key, {seed}"
-        );
-        let want = <[u8; 32]>::from_hex(case.sha256_sk)?;
-        assert_eq!(rt;
-            Sha256::digest(secret.as_slice()),
-            want,
-            "secret key, {seed}"
-        );
-        let made = encapsulated(rt.alloc(), &seed_bytes, &public);
-        let (enc, key) = made.expect(&rt, "an encapsulation");
-        let want = <[u8; 32]>::from_hex(case.sha256_enc)?;
-        assert_eq!(rt;
-            Sha256::digest(enc.as_slice()),
-            want,
-            "encapsulation, {seed}"
-        );
-        let want = <[u8; 32]>::from_hex(case.shared_secret)?;
-        assert_eq!(rt; key, want, "session key, {seed}");
-        let read = SecretKey::from_bytes(rt.alloc(), secret.as_slice())?;
-        let opened = decap(rt.alloc(), &Plain, enc.as_slice(), &read)?;
-        assert_eq!(rt; opened, want, "decapsulated, {seed}");
-        let held = read.public(rt.alloc())?;
-        assert_eq!(rt;
-            held.as_slice(),
-            public.as_slice(),
-            "held public key, {seed}"
-        );
+        assert_case(&rt, rt.alloc(), case)?;
     }
     Ok(())
 }
@@ -152,7 +203,7 @@ fn light_key(alloc: Global, public: &PublicKey, secret: &SecretKey) -> Option<[u
     let light = small_decode::<Sntrup761>(alloc, &light_coding()).ok()??;
     let kept = key_hash(public.as_slice());
     let hidden = hide(alloc, &Plain, public.as_slice(), &kept, &light).ok()?;
-    decap(alloc, &Plain, hidden.enc.as_slice(), secret).ok()
+    decapsulated(alloc, hidden.enc.as_slice(), secret)
 }
 
 #[test]
@@ -162,11 +213,11 @@ fn other_ciphertexts_get_the_rejection_key(rt: HostRuntime) -> Result<(), Fail> 
     let (enc, _) = made.expect(&rt, "an encapsulation");
     for case in &REJECTED {
         let place = case.place;
-        let key = decap(rt.alloc(), &Plain, &spoilt(enc.as_slice(), place), &secret)?;
-        assert_eq!(rt; key, <[u8; 32]>::from_hex(case.key)?, "byte {place}");
+        let key = decapsulated(rt.alloc(), &spoilt(enc.as_slice(), place), &secret);
+        assert_eq!(rt; key, Some(bytes_of(case.key)?), "byte {place}");
     }
     let key = light_key(rt.alloc(), &public, &secret);
-    assert_eq!(rt; key, Some(<[u8; 32]>::from_hex(WEIGHT_285)?), "weight 285");
+    assert_eq!(rt; key, Some(bytes_of(WEIGHT_285)?), "weight 285");
     Ok(())
 }
 
@@ -194,12 +245,12 @@ fn high_public() -> [u8; 1158] {
 #[test]
 fn bytes_of_no_key_are_refused(rt: HostRuntime) -> Result<(), Fail> {
     let zeros = secret_with(0, 0);
-    let short = SecretKey::from_bytes(rt.alloc(), &short_secret());
-    assert_eq!(rt; short.err(), Some(KeyBytesFault::Length), "1762 bytes");
+    let short = fault_of_secret(rt.alloc(), &short_secret());
+    assert_eq!(rt; short, Some(KeyBytesFault::Length), "1762 bytes");
     let whole = SecretKey::from_bytes(rt.alloc(), &zeros)?;
     assert_eq!(rt; whole.as_slice(), &zeros[..], "zeros");
     for place in [0, 190, 191, 381] {
-        let fault = SecretKey::from_bytes(rt.alloc(), &secret_with(place, 0xff)).err();
+        let fault = fault_of_secret(rt.alloc(), &secret_with(place, 0xff));
         assert_eq!(rt; fault, Some(KeyBytesFault::Form), "ff at {place}");
     }
     Ok(())
@@ -208,8 +259,8 @@ fn bytes_of_no_key_are_refused(rt: HostRuntime) -> Result<(), Fail> {
 #[test]
 fn every_1158_bytes_are_a_public_key(rt: HostRuntime) -> Result<(), Fail> {
     let high = high_public();
-    let short = PublicKey::from_bytes(rt.alloc(), &short_public());
-    assert_eq!(rt; short.err(), Some(KeyBytesFault::Length), "1157 bytes");
+    let short = fault_of_public(rt.alloc(), &short_public());
+    assert_eq!(rt; short, Some(KeyBytesFault::Length), "1157 bytes");
     let public = PublicKey::from_bytes(rt.alloc(), &high)?;
     assert_eq!(rt; public.as_slice(), &high[..], "1158 bytes ff");
     let made = encapsulated(rt.alloc(), &[0; 32], &public);
