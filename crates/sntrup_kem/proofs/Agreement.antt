@@ -1,17 +1,17 @@
 -- Both ends get the same session key.
-use Rattle.std.proofs.Common.{◌≡◌, ℕ, ◌+◌, ◌*◌, ◌≤◌, ℤ, List, ◌++◌, length, take, arith, ap, sym, ◌∙◌, refl}
+use Rattle.std.proofs.Common.{◌≡◌, ℕ, ◌+◌, ◌*◌, ℤ, List, length, take, arith, ap, ◌∙◌, refl}
 use Rattle.std.specs.Prelude.{bytes_eq}
 use Rattle.std.proofs.lemmas.Bool.{cond-true, cond-false, false_from_ne_true}
 use Rattle.std.proofs.lemmas.List.{take_at}
 use Rattle.std.proofs.lemmas.Slice.Eq.{bytes_eq-Decides}
-use Rattle.radix_pack.specs.Codings.{small_encode, rq_encode}
+use Rattle.radix_pack.specs.Codings.{small_encode}
 use Rattle.radix_pack.specs.Lengths.{rq_length_761, rounded_length_761}
 use Rattle.radix_pack.proofs.ElementLaws.{length-rq_encode}
 use Rattle.radix_pack.proofs.SmallLaws.{length-small_encode}
 use Rattle.sntrup_core.specs.Laws.{IsShort}
 use Rattle.sntrup_kem.specs.Sizes.{degree, modulus, weight, rho_words}
 use Rattle.sntrup_kem.specs.Hashes.{hash_confirm, hash_session, key_hash}
-use Rattle.sntrup_kem.specs.Kem.{IsGenerated, word_bytes, drawn_rho, f_part, ginv_part, public_part, rho_part, hash_part, ciphertext, hidden, enc_of, session_of, opened, opened_r, hidden_again, decapsulated}
+use Rattle.sntrup_kem.specs.Kem.{IsGenerated, word_bytes, drawn_rho, ginv_part, rho_part, hash_part, ciphertext, hidden, enc_of, opened, opened_r, hidden_again}
 use Rattle.sntrup_kem.specs.Laws.{DrawsShort, BothEndsAgree, AgreesToSession, RejectsOthers}
 use Rattle.sntrup_kem.proofs.Parts.{Parts, parts_of}
 use Rattle.sntrup_kem.proofs.Rounds.{IsSet, opened_back, length-ciphertext, IsShort-drawn_r}

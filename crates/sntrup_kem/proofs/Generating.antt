@@ -7,7 +7,7 @@ use Rattle.sntrup_core.specs.Keys.{FindsG, IsKey}
 use Rattle.sntrup_kem.specs.Sizes.{degree, modulus, weight}
 use Rattle.sntrup_kem.specs.Hashes.{key_hash}
 use Rattle.sntrup_kem.specs.Kem.{drawn_rho, Coding, IsCodedKey, IsGenerated, HasMalformedPart}
-use Rattle.sntrup_kem.proofs.Parts.{Parts, parts_of}
+use Rattle.sntrup_kem.proofs.Parts.{parts_of}
 
 -- the parts of a secret key as they were joined
 pub record AreJoined (sk f_enc ginv_enc pk rho : List ℕ) : Type 0 where

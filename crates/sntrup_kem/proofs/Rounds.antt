@@ -1,9 +1,8 @@
 -- The ciphertext of r decrypts to r, for any parameter set.
-use Rattle.std.proofs.Common.{◌≡◌, ℕ, ◌+◌, ◌-◌, ◌*◌, ◌/◌, ◌%◌, ◌<◌, ◌≤◌, ℤ, pos, List, length, map, arith, ap, sym, ◌∙◌, refl}
-use Rattle.std.specs.Prelude.{◌+ℤ◌, ◌-ℤ◌, ◌*ℤ◌, unsigned_abs}
+use Rattle.std.proofs.Common.{◌≡◌, ℕ, ◌-◌, ◌*◌, ◌/◌, ◌%◌, ◌<◌, ◌≤◌, ℤ, List, length, arith, ap, ◌∙◌, refl}
+use Rattle.std.specs.Prelude.{unsigned_abs}
 use Rattle.std.proofs.lemmas.Int.{ints}
-use Rattle.std.proofs.lemmas.List.{length-map}
-use Rattle.ring_core.specs.Product.{coefficients, centred, product, weight, IsCentred}
+use Rattle.ring_core.specs.Product.{coefficients, centred, product, IsCentred}
 use Rattle.ring_core.proofs.ElementLaws.{IsCentred-product}
 use Rattle.ring_core.proofs.ResidueLaws.{SameModulo, modulo_centred}
 use Rattle.radix_pack.specs.Codings.{small_encode, small_decode, rq_encode, rq_decode, rounded_encode, rounded_decode, rounded_length, AreMultiplesOf3}

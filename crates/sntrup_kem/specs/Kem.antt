@@ -1,7 +1,7 @@
 -- The KEM of Streamlined NTRU Prime with sntrup761 (NTRU Prime round 3, KeyGen with rho, Hide, Encap
 -- and Decap). A byte string is a list of numbers below 256, a polynomial the list of its p
 -- coefficients, from x^0 on. q is the modulus and w the weight.
-use Rattle.std.specs.Prelude.{◌≡◌, ℕ, ◌+◌, ◌*◌, ℤ, List, ◌++◌, take, drop, flat_map, Bool, bytes_eq, if◌then◌else◌, ◌⊎◌}
+use Rattle.std.specs.Prelude.{◌≡◌, ℕ, ◌+◌, ◌*◌, ℤ, List, ◌++◌, take, drop, flat_map, bytes_eq, if◌then◌else◌, ◌⊎◌}
 use Rattle.std.specs.Int.{w32, to_le_bytes}
 use Rattle.ring_core.specs.Product.{IsCentred}
 use Rattle.radix_pack.specs.Codings.{small_encode, small_decode, rq_encode, rq_decode, rounded_encode, rounded_decode, IsMalformed}

@@ -1,5 +1,5 @@
 -- The parameter set sntrup761 and its sizes in bytes (NTRU Prime round 3, parameter sets).
-use Rattle.std.specs.Prelude.{ℕ, ◌+◌, ◌*◌}
+use Rattle.std.specs.Prelude.{ℕ, ◌+◌}
 
 -- p, q and w
 abbrev pub degree : ℕ

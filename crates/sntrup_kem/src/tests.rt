@@ -3,49 +3,49 @@ ghost use Rattle.std.specs.Prelude.{◌≡◌, length};
 use crate::encapsulation::hide;
 use crate::hashes::key_hash;
 use crate::{Enc, KeyBytesFault, PublicKey, SecretKey, decap, encap, generate};
-use hex::{FromHex, FromHexError};
+use hex::FromHex;
 use radix_pack::small_decode;
 use rand_words::SeedStream;
 use ring_core::{Plain, Sntrup761};
 use sha2::{Digest, Sha256};
 use std::alloc::Global;
 use std::process::Abort;
-use std::test::Fail;
 
-// The calls of the crate stand in small functions that promise nothing: what their contracts say of
-// p = 761 is long, and no test needs it.
-
-fn bytes_of(text: &str) -> Result<[u8; 32], FromHexError> {
-    <[u8; 32]>::from_hex(text)
-}
-
-fn digest_of(bytes: &[u8]) -> [u8; 32] {
-    Sha256::digest(bytes)
-}
+// Each call of the crate stands in a small function that promises nothing: what its contract says
+// at p = 761 is long, and no test needs it.
 
 // The keys of stream 0 of a seed.
-fn keys_of(alloc: Global, seed: &[u8; 32]) -> Option<(PublicKey, SecretKey)> {
-    generate(alloc, &mut SeedStream::new(seed, 0), &Plain).ok()
+fn keys_of(rt: &impl Abort, alloc: Global, seed: &[u8; 32]) -> (PublicKey, SecretKey) {
+    generate(alloc, &mut SeedStream::new(seed, 0), &Plain).expect(rt, "keys")
 }
 
 // The encapsulation of stream 1 of a seed, and its session key.
-fn encapsulated(alloc: Global, seed: &[u8; 32], public: &PublicKey) -> Option<(Enc, [u8; 32])> {
-    encap(alloc, &mut SeedStream::new(seed, 1), &Plain, public).ok()
+fn encapsulated(
+    rt: &impl Abort,
+    alloc: Global,
+    seed: &[u8; 32],
+    public: &PublicKey,
+) -> (Enc, [u8; 32]) {
+    let made = encap(alloc, &mut SeedStream::new(seed, 1), &Plain, public);
+    made.expect(rt, "an encapsulation")
 }
 
-fn decapsulated(alloc: Global, enc: &[u8], secret: &SecretKey) -> Option<[u8; 32]>
+fn decapsulated(rt: &impl Abort, alloc: Global, enc: &[u8], secret: &SecretKey) -> [u8; 32]
     requires { length enc.now ≡ 1039 }
 {
-    decap(alloc, &Plain, enc, secret).ok()
+    decap(alloc, &Plain, enc, secret).expect(rt, "a session key")
 }
 
-// The secret key that is read from another's bytes.
-fn read_again(alloc: Global, secret: &SecretKey) -> Option<SecretKey> {
-    SecretKey::from_bytes(alloc, secret.as_slice()).ok()
+fn public_of(rt: &impl Abort, alloc: Global, bytes: &[u8]) -> PublicKey {
+    PublicKey::from_bytes(alloc, bytes).expect(rt, "a public key")
 }
 
-fn public_in(alloc: Global, secret: &SecretKey) -> Option<PublicKey> {
-    secret.public(alloc).ok()
+fn secret_of(rt: &impl Abort, alloc: Global, bytes: &[u8]) -> SecretKey {
+    SecretKey::from_bytes(alloc, bytes).expect(rt, "a secret key")
+}
+
+fn public_in(rt: &impl Abort, alloc: Global, secret: &SecretKey) -> PublicKey {
+    secret.public(alloc).expect(rt, "a public key")
 }
 
 fn fault_of_public(alloc: Global, bytes: &[u8]) -> Option<KeyBytesFault> {
@@ -54,6 +54,19 @@ fn fault_of_public(alloc: Global, bytes: &[u8]) -> Option<KeyBytesFault> {
 
 fn fault_of_secret(alloc: Global, bytes: &[u8]) -> Option<KeyBytesFault> {
     SecretKey::from_bytes(alloc, bytes).err()
+}
+
+fn digest_of(bytes: &[u8]) -> [u8; 32] {
+    Sha256::digest(bytes)
+}
+
+fn bytes_of(rt: &impl Abort, digits: &str) -> [u8; 32] {
+    <[u8; 32]>::from_hex(digits).expect(rt, "64 hex digits")
+}
+
+// Compares the bytes with 64 hex digits.
+fn assert_bytes(rt: &impl Abort, bytes: &[u8; 32], digits: &str, what: &str, of: &str) {
+    assert_eq!(rt; *bytes, bytes_of(rt, digits), "{what}, {of}");
 }
 
 struct KemCase {
@@ -91,18 +104,11 @@ const KEM_CASES: [KemCase; 3] = [
     },
 ];
 
-fn assert_keys(
-    rt: &impl Abort,
-    case: &KemCase,
-    public: &PublicKey,
-    secret: &SecretKey,
-) -> Result<(), FromHexError> {
-    let seed = case.seed;
-    let want = bytes_of(case.sha256_pk)?;
-    assert_eq!(rt; digest_of(public.as_slice()), want, "public key, {seed}");
-    let want = bytes_of(case.sha256_sk)?;
-    assert_eq!(rt; digest_of(secret.as_slice()), want, "secret key, {seed}");
-    Ok(())
+fn assert_keys(rt: &impl Abort, case: &KemCase, public: &PublicKey, secret: &SecretKey) {
+    let digest = digest_of(public.as_slice());
+    assert_bytes(rt, &digest, case.sha256_pk, "public key", case.seed);
+    let digest = digest_of(secret.as_slice());
+    assert_bytes(rt, &digest, case.sha256_sk, "secret key", case.seed);
 }
 
 // Encapsulates for the public key, and decapsulates with the secret key.
@@ -112,40 +118,37 @@ fn assert_session(
     case: &KemCase,
     public: &PublicKey,
     secret: &SecretKey,
-) -> Result<(), FromHexError> {
-    let seed = case.seed;
-    let made = encapsulated(alloc, &bytes_of(seed)?, public);
-    let (enc, key) = made.expect(rt, "an encapsulation");
-    let want = bytes_of(case.sha256_enc)?;
-    assert_eq!(rt; digest_of(enc.as_slice()), want, "encapsulation, {seed}");
-    let want = bytes_of(case.shared_secret)?;
-    assert_eq!(rt; key, want, "session key, {seed}");
-    let opened = decapsulated(alloc, enc.as_slice(), secret);
-    assert_eq!(rt; opened, Some(want), "decapsulated, {seed}");
-    Ok(())
+) {
+    let (enc, key) = encapsulated(rt, alloc, &bytes_of(rt, case.seed), public);
+    let digest = digest_of(enc.as_slice());
+    assert_bytes(rt, &digest, case.sha256_enc, "encapsulation", case.seed);
+    assert_bytes(rt, &key, case.shared_secret, "session key", case.seed);
+    let opened = decapsulated(rt, alloc, enc.as_slice(), secret);
+    assert_bytes(rt, &opened, case.shared_secret, "decapsulated", case.seed);
 }
 
-fn assert_case(rt: &impl Abort, alloc: Global, case: &KemCase) -> Result<(), FromHexError> {
+fn assert_held(rt: &impl Abort, case: &KemCase, held: &PublicKey, public: &PublicKey) {
     let seed = case.seed;
-    let (public, secret) = keys_of(alloc, &bytes_of(seed)?).expect(rt, "keys");
-    assert_keys(rt, case, &public, &secret)?;
-    let read = read_again(alloc, &secret).expect(rt, "a secret key");
-    assert_session(rt, alloc, case, &public, &read)?;
-    let held = public_in(alloc, &read).expect(rt, "a public key");
     assert_eq!(rt;
         held.as_slice(),
         public.as_slice(),
         "held public key, {seed}"
     );
-    Ok(())
+}
+
+fn assert_case(rt: &impl Abort, alloc: Global, case: &KemCase) {
+    let (public, secret) = keys_of(rt, alloc, &bytes_of(rt, case.seed));
+    assert_keys(rt, case, &public, &secret);
+    let read = secret_of(rt, alloc, secret.as_slice());
+    assert_session(rt, alloc, case, &public, &read);
+    assert_held(rt, case, &public_in(rt, alloc, &read), &public);
 }
 
 #[test]
-fn keys_and_session_keys_are_those_of_other_implementations(rt: HostRuntime) -> Result<(), Fail> {
+fn keys_and_session_keys_are_those_of_other_implementations(rt: HostRuntime) {
     for case in &KEM_CASES {
-        assert_case(&rt, rt.alloc(), case)?;
+        assert_case(&rt, rt.alloc(), case);
     }
-    Ok(())
 }
 
 struct RejectedCase {
@@ -203,22 +206,35 @@ fn light_key(alloc: Global, public: &PublicKey, secret: &SecretKey) -> Option<[u
     let light = small_decode::<Sntrup761>(alloc, &light_coding()).ok()??;
     let kept = key_hash(public.as_slice());
     let hidden = hide(alloc, &Plain, public.as_slice(), &kept, &light).ok()?;
-    decapsulated(alloc, hidden.enc.as_slice(), secret)
+    decap(alloc, &Plain, hidden.enc.as_slice(), secret).ok()
+}
+
+fn assert_light_rejected(rt: &impl Abort, alloc: Global, public: &PublicKey, secret: &SecretKey) {
+    let key = light_key(alloc, public, secret);
+    assert_eq!(rt; key, Some(bytes_of(rt, WEIGHT_285)), "weight 285");
+}
+
+// Decapsulates the encapsulation with one byte of it spoilt.
+fn assert_rejected(
+    rt: &impl Abort,
+    alloc: Global,
+    case: &RejectedCase,
+    enc: &Enc,
+    secret: &SecretKey,
+) {
+    let place = case.place;
+    let key = decapsulated(rt, alloc, &spoilt(enc.as_slice(), place), secret);
+    assert_eq!(rt; key, bytes_of(rt, case.key), "byte {place}");
 }
 
 #[test]
-fn other_ciphertexts_get_the_rejection_key(rt: HostRuntime) -> Result<(), Fail> {
-    let (public, secret) = keys_of(rt.alloc(), &[0; 32]).expect(&rt, "keys");
-    let made = encapsulated(rt.alloc(), &[0; 32], &public);
-    let (enc, _) = made.expect(&rt, "an encapsulation");
+fn other_ciphertexts_get_the_rejection_key(rt: HostRuntime) {
+    let (public, secret) = keys_of(&rt, rt.alloc(), &[0; 32]);
+    let (enc, _) = encapsulated(&rt, rt.alloc(), &[0; 32], &public);
     for case in &REJECTED {
-        let place = case.place;
-        let key = decapsulated(rt.alloc(), &spoilt(enc.as_slice(), place), &secret);
-        assert_eq!(rt; key, Some(bytes_of(case.key)?), "byte {place}");
+        assert_rejected(&rt, rt.alloc(), case, &enc, &secret);
     }
-    let key = light_key(rt.alloc(), &public, &secret);
-    assert_eq!(rt; key, Some(bytes_of(WEIGHT_285)?), "weight 285");
-    Ok(())
+    assert_light_rejected(&rt, rt.alloc(), &public, &secret);
 }
 
 // The secret key's bytes with all polynomials -1, and one byte in its place.
@@ -242,28 +258,35 @@ fn high_public() -> [u8; 1158] {
     [0xff; 1158]
 }
 
-#[test]
-fn bytes_of_no_key_are_refused(rt: HostRuntime) -> Result<(), Fail> {
-    let zeros = secret_with(0, 0);
-    let short = fault_of_secret(rt.alloc(), &short_secret());
-    assert_eq!(rt; short, Some(KeyBytesFault::Length), "1762 bytes");
-    let whole = SecretKey::from_bytes(rt.alloc(), &zeros)?;
-    assert_eq!(rt; whole.as_slice(), &zeros[..], "zeros");
-    for place in [0, 190, 191, 381] {
-        let fault = fault_of_secret(rt.alloc(), &secret_with(place, 0xff));
-        assert_eq!(rt; fault, Some(KeyBytesFault::Form), "ff at {place}");
-    }
-    Ok(())
+fn assert_malformed(rt: &impl Abort, alloc: Global, place: usize) {
+    let fault = fault_of_secret(alloc, &secret_with(place, 0xff));
+    assert_eq!(rt; fault, Some(KeyBytesFault::Form), "ff at {place}");
+}
+
+fn assert_secret(rt: &impl Abort, alloc: Global, bytes: &[u8; 1763]) {
+    let whole = secret_of(rt, alloc, bytes);
+    assert_eq!(rt; whole.as_slice(), &bytes[..], "zeros");
 }
 
 #[test]
-fn every_1158_bytes_are_a_public_key(rt: HostRuntime) -> Result<(), Fail> {
-    let high = high_public();
+fn bytes_of_no_key_are_refused(rt: HostRuntime) {
+    let short = fault_of_secret(rt.alloc(), &short_secret());
+    assert_eq!(rt; short, Some(KeyBytesFault::Length), "1762 bytes");
+    assert_secret(&rt, rt.alloc(), &secret_with(0, 0));
+    for place in [0, 190, 191, 381] {
+        assert_malformed(&rt, rt.alloc(), place);
+    }
+}
+
+fn assert_public(rt: &impl Abort, alloc: Global, bytes: &[u8; 1158]) {
+    let public = public_of(rt, alloc, bytes);
+    assert_eq!(rt; public.as_slice(), &bytes[..], "1158 bytes ff");
+    encapsulated(rt, alloc, &[0; 32], &public);
+}
+
+#[test]
+fn every_1158_bytes_are_a_public_key(rt: HostRuntime) {
     let short = fault_of_public(rt.alloc(), &short_public());
     assert_eq!(rt; short, Some(KeyBytesFault::Length), "1157 bytes");
-    let public = PublicKey::from_bytes(rt.alloc(), &high)?;
-    assert_eq!(rt; public.as_slice(), &high[..], "1158 bytes ff");
-    let made = encapsulated(rt.alloc(), &[0; 32], &public);
-    assert!(rt; made.is_some(), "an encapsulation to 1158 bytes ff");
-    Ok(())
+    assert_public(&rt, rt.alloc(), &high_public());
 }

@@ -1,4 +1,4 @@
-use Rattle.std.proofs.Common.{ℤ, List, rules}
+use Rattle.std.proofs.Common.{rules}
 use Rattle.ring_core.specs.Product.{IsCentred}
 use Rattle.sntrup_kem.proofs.Generating.{first_low, coded_by, form_by}
 use Rattle.sntrup_kem.proofs.generation.coded_key.Goals as goal

@@ -1,4 +1,4 @@
-use Rattle.std.proofs.Common.{◌≡◌, ℕ, ◌+◌, ◌*◌, length, arith, ap, ◌∙◌, refl}
+use Rattle.std.proofs.Common.{◌≡◌, length, arith, ◌∙◌}
 use Rattle.radix_pack.specs.Lengths.{rq_length_761}
 use Rattle.sntrup_kem.proofs.Generating.{AreJoined, well_formed, generated_by, generated_as}
 use Rattle.sntrup_kem.proofs.generation.generate.Goals as goal

@@ -1,4 +1,4 @@
-use Rattle.std.proofs.Common.{List, ℕ, subst, sym, ◌∙◌, true}
+use Rattle.std.proofs.Common.{List, ℕ, subst}
 use Rattle.std.proofs.lemmas.Bool.{both_ways}
 use Rattle.sntrup_kem.specs.Kem.{HasMalformedPart}
 use Rattle.sntrup_kem.proofs.keys.SecretKey.from_bytes.Goals as goal
