@@ -11,8 +11,8 @@ use sha2::{Digest, Sha256};
 use std::alloc::Global;
 use std::process::Abort;
 
-// Each call of the crate stands in a small function that promises nothing: what its contract says
-// at p = 761 is long, and no test needs it.
+// The calls of the crate stand in small functions that promise nothing: what their contracts say at
+// p = 761 is long, and no test needs it.
 
 // The keys of stream 0 of a seed.
 fn keys_of(rt: &impl Abort, alloc: Global, seed: &[u8; 32]) -> (PublicKey, SecretKey) {
@@ -278,6 +278,7 @@ fn bytes_of_no_key_are_refused(rt: HostRuntime) {
     }
 }
 
+// The bytes are a key, and an encapsulation to it is made.
 fn assert_public(rt: &impl Abort, alloc: Global, bytes: &[u8; 1158]) {
     let public = public_of(rt, alloc, bytes);
     assert_eq!(rt; public.as_slice(), &bytes[..], "1158 bytes ff");
