@@ -3,12 +3,12 @@
 ghost use Rattle.std.specs.Prelude.{◌≡◌, length, map, IfOk};
 ghost use Rattle.call_places.specs.Spans.{span_bytes};
 ghost use Rattle.request_frames.specs.Limits.{IsKindWithin, IsContextWithin, IsWithinLimits};
-ghost use Rattle.request_frames.specs.Calls.{context_role};
-ghost use Rattle.batch_runner.specs.SetUp.{suite_of, shared_secret_of, context_of, contexts_of, context_reply, limit_of, refusal_of};
+ghost use Rattle.batch_runner.specs.SetUp.{suite_of, shared_secret_of, context_of};
+ghost use Rattle.batch_runner.specs.SetUp.{contexts_of, context_reply, limit_of, refusal_of};
 
 use hkdf_labelled::Suite;
 use hpke_context::Context;
-use key_schedule::{PskFault, Role, schedule};
+use key_schedule::{PskFault, schedule};
 use request_frames::{
     ContextKind, ContextLine, ContextRefusal, ContextReplies, ContextReply, PlainList, Plan,
 };
@@ -26,15 +26,6 @@ fn suite_of(line: &ContextLine) -> Suite
         kem,
         kdf: line.kdf,
         aead: line.aead,
-    }
-}
-
-// Whose context it is.
-fn role_of(kind: &ContextKind) -> Role
-    ensures { result ≡ context_role kind.now }
-{
-    match *kind {
-        ContextKind::Share { role, .. } => role,
     }
 }
 
@@ -58,7 +49,7 @@ fn stand(pool: &[u8], line: &ContextLine) -> SetUp
     let info = line.info.of(pool);
     let (psk, psk_id) = (line.psk.of(pool), line.psk_id.of(pool));
     match schedule(&suite, line.mode, secret, info, psk, psk_id) {
-        Ok(secrets) => Ok(Context::new(role_of(&line.kind), suite, secrets, line.limit)),
+        Ok(secrets) => Ok(Context::new(line.kind.role(), suite, secrets, line.limit)),
         Err(fault) => Err(fault),
     }
 }

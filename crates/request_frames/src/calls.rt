@@ -1,9 +1,10 @@
 //! Which calls are served.
 
 ghost use Rattle.std.specs.Prelude.{◌≡◌, ◌<◌, length, None, MatchOption, IfSome, Some, slice_index};
-ghost use Rattle.request_frames.specs.Calls.{context_role, cipher_refusal, seal_refusal, open_refusal, context_of, standing_line, refusal, served_on};
+ghost use Rattle.request_frames.specs.Calls.{cipher_refusal, seal_refusal, open_refusal};
+ghost use Rattle.request_frames.specs.Calls.{context_of, standing_line, refusal, served_on};
 
-use crate::plan::{CallLine, ContextKind, ContextLine};
+use crate::plan::{CallLine, ContextLine};
 use crate::replies::CallRefusal;
 use hkdf_labelled::Aead;
 use key_schedule::Role;
@@ -24,8 +25,8 @@ pub fn call_refusal(
         return Some(CallRefusal::NoContext);
     };
     match *call {
-        CallLine::Seal { .. } => seal_refusal(context_role(&line.kind), line.aead),
-        CallLine::Unseal { .. } => open_refusal(context_role(&line.kind), line.aead),
+        CallLine::Seal { .. } => seal_refusal(line.kind.role(), line.aead),
+        CallLine::Unseal { .. } => open_refusal(line.kind.role(), line.aead),
         CallLine::Export { size, .. } if size > export_limit => Some(CallRefusal::ExportSize),
         CallLine::Export { .. } => None,
     }
@@ -74,14 +75,6 @@ fn standing_line(
     match export_limits.get(number as usize) {
         None | Some(0) => None,
         Some(limit) => Some((*contexts.get(number as usize)?, *limit)),
-    }
-}
-
-fn context_role(kind: &ContextKind) -> Role
-    ensures { result ≡ context_role kind.now }
-{
-    match *kind {
-        ContextKind::Share { role, .. } => role,
     }
 }
 

@@ -1,6 +1,7 @@
 //! What a batch asks for.
 
 ghost use Rattle.std.specs.Prelude.{◌≡◌};
+ghost use Rattle.request_frames.specs.Calls.{context_role};
 ghost use Rattle.request_frames.specs.declared.plan.ReadBatchFault.TheVariants.{OutOfMemory};
 
 use crate::lists::PlainList;
@@ -54,6 +55,17 @@ pub enum KeyLine {
 pub enum ContextKind {
     /// `shared_secret` (RFC 9180, 5.1) is given, with the KEM's id that goes into `suite_id`.
     Share { role: Role, kem: u16, secret: Span },
+}
+
+impl ContextKind {
+    /// Whose context it is, the sender's or the recipient's (RFC 9180, 5.1).
+    pub fn role(&self) -> Role
+        ensures { result ≡ context_role self.now }
+    {
+        match *self {
+            ContextKind::Share { role, .. } => role,
+        }
+    }
 }
 
 /// The set-up of one context (RFC 9180, 5.1). Spans are of the plan's pool.

@@ -30,6 +30,6 @@ returns-in-Ok c =
     let made : Role → Suite → ContextView = λ role suite. record { role = role; suite = suite; limit = line.limit; secrets = c.in-Ok.secrets } in
     ap (λ (v : ContextView). Ok v)
     (c.new.ensures
-    ∙ ap (λ r. made r c.suite_of-suite.result) c.role_of.ensures
+    ∙ ap (λ r. made r c.suite_of-suite.result) c.role.ensures
     ∙ ap (made (context_role line.kind)) c.suite_of-suite.ensures)
     ∙ ap (context_with line) scheduled
