@@ -37,4 +37,4 @@ call_added plan lane call h one room most texts within = record {
       All-cons (All fits) (lane ++ call ∷ []) [] (All-push fits lane call before within) (All-nil (All fits));
 }
 
-pub ruleset kept_facts = (items-length, one_lane, sum_by_push)
+pub ruleset facts = (items-length, one_lane, sum_by_push)

@@ -111,21 +111,18 @@ call_adds plan new pool call pieces some line e =
 
 seal_adds : (plan new : Plan) (pieces : List (List ℕ)) → nat_lt 0 (length plan.lanes) ≡ true → with_seal plan pieces ≡ Ok new
     → Adds plan new (line_text (codes "seal" ∷ pieces))
-unfolding with_seal
 seal_adds plan new pieces some e =
     let found = step_ok (seal plan.pool pieces) _ new e in
     call_adds plan new found.0.1 found.0.0 (codes "seal" ∷ pieces) some (seal_ok plan.pool pieces found.0.0 found.0.1 found.1) found.2
 
 unseal_adds : (plan new : Plan) (pieces : List (List ℕ)) → nat_lt 0 (length plan.lanes) ≡ true → with_unseal plan pieces ≡ Ok new
     → Adds plan new (line_text (codes "unseal" ∷ pieces))
-unfolding with_unseal
 unseal_adds plan new pieces some e =
     let found = step_ok (unseal plan.pool pieces) _ new e in
     call_adds plan new found.0.1 found.0.0 (codes "unseal" ∷ pieces) some (unseal_ok plan.pool pieces found.0.0 found.0.1 found.1) found.2
 
 export_adds : (plan new : Plan) (pieces : List (List ℕ)) → nat_lt 0 (length plan.lanes) ≡ true → with_export plan pieces ≡ Ok new
     → Adds plan new (line_text (codes "export" ∷ pieces))
-unfolding with_export
 export_adds plan new pieces some e =
     let found = step_ok (export plan.pool pieces) _ new e in
     call_adds plan new found.0.1 found.0.0 (codes "export" ∷ pieces) some (export_ok plan.pool pieces found.0.0 found.0.1 found.1) found.2

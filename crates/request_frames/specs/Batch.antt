@@ -71,19 +71,19 @@ with_lane plan pieces = do
   Ok (record plan { lanes = plan.lanes ++ [] ∷ [] })
 
 -- `seal ..`
-unfoldable pub with_seal : Plan → List (List ℕ) → Result Plan Reason
+abbrev pub with_seal : Plan → List (List ℕ) → Result Plan Reason
 with_seal plan pieces = do
   (call, pool) ← seal plan.pool pieces
   with_call (record plan { pool = pool }) call
 
 -- `unseal ..`
-unfoldable pub with_unseal : Plan → List (List ℕ) → Result Plan Reason
+abbrev pub with_unseal : Plan → List (List ℕ) → Result Plan Reason
 with_unseal plan pieces = do
   (call, pool) ← unseal plan.pool pieces
   with_call (record plan { pool = pool }) call
 
 -- `export ..`
-unfoldable pub with_export : Plan → List (List ℕ) → Result Plan Reason
+abbrev pub with_export : Plan → List (List ℕ) → Result Plan Reason
 with_export plan pieces = do
   (call, pool) ← export plan.pool pieces
   with_call (record plan { pool = pool }) call

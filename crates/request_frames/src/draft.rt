@@ -1,9 +1,14 @@
 //! The plan of the lines so far.
 
-ghost use Rattle.std.specs.Prelude.{◌≡◌, ◌+◌, ◌<◌, ◌≤◌, ◌^◌, length, sum_by, OnOk, IfOk, true, false};
+ghost use Rattle.std.specs.Prelude.{◌≡◌, ◌+◌, ◌<◌, ◌≤◌, ◌^◌, length};
+ghost use Rattle.std.specs.Prelude.{sum_by, OnOk, IfOk, true, false};
 ghost use Rattle.field_text.specs.Fields.{Gives, Reads};
-ghost use Rattle.request_frames.specs.Batch.{may_stand, in_order as in_order_of, with_call as call_of, with_share as share_of, with_lane as lane_of, with_seal as seal_of, with_unseal as unseal_of, with_export as export_of, with_line as line_of, line_after, empty_plan};
-ghost use Rattle.request_frames.specs.Limits.{size_of, text_size, all_texts, IsCallWithin, IsContextWithin, IsWithinLimits};
+ghost use Rattle.request_frames.specs.Batch.{may_stand, in_order as in_order_of};
+ghost use Rattle.request_frames.specs.Batch.{with_call as call_of};
+ghost use Rattle.request_frames.specs.Batch.{with_share as share_of, with_lane as lane_of};
+ghost use Rattle.request_frames.specs.Batch.{with_line as line_of, line_after, empty_plan};
+ghost use Rattle.request_frames.specs.Limits.{size_of, text_size, all_texts, IsCallWithin};
+ghost use Rattle.request_frames.specs.Limits.{IsContextWithin, IsWithinLimits};
 ghost use Rattle.request_frames.specs.Drafts.{plan_of, IsKept};
 
 use crate::lists::PlainList;
@@ -55,7 +60,7 @@ impl Draft {
     }
 
     // A call of the open lane.
-    #[tactic(auto, using(crate::proofs::Kept::kept_facts), unfolding(crate::specs::Batch::with_call))]
+    #[tactic(auto, using(crate::proofs::Kept::facts), unfolding(crate::specs::Batch::with_call))]
     fn with_call(&mut self, call: CallLine) -> Result<(), Stop>
         requires kept { IsKept self.old }
         requires open { self.old.in_lane ≡ true }
@@ -78,7 +83,7 @@ impl Draft {
         Ok(())
     }
 
-    #[tactic(auto, using(crate::proofs::Kept::kept_facts), unfolding(crate::specs::Batch::with_share))]
+    #[tactic(auto, using(crate::proofs::Kept::facts), unfolding(crate::specs::Batch::with_share))]
     fn with_share(&mut self, fields: &mut Pieces) -> Result<(), Stop>
         requires room { length (plan_of self.old).pool + sum_by length fields.old ≤ 67108864 }
         requires kept { IsKept self.old }
@@ -113,51 +118,6 @@ impl Draft {
         Ok(())
     }
 
-    #[tactic(auto, using(crate::proofs::Kept::kept_facts), unfolding(crate::specs::Batch::with_seal))]
-    fn with_seal(&mut self, fields: &mut Pieces) -> Result<(), Stop>
-        requires room { length (plan_of self.old).pool + sum_by length fields.old ≤ 67108864 }
-        requires kept { IsKept self.old }
-        requires open { self.old.in_lane ≡ true }
-        ensures read { Gives (λ _. plan_of self.new) result
-            (seal_of (plan_of self.old) fields.old) }
-        ensures kept { OnOk result (IsKept self.new) }
-        ensures size { OnOk result (length (plan_of self.new).pool
-            ≤ length (plan_of self.old).pool + sum_by length fields.old) }
-    {
-        let call = lines::seal(&mut self.pool, fields)?;
-        self.with_call(call)
-    }
-
-    #[tactic(auto, using(crate::proofs::Kept::kept_facts), unfolding(crate::specs::Batch::with_unseal))]
-    fn with_unseal(&mut self, fields: &mut Pieces) -> Result<(), Stop>
-        requires room { length (plan_of self.old).pool + sum_by length fields.old ≤ 67108864 }
-        requires kept { IsKept self.old }
-        requires open { self.old.in_lane ≡ true }
-        ensures read { Gives (λ _. plan_of self.new) result
-            (unseal_of (plan_of self.old) fields.old) }
-        ensures kept { OnOk result (IsKept self.new) }
-        ensures size { OnOk result (length (plan_of self.new).pool
-            ≤ length (plan_of self.old).pool + sum_by length fields.old) }
-    {
-        let call = lines::unseal(&mut self.pool, fields)?;
-        self.with_call(call)
-    }
-
-    #[tactic(auto, using(crate::proofs::Kept::kept_facts), unfolding(crate::specs::Batch::with_export))]
-    fn with_export(&mut self, fields: &mut Pieces) -> Result<(), Stop>
-        requires room { length (plan_of self.old).pool + sum_by length fields.old ≤ 67108864 }
-        requires kept { IsKept self.old }
-        requires open { self.old.in_lane ≡ true }
-        ensures read { Gives (λ _. plan_of self.new) result
-            (export_of (plan_of self.old) fields.old) }
-        ensures kept { OnOk result (IsKept self.new) }
-        ensures size { OnOk result (length (plan_of self.new).pool
-            ≤ length (plan_of self.old).pool + sum_by length fields.old) }
-    {
-        let call = lines::export(&mut self.pool, fields)?;
-        self.with_call(call)
-    }
-
     fn in_order(&self, word: LineWord) -> Result<(), Reason>
         ensures read { Reads (λ _. word) result (in_order_of word (plan_of self.now)) }
         ensures stands { OnOk result (may_stand word (plan_of self.now) ≡ true) }
@@ -184,9 +144,18 @@ impl Draft {
         match word {
             LineWord::Share => self.with_share(fields)?,
             LineWord::Lane => self.with_lane(fields)?,
-            LineWord::Seal => self.with_seal(fields)?,
-            LineWord::Unseal => self.with_unseal(fields)?,
-            LineWord::Export => self.with_export(fields)?,
+            LineWord::Seal => {
+                let call = lines::seal(&mut self.pool, fields)?;
+                self.with_call(call)?;
+            }
+            LineWord::Unseal => {
+                let call = lines::unseal(&mut self.pool, fields)?;
+                self.with_call(call)?;
+            }
+            LineWord::Export => {
+                let call = lines::export(&mut self.pool, fields)?;
+                self.with_call(call)?;
+            }
             LineWord::End => {
                 fields.exactly(0)?;
                 return Ok(Next::Last);
