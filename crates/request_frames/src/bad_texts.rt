@@ -10,7 +10,7 @@ pub struct BadCase {
     pub reason: Reason,
 }
 
-pub const BAD: [BadCase; 67] = [
+pub const BAD: [BadCase; 70] = [
     BadCase {
         what: "no byte",
         text: b"",
@@ -105,6 +105,12 @@ pub const BAD: [BadCase; 67] = [
         what: "a capital letter in a word",
         text: b"hpkebatch 1\nLane\nend\n",
         line: 2,
+        reason: Reason::Word,
+    },
+    BadCase {
+        what: "a byte that is no text",
+        text: b"hpkebatch 1\nlane\n\xff\n",
+        line: 3,
         reason: Reason::Word,
     },
     BadCase {
@@ -210,6 +216,12 @@ pub const BAD: [BadCase; 67] = [
         reason: Reason::Fields,
     },
     BadCase {
+        what: "two spaces before PT, and so four fields of `seal`",
+        text: b"hpkebatch 1\nlane\nseal 0 -  -\n",
+        line: 3,
+        reason: Reason::Fields,
+    },
+    BadCase {
         what: "two fields of `seal`",
         text: b"hpkebatch 1\nlane\nseal 0 -\nend\n",
         line: 3,
@@ -302,6 +314,12 @@ pub const BAD: [BadCase; 67] = [
     BadCase {
         what: "CTX of 65536",
         text: b"hpkebatch 1\nlane\nexport 65536 - 32\nend\n",
+        line: 3,
+        reason: Reason::Range,
+    },
+    BadCase {
+        what: "CTX of 65536, for no bytes",
+        text: b"hpkebatch 1\nlane\nexport 65536 - 0\n",
         line: 3,
         reason: Reason::Range,
     },
