@@ -1,5 +1,5 @@
-//! The two texts of a batch: the batch text, which says what is asked for, and the reply text, which
-//! says what came of it. Both are formats of this program's own.
+//! The two texts of a batch: the batch text, which says what is asked for, and the reply text,
+//! which says what came of it. Both are formats of this program's own.
 //!
 //! A batch text is lines, and a line is a word and its fields. [`read_batch`] answers the [`Plan`]
 //! that a text spells by `batch` of `specs/Batch.antt`, or its first bad line and that line's first

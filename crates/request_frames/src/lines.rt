@@ -2,7 +2,8 @@
 
 ghost use Rattle.std.specs.Prelude.{◌≡◌, ◌+◌, ◌<◌, ◌≤◌, ◌^◌, length, vec_len, sum_by, OnOk, IfOk};
 ghost use Rattle.field_text.specs.Fields.{Gives};
-ghost use Rattle.request_frames.specs.Forms.{share as share_of, seal as seal_of, unseal as unseal_of, export as export_of};
+ghost use Rattle.request_frames.specs.Forms.{share as share_of, seal as seal_of};
+ghost use Rattle.request_frames.specs.Forms.{unseal as unseal_of, export as export_of};
 ghost use Rattle.request_frames.specs.Limits.{text_size, IsContextWithin, IsCallWithin};
 
 use crate::plan::{CallLine, ContextKind, ContextLine};

@@ -5,7 +5,10 @@ ghost use Rattle.std.specs.List.{All, flat_map};
 ghost use Rattle.std.specs.Io.KnownBytes.{Appends};
 ghost use Rattle.batch_io.specs.Outside.{Rose};
 ghost use Rattle.field_text.specs.Printing.{Puts, AppendsPrefix};
-ghost use Rattle.request_frames.specs.ReplyText.{numbered, key_line, context_line, reply_line, lane_replies, lane_text, place_line, journal_text, answers_text, bad_text, IsInRange, IsPrintable, IsAnswered};
+ghost use Rattle.request_frames.specs.ReplyText.{numbered, key_line, context_line};
+ghost use Rattle.request_frames.specs.ReplyText.{reply_line, lane_replies, lane_text};
+ghost use Rattle.request_frames.specs.ReplyText.{place_line, journal_text, answers_text};
+ghost use Rattle.request_frames.specs.ReplyText.{bad_text, IsInRange, IsPrintable, IsAnswered};
 
 use crate::lists::PlainList;
 use crate::plan::{BadBatch, Plan};

@@ -14,8 +14,8 @@ use key_schedule::{Mode, Role};
 use std::alloc::{AllocError, Global};
 use std::test::Fail;
 
-// Own, by hand: each form of a reply once, with the least and the greatest numbers, no bytes, an empty
-// lane and an empty journal.
+// Own, by hand: each form of a reply once, with the least and the greatest numbers, no bytes, an
+// empty lane and an empty journal.
 const REPLY: &str = "hpkebatch 1
 key 0 generated 0102 ab
 key 1 secret ff

@@ -5,7 +5,8 @@ ghost use Rattle.std.specs.Str.{bytes_eq};
 ghost use Rattle.field_text.specs.declared.reasons.Reason.{Reason};
 ghost use Rattle.field_text.specs.Cuts.{lines_of};
 ghost use Rattle.request_frames.specs.declared.plan.Plan.{Plan};
-ghost use Rattle.request_frames.specs.Batch.{IsAnswer, Spells, BadAt, batch, judged, empty_plan, refusal, no_memory};
+ghost use Rattle.request_frames.specs.Batch.{IsAnswer, Spells, BadAt, batch};
+ghost use Rattle.request_frames.specs.Batch.{judged, empty_plan, refusal, no_memory};
 ghost use Rattle.request_frames.specs.Limits.{IsWithinLimits};
 
 use crate::draft::Draft;

@@ -119,8 +119,8 @@ pub struct LaneAnswers {
 
 /// What a batch is answered with.
 ///
-/// A journal has the places of the seals and opens that its context served, in the order in which it
-/// served them; that of a refused context is empty.
+/// A journal has the places of the seals and opens that its context served, in the order in which
+/// it served them; that of a refused context is empty.
 #[derive(Drop)]
 pub struct Answers {
     pub keys: KeyReplies,

@@ -3,7 +3,9 @@
 ghost use Rattle.std.specs.Prelude.{◌≡◌, length};
 ghost use Rattle.call_places.specs.Spans.{span_bytes};
 ghost use Rattle.field_text.specs.Printing.{Puts};
-ghost use Rattle.request_frames.specs.ReplyText.{key_words, key_line, context_words, context_line, served_line, reply_line, place_line, bad_text, IsInRange};
+ghost use Rattle.request_frames.specs.ReplyText.{key_words, key_line, context_words};
+ghost use Rattle.request_frames.specs.ReplyText.{context_line, served_line, reply_line};
+ghost use Rattle.request_frames.specs.ReplyText.{place_line, bad_text, IsInRange};
 
 use crate::plan::BadBatch;
 use crate::replies::{ContextReply, KeyReply, Reply};

@@ -2,7 +2,8 @@
 
 ghost use Rattle.std.specs.Prelude.{◌≡◌, ◌<◌, ◌^◌, map, sum_by, IfOk};
 ghost use Rattle.request_frames.specs.Limits.{IsWithinLimits};
-ghost use Rattle.request_frames.specs.Room.{served_room, call_room, lane_room, room_for, most_room, all_most_room};
+ghost use Rattle.request_frames.specs.Room.{served_room, call_room, lane_room};
+ghost use Rattle.request_frames.specs.Room.{room_for, most_room, all_most_room};
 
 use crate::calls::call_refusal;
 use crate::journals::journals_room;
@@ -84,7 +85,8 @@ fn lanes_room(
 
 impl Answers {
     /// The answers of a plan before its lanes are served: each reply is `Blank`, each place of a
-    /// journal is 0 in all three numbers, and all room that replies and journals will need is taken.
+    /// journal is 0 in all three numbers, and all room that replies and journals will need is
+    /// taken.
     ///
     /// `keys` and `contexts` are the replies of the set-up. `export_limits` has for each context
     /// the most bytes that it exports, 255·Nh (RFC 9180, 5.3), and 0 where it was refused. Takes

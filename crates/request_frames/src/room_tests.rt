@@ -6,8 +6,8 @@ use crate::{Answers, CallRefusal, ContextReply, PlainList, Plan, call_refusal, r
 use std::alloc::Global;
 use std::test::Fail;
 
-// A batch of one lane with the export limits of its contexts, and what is due for it: the refusal of
-// each call, the bytes of all replies, and the places of each journal.
+// A batch of one lane with the export limits of its contexts, and what is due for it: the refusal
+// of each call, the bytes of all replies, and the places of each journal.
 struct RoomCase {
     source: &'static str,
     text: &'static str,

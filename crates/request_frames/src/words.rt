@@ -2,7 +2,8 @@
 
 ghost use Rattle.std.specs.Prelude.{◌≡◌, ◌+◌, ◌≤◌, length, sum_by, OnOk};
 ghost use Rattle.field_text.specs.Fields.{Reads, next};
-ghost use Rattle.request_frames.specs.Words.{line_word as line_word_of, role as role_of, mode as mode_of, kdf as kdf_field, aead as aead_field};
+ghost use Rattle.request_frames.specs.Words.{line_word as line_word_of, role as role_of};
+ghost use Rattle.request_frames.specs.Words.{mode as mode_of, kdf as kdf_field, aead as aead_field};
 
 use field_text::{Pieces, Reason, read_number};
 use hkdf_labelled::{Aead, Kdf};
