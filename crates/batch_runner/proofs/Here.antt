@@ -4,15 +4,17 @@ use Rattle.std.specs.Prelude.{slice_get, option_map}
 use Rattle.std.proofs.lemmas.Option.{slice_get_within, slice_get-get_or, get_or_from_slice_get, same_Some}
 use Rattle.call_places.specs.declared.entries.Place.{Place}
 use Rattle.key_schedule.specs.declared.psks.PskFault.{PskFault}
-use Rattle.hpke_context.specs.Answers.{Item}
-use Rattle.hpke_context.specs.Contexts.{ContextView, answer_now}
-use Rattle.legal_journals.specs.Batches.{Ask, place}
+use Rattle.hpke_context.specs.Answers.{Item, Seal, Unseal}
+use Rattle.hpke_context.specs.Contexts.{ContextView, SequentialView, answer_now}
+use Rattle.legal_journals.specs.Batches.{Ask, Nothing, place}
 use Rattle.request_frames.specs.declared.plan.Plan.{Plan}
+use Rattle.batch_runner.specs.declared.answering.Service.{Service}
+use Rattle.batch_runner.specs.declared.replies.Message.{Message}
 use Rattle.batch_runner.specs.declared.standing.Standing.{Standing}
 use Rattle.batch_runner.specs.SetUp.{contexts_of}
 use Rattle.batch_runner.specs.Calls.{batch_of, journal_at, answer_line, place_reply}
-use Rattle.batch_runner.specs.Serving.{noted, asks_in, places_after, journals_of, standing_with, slot_after, StandAfter}
-use Rattle.batch_runner.proofs.Stands.{AsksOne, fits, stand_more, reply_here}
+use Rattle.batch_runner.specs.Serving.{seal_of, unseal_of, gone_on, noted, asks_in, places_after, journals_of, standing_with, slot_after, StandAfter, IsServing}
+use Rattle.batch_runner.proofs.Stands.{AsksOne, fits, stand_more, stand_same, reply_here}
 
 pub index_same : {X : Type 0} (xs : List X) (i : ℕ) (d e : X) → i < length xs → get_or xs i d ≡ get_or xs i e
 index_same xs i d e lt = same_Some _ _ (sym (slice_get-get_or xs i d lt) ∙ slice_get-get_or xs i e lt)
@@ -21,7 +23,7 @@ index_same xs i d e lt = same_Some _ _ (sym (slice_get-get_or xs i d lt) ∙ sli
 abbrev pub Slots : Plan → ℕ → List (Result Standing PskFault) → Type 0
 Slots plan k slots = (c : ℕ) → slice_get slots c ≡ option_map (slot_after plan k c) (slice_get (contexts_of plan) c)
 
-slot_found : (plan : Plan) (k c : ℕ) (slots : List (Result Standing PskFault)) (view : ContextView)
+pub slot_found : (plan : Plan) (k c : ℕ) (slots : List (Result Standing PskFault)) (view : ContextView)
     → slice_get (contexts_of plan) c ≡ Some (Ok view) → Slots plan k slots
     → slice_get slots c ≡ Some (Ok (standing_with plan view (places_after plan k c)))
 unfolding slot_after
@@ -43,6 +45,13 @@ standing_is plan k c slots view d standing found stand is =
     let same : Ok standing ≡ Ok (standing_with plan view (places_after plan k c)) = sym is ∙ slot_at plan k c slots view d found stand in
     cc
 
+pub standing_here : (plan : Plan) (k c : ℕ) (slots : List (Result Standing PskFault)) (view : ContextView) (standing : Standing)
+    → slice_get (contexts_of plan) c ≡ Some (Ok view) → Slots plan k slots → slice_get slots c ≡ Some (Ok standing)
+    → standing ≡ standing_with plan view (places_after plan k c)
+standing_here plan k c slots view standing found stand is =
+    let same : Some (Ok standing) ≡ Some (Ok (standing_with plan view (places_after plan k c))) = sym is ∙ slot_found plan k c slots view found stand in
+    cc
+
 -- what the context is
 pub context_is : (plan : Plan) (view : ContextView) (places : List Place) (standing : Standing) → standing ≡ standing_with plan view places
     → standing.sequential.context ≡ view
@@ -53,6 +62,21 @@ pub places_is : (plan : Plan) (view : ContextView) (places : List Place) (standi
     → standing.places ≡ length places
 unfolding standing_with
 places_is plan view places standing is = ap (λ (s : Standing). s.places) is
+
+-- what the bytes of an item ask
+pub seal_bytes : (m : Message) (aad text : List ℕ) → m.aad.now ≡ aad → m.text.now ≡ text → seal_of m ≡ Seal aad text
+seal_bytes m aad text a t = ap (λ x. Seal x m.text.now) a ∙ ap (Seal aad) t
+
+pub unseal_bytes : (m : Message) (aad text : List ℕ) → m.aad.now ≡ aad → m.text.now ≡ text → unseal_of m ≡ Unseal aad text
+unseal_bytes m aad text a t = ap (λ x. Unseal x m.text.now) a ∙ ap (Unseal aad) t
+
+-- after its place is written and its item is answered
+pub noted_by : (old written new : Standing) (x : Item) → written.sequential ≡ old.sequential → written.places ≡ old.places + 1
+    → new.sequential ≡ gone_on written.sequential x → new.places ≡ written.places → new ≡ noted old x
+noted_by old written new x same more gone kept =
+    let made : SequentialView → ℕ → Standing = λ s n. record { sequential = s; places = n } in
+    ap (λ s. made s new.places) (gone ∙ ap (λ s. gone_on s x) same)
+    ∙ ap (made (gone_on old.sequential x)) (kept ∙ more)
 
 -- its journal has room
 pub room_here : (plan : Plan) (k d : ℕ) (a : Ask) (x : Item) (view : ContextView) (slots : List (Result Standing PskFault)) (books : List (List Place)) (standing : Standing) (e : List Place)
@@ -91,3 +115,24 @@ pub line_now : (plan : Plan) (k d : ℕ) (a : Ask) (x : Item) (view : ContextVie
 line_now plan k d a x view standing batch asks found within is =
     ap (λ (s : Standing). answer_line (Some (answer_now s.sequential x))) is
     ∙ reply_here plan k d a x view batch asks found within
+
+-- a call that asks for nothing
+pub serving_same : (plan : Plan) (k : ℕ) (s : Service) → slice_get (asks_in plan) k ≡ Some Nothing → IsServing plan k s
+    → IsServing plan (k + 1) s
+serving_same plan k s ask serving = record {
+  plan_is = serving.plan_is;
+  lanes = serving.lanes;
+  export_limits = serving.export_limits;
+  stand = stand_same plan k s.slots.items s.journals.items ask serving.stand;
+  checks = omega (arith, serving.checks);
+}
+
+-- with more of the room written
+pub serving_filled : (plan : Plan) (k : ℕ) (s : Service) (n : ℕ) → IsServing plan k s → IsServing plan k (record s { filled = n })
+serving_filled plan k s n serving = record {
+  plan_is = serving.plan_is;
+  lanes = serving.lanes;
+  export_limits = serving.export_limits;
+  stand = serving.stand;
+  checks = serving.checks;
+}

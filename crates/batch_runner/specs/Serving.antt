@@ -1,16 +1,18 @@
 -- ---- for the proofs: the contexts and the journals while the calls of the one lane are served
-use Rattle.std.specs.Prelude.{◌≡◌, ℕ, ◌+◌, ◌<◌, List, [], ◌∷◌, map, take, length, option_map, Result, Ok, Err, slice_get, slice_index_or}
+use Rattle.std.specs.Prelude.{◌≡◌, ℕ, ◌+◌, ◌<◌, ◌≤◌, List, [], ◌∷◌, map, take, length, option_map, Some, Result, Ok, Err, slice_get, slice_index_or}
 use Rattle.std.specs.List.{range_with_len}
 use Rattle.call_places.specs.declared.entries.Place.{Place}
 use Rattle.key_schedule.specs.declared.psks.PskFault.{PskFault}
-use Rattle.hpke_context.specs.Answers.{Item, next}
+use Rattle.hpke_context.specs.Answers.{Item, Seal, Unseal, next}
 use Rattle.hpke_context.specs.Contexts.{ContextView, SequentialView, cipher_of, answer_now}
 use Rattle.legal_journals.specs.Batches.{Ask, lane_places}
 use Rattle.legal_journals.specs.Legal.{due_after}
 use Rattle.request_frames.specs.declared.plan.Plan.{Plan}
 use Rattle.request_frames.specs.declared.plan.CallLine.{CallLine}
+use Rattle.batch_runner.specs.declared.replies.Message.{Message}
 use Rattle.batch_runner.specs.declared.standing.Standing.{Standing}
-use Rattle.batch_runner.specs.SetUp.{contexts_of}
+use Rattle.batch_runner.specs.declared.answering.Service.{Service}
+use Rattle.batch_runner.specs.SetUp.{contexts_of, export_limits}
 use Rattle.batch_runner.specs.Calls.{ask_of, journal_at}
 
 -- a context before its first call
@@ -18,6 +20,17 @@ abbrev pub begun : Result ContextView PskFault → Result Standing PskFault
 begun (Ok context) =
     Ok (record { sequential = record { context = context; seq = 0 }; places = 0 })
 begun (Err fault) = Err fault
+
+-- what a message asks of a context
+abbrev pub seal_of : Message → Item
+seal_of m = Seal m.aad.now m.text.now
+
+abbrev pub unseal_of : Message → Item
+unseal_of m = Unseal m.aad.now m.text.now
+
+-- the context of this number stands
+abbrev pub StandsIn : List (Result Standing PskFault) → ℕ → Type 0
+StandsIn slots number = (standing : Standing) × (slice_get slots number ≡ Some (Ok standing))
 
 -- a context after an item
 abbrev pub gone_on : SequentialView → Item → SequentialView
@@ -72,3 +85,11 @@ pub record StandAfter (plan : Plan) (k : ℕ) (states : List (Result Standing Ps
   pub slots : (c : ℕ) → slice_get states c ≡ option_map (slot_after plan k c) (slice_get (contexts_of plan) c)
   pub count : length books ≡ length plan.contexts
   pub journals : (c : ℕ) → c < length plan.contexts → IsJournalAfter plan k c (journal_at books c)
+
+-- a plan after its first k calls, with its one lane
+pub record IsServing (plan : Plan) (k : ℕ) (s : Service) : Type 0 where
+  pub plan_is : s.plan.now ≡ plan
+  pub lanes : length plan.lanes ≤ 1
+  pub export_limits : s.export_limits.now ≡ export_limits plan
+  pub stand : StandAfter plan k s.slots.items s.journals.items
+  pub checks : s.checks ≤ k

@@ -1,203 +1,40 @@
 //! The replies to the calls of a plan, written into the room that was taken for them, and the
 //! journals.
 
-ghost use Rattle.std.specs.Prelude.{◌≡◌, ◌≤◌, ◌<◌, ◌+◌, ◌-◌, ◌^◌, ℕ, length, take, slice_get, slice_set, option_map, map, sum_by, Some, None};
+ghost use Rattle.std.specs.Prelude.{◌≡◌, ◌≤◌, ◌<◌, ◌+◌, ◌-◌, ◌^◌, ℕ, length};
+ghost use Rattle.std.specs.Prelude.{take, slice_get, map, sum_by, Some, None};
 ghost use Rattle.std.specs.List.{All, flat_map};
 ghost use Rattle.call_places.specs.Spans.{IsInPool, span_bytes};
-ghost use Rattle.hpke_context.specs.Answers.{Seal, Unseal};
-ghost use Rattle.hpke_context.specs.Contexts.{Seals, Opens, answer_now, export_limit};
 ghost use Rattle.legal_journals.specs.Batches.{place as place_of};
-ghost use Rattle.request_frames.specs.Limits.{IsCallWithin, IsItemWithin, IsWithinLimits, most_plaintext, most_ciphertext};
+ghost use Rattle.request_frames.specs.Limits.{IsCallWithin, IsItemWithin, IsWithinLimits};
+ghost use Rattle.request_frames.specs.Limits.{most_plaintext, most_ciphertext};
 ghost use Rattle.request_frames.specs.ReplyText.{reply_line, lane_replies, IsInRange, IsPrintable};
 ghost use Rattle.request_frames.specs.Room.{call_room, lane_room};
 ghost use Rattle.batch_runner.specs.SetUp.{contexts_of, export_limits as limits_of, standing_at};
-ghost use Rattle.batch_runner.specs.Calls.{call_refusal as refusal_of, answer_line, export_line, place_reply, call_line};
+ghost use Rattle.batch_runner.specs.Calls.{call_refusal as refusal_of};
+ghost use Rattle.batch_runner.specs.Calls.{export_line, place_reply, call_line};
 ghost use Rattle.batch_runner.specs.Text.{lane_lines, all_lane_lines};
-ghost use Rattle.batch_runner.specs.Serving.{noted, calls_of, journals_of, slot_after, StandAfter};
+ghost use Rattle.batch_runner.specs.Serving.{calls_of, journals_of, IsServing};
 
-use crate::replies::{export, seal, unseal};
-use crate::standing::{Slot, Standing};
+use crate::replies::Message;
+use crate::standing::{Journal, Slot, standing_of};
 use aes_gcm::Checks;
 use call_places::{Item, Place, Span};
-use request_frames::{CallLine, LaneAnswers, PlainList, Plan, Reply, call_refusal};
+use request_frames::{CallLine, LaneAnswers, Plan, Reply, call_refusal};
 
-type Journal = PlainList<Place>;
-
-// Seals a text, and writes its place.
-fn seal_on(
-    standing: &mut Standing,
-    journal: &mut Journal,
-    place: Place,
-    pool: &[u8],
-    item: &Item,
-    room: &mut [u8],
-    at: &mut usize,
-) -> Reply
-    requires context { Seals standing.old.sequential.context }
-    requires journal { standing.old.places < length journal.old }
-    requires item { IsItemWithin most_plaintext (length pool.now) item.now }
-    requires room { at.old + (item.now.text.len + 16) ≤ length room.old }
-    requires size { length room.old < 2 ^ 32 }
-    ensures standing { standing.new ≡ noted standing.old
-        (Seal (span_bytes pool.now item.now.aad) (span_bytes pool.now item.now.text)) }
-    ensures journal { journal.new ≡ slice_set journal.old standing.old.places place }
-    ensures place { at.new ≡ at.old + (item.now.text.len + 16) }
-    ensures front { take at.old room.new ≡ take at.old room.old }
-    ensures line { reply_line room.new result ≡ answer_line (Some (answer_now standing.old.sequential
-        (Seal (span_bytes pool.now item.now.aad) (span_bytes pool.now item.now.text)))) }
-    ensures range { IsInRange at.new result }
-{
-    standing.note(journal.as_mut_slice(), place);
-    let (aad, text) = (item.aad.of(pool), item.text.of(pool));
-    seal(&mut standing.sequential, aad, text, room, at)
-}
-
-// Opens a ciphertext, and writes its place.
-fn unseal_on(
-    standing: &mut Standing,
-    journal: &mut Journal,
-    place: Place,
-    pool: &[u8],
-    item: &Item,
-    room: &mut [u8],
-    at: &mut usize,
-    checks: &mut Checks,
-) -> Reply
-    requires context { Opens standing.old.sequential.context }
-    requires journal { standing.old.places < length journal.old }
-    requires item { IsItemWithin most_ciphertext (length pool.now) item.now }
-    requires room { at.old + (item.now.text.len - 16) ≤ length room.old }
-    requires size { length room.old < 2 ^ 32 }
-    requires count { checks.old < 2 ^ 64 - 1 }
-    ensures standing { standing.new ≡ noted standing.old
-        (Unseal (span_bytes pool.now item.now.aad) (span_bytes pool.now item.now.text)) }
-    ensures journal { journal.new ≡ slice_set journal.old standing.old.places place }
-    ensures place { at.new ≡ at.old + (item.now.text.len - 16) }
-    ensures front { take at.old room.new ≡ take at.old room.old }
-    ensures line { reply_line room.new result ≡ answer_line (Some (answer_now standing.old.sequential
-        (Unseal (span_bytes pool.now item.now.aad) (span_bytes pool.now item.now.text)))) }
-    ensures range { IsInRange at.new result }
-    ensures checks { checks.new ≡ checks.old + 1 }
-{
-    standing.note(journal.as_mut_slice(), place);
-    let (aad, ct) = (item.aad.of(pool), item.text.of(pool));
-    unseal(&mut standing.sequential, aad, ct, room, at, checks)
-}
-
-// Answers a seal that is not refused.
-fn seal_in(
-    plan: &Plan,
-    number: u32,
-    context: u32,
-    item: &Item,
-    slots: &mut [Slot],
-    journals: &mut [Journal],
-    room: &mut [u8],
-    at: &mut usize,
-) -> Reply
-    requires lanes { length plan.now.lanes ≤ 1 }
-    requires call { slice_get (calls_of plan.now) number ≡ Some (CallLine.Seal context item.now) }
-    requires served { refusal_of plan.now (CallLine.Seal context item.now) ≡ None }
-    requires item { IsItemWithin most_plaintext (length plan.now.pool) item.now }
-    requires stand { StandAfter plan.now number slots.old journals.old }
-    requires room { at.old + (item.now.text.len + 16) ≤ length room.old }
-    requires size { length room.old < 2 ^ 32 }
-    ensures stand { StandAfter plan.now (number + 1) slots.new journals.new }
-    ensures place { at.new ≡ at.old + (item.now.text.len + 16) }
-    ensures front { take at.old room.new ≡ take at.old room.old }
-    ensures line { reply_line room.new result
-        ≡ place_reply plan.now (journals_of plan.now) context (place_of 0 number 0) }
-    ensures range { IsInRange at.new result }
-{
-    let i = context as usize;
-    let Ok(standing) = &mut slots[i] else {
-        unreachable!()
-    };
-    let place = first_item(number);
-    seal_on(
-        standing,
-        &mut journals[i],
-        place,
-        plan.pool.as_slice(),
-        item,
-        room,
-        at,
-    )
-}
-
-// Answers an opening that is not refused.
-fn unseal_in(
-    plan: &Plan,
-    number: u32,
-    context: u32,
-    item: &Item,
-    slots: &mut [Slot],
-    journals: &mut [Journal],
-    room: &mut [u8],
-    at: &mut usize,
-    checks: &mut Checks,
-) -> Reply
-    requires lanes { length plan.now.lanes ≤ 1 }
-    requires call { slice_get (calls_of plan.now) number ≡ Some (CallLine.Unseal context item.now) }
-    requires served { refusal_of plan.now (CallLine.Unseal context item.now) ≡ None }
-    requires item { IsItemWithin most_ciphertext (length plan.now.pool) item.now }
-    requires stand { StandAfter plan.now number slots.old journals.old }
-    requires room { at.old + (item.now.text.len - 16) ≤ length room.old }
-    requires size { length room.old < 2 ^ 32 }
-    requires count { checks.old < 2 ^ 64 - 1 }
-    ensures stand { StandAfter plan.now (number + 1) slots.new journals.new }
-    ensures place { at.new ≡ at.old + (item.now.text.len - 16) }
-    ensures front { take at.old room.new ≡ take at.old room.old }
-    ensures line { reply_line room.new result
-        ≡ place_reply plan.now (journals_of plan.now) context (place_of 0 number 0) }
-    ensures range { IsInRange at.new result }
-    ensures checks { checks.new ≡ checks.old + 1 }
-{
-    let i = context as usize;
-    let Ok(standing) = &mut slots[i] else {
-        unreachable!()
-    };
-    let place = first_item(number);
-    unseal_on(
-        standing,
-        &mut journals[i],
-        place,
-        plan.pool.as_slice(),
-        item,
-        room,
-        at,
-        checks,
-    )
-}
-
-// Answers an export that is not refused.
-fn export_in(
-    plan: &Plan,
-    number: u32,
-    context: u32,
-    exporter: Span,
-    size: u32,
-    slots: &[Slot],
-    room: &mut [u8],
-    at: &mut usize,
-) -> Reply
-    requires served { refusal_of plan.now (CallLine.Export context exporter size) ≡ None }
-    requires exporter { IsInPool (length plan.now.pool) exporter }
-    requires stand { (c : ℕ) → slice_get slots.now c
-        ≡ option_map (slot_after plan.now number c) (slice_get (contexts_of plan.now) c) }
-    requires room { at.old + size ≤ length room.old }
-    requires range { length room.old < 2 ^ 32 }
-    ensures place { at.new ≡ at.old + size }
-    ensures front { take at.old room.new ≡ take at.old room.old }
-    ensures line { reply_line room.new result ≡ export_line
-        (standing_at (contexts_of plan.now) context) (span_bytes plan.now.pool exporter) size }
-    ensures range { IsInRange at.new result }
-{
-    let Ok(standing) = &slots[context as usize] else {
-        unreachable!()
-    };
-    let exporter_context = exporter.of(plan.pool.as_slice());
-    export(&standing.sequential, exporter_context, size, room, at)
+/// A plan while its calls are answered: its contexts, each at its sequence number, and what is
+/// written so far.
+#[derive(Drop)]
+pub(crate) struct Service<'a> {
+    pub(crate) plan: &'a Plan,
+    /// For each context the most bytes that it exports, and 0 where it is refused.
+    pub(crate) export_limits: &'a [u32],
+    pub(crate) slots: Vec<Slot>,
+    /// The journals, with room for all of their places.
+    pub(crate) journals: Vec<Journal>,
+    /// How many bytes of the lane's room are written.
+    pub(crate) filled: usize,
+    pub(crate) checks: Checks,
 }
 
 // The place of a call's first item.
@@ -211,164 +48,179 @@ fn first_item(number: u32) -> Place
     }
 }
 
-// Answers a call by its number in the lane.
-fn answer(
-    plan: &Plan,
-    export_limits: &[u32],
-    number: u32,
-    call: &CallLine,
-    slots: &mut [Slot],
-    journals: &mut [Journal],
-    room: &mut [u8],
-    at: &mut usize,
-    checks: &mut Checks,
-) -> Reply
-    requires lanes { length plan.now.lanes ≤ 1 }
-    requires limits { export_limits.now ≡ limits_of plan.now }
-    requires call { slice_get (calls_of plan.now) number ≡ Some call.now }
-    requires within { IsCallWithin (length plan.now.pool) call.now }
-    requires stand { StandAfter plan.now number slots.old journals.old }
-    requires room { at.old + call_room plan.now.contexts (limits_of plan.now) call.now ≤ length room.old }
-    requires size { length room.old < 2 ^ 32 }
-    requires count { checks.old ≤ number }
-    ensures stand { StandAfter plan.now (number + 1) slots.new journals.new }
-    ensures place { at.new ≡ at.old + call_room plan.now.contexts (limits_of plan.now) call.now }
-    ensures front { take at.old room.new ≡ take at.old room.old }
-    ensures line { reply_line room.new result
-        ≡ call_line plan.now (journals_of plan.now) 0 number call.now }
-    ensures range { IsInRange at.new result }
-    ensures count { checks.new ≤ number + 1 }
+// The bytes of an item.
+fn message_of<'a>(plan: &'a Plan, item: &Item) -> Message<'a>
+    requires aad { IsInPool (length plan.now.pool) item.now.aad }
+    requires text { IsInPool (length plan.now.pool) item.now.text }
+    ensures aad { result.aad.now ≡ span_bytes plan.now.pool item.now.aad }
+    ensures text { result.text.now ≡ span_bytes plan.now.pool item.now.text }
 {
-    if let Some(refusal) = call_refusal(plan.contexts.as_slice(), export_limits, call) {
-        return Reply::Refused(refusal);
+    let pool = plan.pool.as_slice();
+    Message {
+        aad: item.aad.of(pool),
+        text: item.text.of(pool),
     }
-    match *call {
-        CallLine::Seal { context, item } => {
-            seal_in(plan, number, context, &item, slots, journals, room, at)
+}
+
+impl Service<'_> {
+    // Answers a seal that is not refused, and writes its place.
+    fn seal(&mut self, number: u32, context: u32, item: &Item, room: &mut [u8]) -> Reply
+        requires serving { IsServing self.old.plan.now number self.old }
+        requires call { slice_get (calls_of self.old.plan.now) number
+            ≡ Some (CallLine.Seal context item.now) }
+        requires served { refusal_of self.old.plan.now (CallLine.Seal context item.now) ≡ None }
+        requires item { IsItemWithin most_plaintext (length self.old.plan.now.pool) item.now }
+        requires room { self.old.filled + (item.now.text.len + 16) ≤ length room.old }
+        requires size { length room.old < 2 ^ 32 }
+        ensures serving { IsServing self.old.plan.now (number + 1) self.new }
+        ensures filled { self.new.filled ≡ self.old.filled + (item.now.text.len + 16) }
+        ensures front { take self.old.filled room.new ≡ take self.old.filled room.old }
+        ensures line { reply_line room.new result ≡ place_reply self.old.plan.now
+            (journals_of self.old.plan.now) context (place_of 0 number 0) }
+        ensures range { IsInRange self.new.filled result }
+    {
+        let i = context as usize;
+        let Ok(standing) = &mut self.slots[i] else {
+            unreachable!()
+        };
+        let message = message_of(self.plan, item);
+        standing.note(&mut self.journals[i], first_item(number));
+        standing.seal(&message, room, &mut self.filled)
+    }
+
+    // Answers an opening that is not refused, and writes its place.
+    fn unseal(&mut self, number: u32, context: u32, item: &Item, room: &mut [u8]) -> Reply
+        requires serving { IsServing self.old.plan.now number self.old }
+        requires call { slice_get (calls_of self.old.plan.now) number
+            ≡ Some (CallLine.Unseal context item.now) }
+        requires served { refusal_of self.old.plan.now (CallLine.Unseal context item.now) ≡ None }
+        requires item { IsItemWithin most_ciphertext (length self.old.plan.now.pool) item.now }
+        requires room { self.old.filled + (item.now.text.len - 16) ≤ length room.old }
+        requires size { length room.old < 2 ^ 32 }
+        ensures serving { IsServing self.old.plan.now (number + 1) self.new }
+        ensures filled { self.new.filled ≡ self.old.filled + (item.now.text.len - 16) }
+        ensures front { take self.old.filled room.new ≡ take self.old.filled room.old }
+        ensures line { reply_line room.new result ≡ place_reply self.old.plan.now
+            (journals_of self.old.plan.now) context (place_of 0 number 0) }
+        ensures range { IsInRange self.new.filled result }
+    {
+        let i = context as usize;
+        let Ok(standing) = &mut self.slots[i] else {
+            unreachable!()
+        };
+        let message = message_of(self.plan, item);
+        standing.note(&mut self.journals[i], first_item(number));
+        standing.unseal(&message, room, &mut self.filled, &mut self.checks)
+    }
+
+    // Answers an export that is not refused.
+    fn export(&mut self, context: u32, exporter: Span, size: u32, room: &mut [u8]) -> Reply
+        requires serving { (k : ℕ) × IsServing self.old.plan.now k self.old }
+        requires served { refusal_of self.old.plan.now (CallLine.Export context exporter size)
+            ≡ None }
+        requires exporter { IsInPool (length self.old.plan.now.pool) exporter }
+        requires room { self.old.filled + size ≤ length room.old }
+        requires range { length room.old < 2 ^ 32 }
+        ensures kept { self.new ≡ record self.old { filled = self.old.filled + size } }
+        ensures front { take self.old.filled room.new ≡ take self.old.filled room.old }
+        ensures line { reply_line room.new result
+            ≡ export_line (standing_at (contexts_of self.old.plan.now) context)
+            (span_bytes self.old.plan.now.pool exporter) size }
+        ensures range { IsInRange self.new.filled result }
+    {
+        let standing = standing_of(&self.slots, context);
+        let exporter_context = exporter.of(self.plan.pool.as_slice());
+        standing.export(exporter_context, size, room, &mut self.filled)
+    }
+
+    // Answers a call by its number in the lane.
+    fn answer(&mut self, number: u32, call: &CallLine, room: &mut [u8]) -> Reply
+        requires serving { IsServing self.old.plan.now number self.old }
+        requires call { slice_get (calls_of self.old.plan.now) number ≡ Some call.now }
+        requires within { IsCallWithin (length self.old.plan.now.pool) call.now }
+        requires room { self.old.filled + call_room self.old.plan.now.contexts
+            (limits_of self.old.plan.now) call.now ≤ length room.old }
+        requires size { length room.old < 2 ^ 32 }
+        ensures serving { IsServing self.old.plan.now (number + 1) self.new }
+        ensures filled { self.new.filled ≡ self.old.filled + call_room self.old.plan.now.contexts
+            (limits_of self.old.plan.now) call.now }
+        ensures front { take self.old.filled room.new ≡ take self.old.filled room.old }
+        ensures line { reply_line room.new result
+            ≡ call_line self.old.plan.now (journals_of self.old.plan.now) 0 number call.now }
+        ensures range { IsInRange self.new.filled result }
+    {
+        let contexts = self.plan.contexts.as_slice();
+        if let Some(refusal) = call_refusal(contexts, self.export_limits, call) {
+            return Reply::Refused(refusal);
         }
-        CallLine::Unseal { context, item } => {
-            unseal_in(
-                plan, number, context, &item, slots, journals, room, at, checks,
-            )
+        match *call {
+            CallLine::Seal { context, item } => self.seal(number, context, &item, room),
+            CallLine::Unseal { context, item } => self.unseal(number, context, &item, room),
+            CallLine::Export {
+                context,
+                exporter,
+                size,
+            } => self.export(context, exporter, size, room),
         }
-        CallLine::Export {
-            context,
-            exporter,
-            size,
-        } => export_in(plan, number, context, exporter, size, slots, room, at),
     }
-}
 
-// Answers the calls of the lane in their order.
-fn answer_calls(
-    plan: &Plan,
-    export_limits: &[u32],
-    calls: &[CallLine],
-    slots: &mut [Slot],
-    journals: &mut [Journal],
-    room: &mut [u8],
-    replies: &mut [Reply],
-    checks: &mut Checks,
-)
-    requires lanes { length plan.now.lanes ≤ 1 }
-    requires limits { export_limits.now ≡ limits_of plan.now }
-    requires calls { calls.now ≡ calls_of plan.now }
-    requires within { All (IsCallWithin (length plan.now.pool)) calls.now }
-    requires few { length calls.now < 2 ^ 32 }
-    requires stand { StandAfter plan.now 0 slots.old journals.old }
-    requires room { length room.old ≡ sum_by (call_room plan.now.contexts (limits_of plan.now)) calls.now }
-    requires size { length room.old < 2 ^ 32 }
-    requires replies { length replies.old ≡ length calls.now }
-    requires count { checks.old ≡ 0 }
-    ensures journals { journals.new ≡ journals_of plan.now }
-    ensures lines { flat_map (reply_line room.new) replies.new
-        ≡ lane_lines plan.now (journals_of plan.now) 0 calls.now }
-    ensures range { All (IsInRange (length room.new)) replies.new }
-{
-    let mut at = 0;
-    'calls: for i in 0..calls.len() {
-        let number = i as u32;
-        replies[i] = answer(
-            plan,
-            export_limits,
-            number,
-            &calls[i],
-            slots,
-            journals,
-            room,
-            &mut at,
-            checks,
-        );
+    // Answers the calls of the lane in their order.
+    fn answer_calls(&mut self, calls: &[CallLine], room: &mut [u8], replies: &mut [Reply])
+        requires serving { IsServing self.old.plan.now 0 self.old }
+        requires calls { calls.now ≡ calls_of self.old.plan.now }
+        requires within { All (IsCallWithin (length self.old.plan.now.pool)) calls.now }
+        requires few { length calls.now < 2 ^ 32 }
+        requires filled { self.old.filled ≡ 0 }
+        requires room { length room.old ≡ sum_by (call_room self.old.plan.now.contexts
+            (limits_of self.old.plan.now)) calls.now }
+        requires size { length room.old < 2 ^ 32 }
+        requires replies { length replies.old ≡ length calls.now }
+        ensures journals { self.new.journals.items ≡ journals_of self.old.plan.now }
+        ensures lines { flat_map (reply_line room.new) replies.new
+            ≡ lane_lines self.old.plan.now (journals_of self.old.plan.now) 0 calls.now }
+        ensures range { All (IsInRange (length room.new)) replies.new }
+    {
+        'calls: for i in 0..calls.len() {
+            replies[i] = self.answer(i as u32, &calls[i], room);
+        }
     }
-}
 
-// Answers the calls of the lane.
-fn answer_lane(
-    plan: &Plan,
-    export_limits: &[u32],
-    calls: &[CallLine],
-    slots: &mut [Slot],
-    journals: &mut [Journal],
-    lane: &mut LaneAnswers,
-    checks: &mut Checks,
-)
-    requires lanes { length plan.now.lanes ≤ 1 }
-    requires limits { export_limits.now ≡ limits_of plan.now }
-    requires calls { calls.now ≡ calls_of plan.now }
-    requires within { All (IsCallWithin (length plan.now.pool)) calls.now }
-    requires few { length calls.now < 2 ^ 32 }
-    requires stand { StandAfter plan.now 0 slots.old journals.old }
-    requires room { lane.old ≡ lane_room plan.now.contexts (limits_of plan.now) calls.now }
-    requires size { sum_by (call_room plan.now.contexts (limits_of plan.now)) calls.now < 2 ^ 32 }
-    requires count { checks.old ≡ 0 }
-    ensures journals { journals.new ≡ journals_of plan.now }
-    ensures lines { lane_replies lane.new ≡ lane_lines plan.now (journals_of plan.now) 0 calls.now }
-    ensures printable { IsPrintable lane.new }
-{
-    let replies = lane.replies.as_mut_slice();
-    let room = lane.pool.as_mut_slice();
-    answer_calls(
-        plan,
-        export_limits,
-        calls,
-        slots,
-        journals,
-        room,
-        replies,
-        checks,
-    );
-}
+    // Answers the calls of the lane.
+    fn answer_lane(&mut self, calls: &[CallLine], lane: &mut LaneAnswers)
+        requires serving { IsServing self.old.plan.now 0 self.old }
+        requires calls { calls.now ≡ calls_of self.old.plan.now }
+        requires within { All (IsCallWithin (length self.old.plan.now.pool)) calls.now }
+        requires few { length calls.now < 2 ^ 32 }
+        requires filled { self.old.filled ≡ 0 }
+        requires room { lane.old ≡ lane_room self.old.plan.now.contexts
+            (limits_of self.old.plan.now) calls.now }
+        requires size { sum_by (call_room self.old.plan.now.contexts
+            (limits_of self.old.plan.now)) calls.now < 2 ^ 32 }
+        ensures journals { self.new.journals.items ≡ journals_of self.old.plan.now }
+        ensures lines { lane_replies lane.new
+            ≡ lane_lines self.old.plan.now (journals_of self.old.plan.now) 0 calls.now }
+        ensures printable { IsPrintable lane.new }
+    {
+        let replies = lane.replies.as_mut_slice();
+        let room = lane.pool.as_mut_slice();
+        self.answer_calls(calls, room, replies);
+    }
 
-/// Answers the calls of all lanes of a plan, of which there is one at most, in the room that was
-/// taken for their replies and their places.
-pub(crate) fn answer_lanes(
-    plan: &Plan,
-    export_limits: &[u32],
-    slots: &mut [Slot],
-    journals: &mut [Journal],
-    lanes: &mut [LaneAnswers],
-    checks: &mut Checks,
-)
-    requires within { IsWithinLimits plan.now }
-    requires limits { export_limits.now ≡ limits_of plan.now }
-    requires stand { StandAfter plan.now 0 slots.old journals.old }
-    requires room { lanes.old ≡ map (lane_room plan.now.contexts (limits_of plan.now)) plan.now.lanes }
-    requires count { checks.old ≡ 0 }
-    ensures journals { journals.new ≡ journals_of plan.now }
-    ensures lines { map lane_replies lanes.new
-        ≡ all_lane_lines plan.now (journals_of plan.now) 0 plan.now.lanes }
-    ensures printable { All IsPrintable lanes.new }
-{
-    if let Some(calls) = plan.lanes.as_slice().first() {
-        let calls = calls.as_slice();
-        answer_lane(
-            plan,
-            export_limits,
-            calls,
-            slots,
-            journals,
-            &mut lanes[0],
-            checks,
-        );
+    /// Answers the calls of all lanes of the plan, of which there is one at most, in the room that
+    /// was taken for their replies and their places.
+    pub(crate) fn answer_lanes(&mut self, lanes: &mut [LaneAnswers])
+        requires within { IsWithinLimits self.old.plan.now }
+        requires serving { IsServing self.old.plan.now 0 self.old }
+        requires filled { self.old.filled ≡ 0 }
+        requires room { lanes.old ≡ map (lane_room self.old.plan.now.contexts
+            (limits_of self.old.plan.now)) self.old.plan.now.lanes }
+        ensures journals { self.new.journals.items ≡ journals_of self.old.plan.now }
+        ensures lines { map lane_replies lanes.new ≡ all_lane_lines self.old.plan.now
+            (journals_of self.old.plan.now) 0 self.old.plan.now.lanes }
+        ensures printable { All IsPrintable lanes.new }
+    {
+        if let Some(calls) = self.plan.lanes.as_slice().first() {
+            self.answer_lane(calls.as_slice(), &mut lanes[0]);
+        }
     }
 }

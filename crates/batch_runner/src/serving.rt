@@ -1,6 +1,7 @@
 //! The top call: from the words and the input to the outcome and the text.
 
-ghost use Rattle.std.specs.Prelude.{◌≡◌, ◌↔◌, ◌⊎◌, ◌≤◌, ◌≢◌, ℕ, List, length, map, IsOk, IfOk, Some, None};
+ghost use Rattle.std.specs.Prelude.{◌≡◌, ◌↔◌, ◌⊎◌, ◌≤◌, ◌≢◌, ℕ, List};
+ghost use Rattle.std.specs.Prelude.{length, map, IsOk, IfOk, Some, None};
 ghost use Rattle.std.specs.String.{string_bytes};
 ghost use Rattle.std.specs.Io.KnownBytes.{Consumes, Appends};
 ghost use Rattle.batch_io.specs.Outside.{Rose};
@@ -15,7 +16,7 @@ ghost use Rattle.batch_runner.specs.Outcomes.{outcome_for};
 ghost use Rattle.batch_runner.specs.Text.{IsReply, IsDue};
 ghost use Rattle.batch_words.specs.Words.{command_of};
 
-use crate::answering::answer_lanes;
+use crate::answering::Service;
 use crate::outcomes::Outcome;
 use crate::reading::{ReadStop, read_input};
 use crate::set_up::{context_replies, export_limits, set_up};
@@ -32,28 +33,35 @@ use std::sync::Wait;
 use std::thread::Threads;
 
 // The answers to a plan. All memory is taken before the first call is answered.
-fn answers_to(alloc: Global, plan: &Plan, checks: &mut Checks) -> Result<Answers, AllocError>
+fn answers_to(alloc: Global, plan: &Plan, checks: Checks) -> Result<Answers, AllocError>
     requires within { IsWithinLimits plan.now }
-    requires count { checks.old ≡ 0 }
+    requires count { checks ≡ 0 }
     ensures text { IfOk result (λ answers. IsReply plan.now (answers_text answers)) }
     ensures answered { IfOk result (IsAnswered plan.now) }
 {
     let contexts = set_up(alloc, plan)?;
     let replies = context_replies(alloc, &contexts)?;
     let limits = export_limits(alloc, &contexts)?;
-    let mut slots = all_begun(alloc, contexts)?;
+    let slots = all_begun(alloc, contexts)?;
     let keys = PlainList::from_vec(Vec::new(alloc));
     let mut answers = Answers::for_plan(alloc, plan, keys, replies, &limits)?;
-    let journals = answers.journals.as_mut_slice();
-    let lanes = answers.lanes.as_mut_slice();
-    answer_lanes(plan, &limits, &mut slots, journals, lanes, checks);
+    let mut service = Service {
+        plan,
+        export_limits: &limits,
+        slots,
+        journals: answers.journals.into_vec(),
+        filled: 0,
+        checks,
+    };
+    service.answer_lanes(answers.lanes.as_mut_slice());
+    answers.journals = PlainList::from_vec(service.journals);
     Ok(answers)
 }
 
 // Writes the replies to a plan.
-fn reply_to<K: Sink>(alloc: Global, plan: &Plan, checks: &mut Checks, sink: &mut K) -> Outcome
+fn reply_to<K: Sink>(alloc: Global, plan: &Plan, checks: Checks, sink: &mut K) -> Outcome
     requires within { IsWithinLimits plan.now }
-    requires count { checks.old ≡ 0 }
+    requires count { checks ≡ 0 }
     ensures outcomes { (result ≡ Outcome.Done) ⊎ (result ≡ Outcome.WriteFault)
         ⊎ (result ≡ Outcome.OutOfMemory) }
     ensures done { result ≡ Outcome.Done → (text : List ℕ) × IsReply plan.now text
@@ -92,8 +100,8 @@ fn tell_bad<K: Sink>(bad: &BadBatch, sink: &mut K) -> Outcome
 }
 
 // Writes a text that is due for an input.
-fn answer_input<K: Sink>(alloc: Global, input: &[u8], checks: &mut Checks, sink: &mut K) -> Outcome
-    requires { checks.old ≡ 0 }
+fn answer_input<K: Sink>(alloc: Global, input: &[u8], checks: Checks, sink: &mut K) -> Outcome
+    requires { checks ≡ 0 }
     ensures outcomes { (result ≡ outcome_for (batch input.now)) ⊎ (result ≡ Outcome.WriteFault)
         ⊎ (result ≡ Outcome.OutOfMemory) }
     ensures whole { result ≡ outcome_for (batch input.now) → (text : List ℕ) × IsDue input.now text
@@ -113,13 +121,8 @@ fn answer_input<K: Sink>(alloc: Global, input: &[u8], checks: &mut Checks, sink:
 }
 
 // The command `run`: reads a batch and answers it.
-fn run<S: Source, K: Sink>(
-    alloc: Global,
-    source: &mut S,
-    sink: &mut K,
-    checks: &mut Checks,
-) -> Outcome
-    requires { checks.old ≡ 0 }
+fn run<S: Source, K: Sink>(alloc: Global, source: &mut S, sink: &mut K, checks: Checks) -> Outcome
+    requires { checks ≡ 0 }
     ensures usage { result ≢ Outcome.Usage }
     ensures done { result ≡ Outcome.Done → (input : List ℕ)
         × IsInput (S.left source.old) (S.left source.new) input × IsOk (batch input)
@@ -136,8 +139,10 @@ fn run<S: Source, K: Sink>(
         × AppendsPrefix (K.written sink.old) (K.written sink.new) text }
     ensures unwritten { (result ≡ Outcome.ReadFault) ⊎ (result ≡ Outcome.OutOfMemory)
         → sink.new ≡ sink.old }
-    ensures read_fault { result ≡ Outcome.ReadFault → Rose (S.faults source.old) (S.faults source.new) }
-    ensures write_fault { result ≡ Outcome.WriteFault → Rose (K.faults sink.old) (K.faults sink.new) }
+    ensures read_fault { result ≡ Outcome.ReadFault
+        → Rose (S.faults source.old) (S.faults source.new) }
+    ensures write_fault { result ≡ Outcome.WriteFault
+        → Rose (K.faults sink.old) (K.faults sink.new) }
     ensures taken { (front : List ℕ) × Consumes (S.left source.old) (S.left source.new) front
         × (length front ≤ INPUT_LIMIT) }
     ensures complete { (input : List ℕ) → S.left source.old ≡ Some input
@@ -158,9 +163,9 @@ fn run<S: Source, K: Sink>(
 /// The command grammar is `command_of` of batch_words. A text is due where `IsDue` of
 /// `specs/Text.antt` says so: the replies to the batch with legal journals of its contexts, which
 /// the text itself prints, or the first bad line of the input. At most 67,108,865 bytes are taken,
-/// each turn of the reading takes one at least, and all memory that the answers need is taken before
-/// the first call is answered. The lanes are served one after another, however many workers the words
-/// ask for, and `gate` is told nothing.
+/// each turn of the reading takes one at least, and all memory that the answers need is taken
+/// before the first call is answered. The lanes are served one after another, however many workers
+/// the words ask for, and `gate` is told nothing.
 ///
 /// The input is what the source tells, and the text written what the sink tells; over ends that
 /// tell nothing the clauses speak of the outcomes and the counts of faults alone.
@@ -194,8 +199,10 @@ pub fn serve_words<R: Threads + Wait + Sync, S: Source, K: Sink, G: Gate + Sync>
         → sink.new ≡ sink.old }
 
     // Why a fault comes.
-    ensures read_fault { result ≡ Outcome.ReadFault → Rose (S.faults source.old) (S.faults source.new) }
-    ensures write_fault { result ≡ Outcome.WriteFault → Rose (K.faults sink.old) (K.faults sink.new) }
+    ensures read_fault { result ≡ Outcome.ReadFault
+        → Rose (S.faults source.old) (S.faults source.new) }
+    ensures write_fault { result ≡ Outcome.WriteFault
+        → Rose (K.faults sink.old) (K.faults sink.new) }
 
     // What was read, however the run ended.
     ensures taken { (front : List ℕ) × Consumes (S.left source.old) (S.left source.new) front
@@ -209,14 +216,14 @@ pub fn serve_words<R: Threads + Wait + Sync, S: Source, K: Sink, G: Gate + Sync>
         → (result ≡ outcome_for (batch input)) ⊎ (result ≡ Outcome.OutOfMemory) }
 {
     match read_words(alloc, words) {
-        Ok(Some(Command::Run { .. })) => run(alloc, source, sink, &mut Checks::new(rt)),
+        Ok(Some(Command::Run { .. })) => run(alloc, source, sink, Checks::new(rt)),
         Ok(None) => Outcome::Usage,
         Err(_) => Outcome::OutOfMemory,
     }
 }
 
-/// The same over ends that never fail: no fault is answered, and words in the grammar leave only the
-/// input's own outcome and want of memory.
+/// The same over ends that never fail: no fault is answered, and words in the grammar leave only
+/// the input's own outcome and want of memory.
 pub fn serve_pure<R: Threads + Wait + Sync, G: Gate + Sync>(
     rt: &R,
     alloc: Global,

@@ -1,13 +1,18 @@
 //! The contexts while a plan is served: each at its sequence number, and its journal.
 
-ghost use Rattle.std.specs.Prelude.{◌≡◌, ◌+◌, ◌<◌, length, map, IfOk, slice_set};
-ghost use Rattle.batch_runner.specs.Serving.{begun};
+ghost use Rattle.std.specs.Prelude.{◌≡◌, ◌+◌, ◌<◌, length, map, Some, Ok, IfOk};
+ghost use Rattle.std.specs.Prelude.{slice_get, slice_set};
+ghost use Rattle.batch_runner.specs.Serving.{begun, StandsIn};
 
 use crate::set_up::SetUp;
 use call_places::Place;
 use hpke_context::Sequential;
 use key_schedule::PskFault;
+use request_frames::PlainList;
 use std::alloc::{AllocError, Global};
+
+/// The places of a context, with room for all of them.
+pub(crate) type Journal = PlainList<Place>;
 
 /// A context that stands, and how many places of its journal are written.
 #[derive(Drop)]
@@ -42,15 +47,26 @@ pub(crate) fn all_begun(alloc: Global, contexts: Vec<SetUp>) -> Result<Vec<Slot>
     Ok(slots)
 }
 
+/// The context of this number, which stands.
+pub(crate) fn standing_of(slots: &[Slot], number: u32) -> &Standing
+    requires { StandsIn slots.now number }
+    ensures { slice_get slots.now number ≡ Some (Ok result.now) }
+{
+    let Ok(standing) = &slots[number as usize] else {
+        unreachable!()
+    };
+    standing
+}
+
 impl Standing {
     /// Writes the next place of the journal.
-    pub(crate) fn note(&mut self, journal: &mut [Place], place: Place)
+    pub(crate) fn note(&mut self, journal: &mut Journal, place: Place)
         requires { self.old.places < length journal.old }
         ensures sequential { self.new.sequential ≡ self.old.sequential }
         ensures places { self.new.places ≡ self.old.places + 1 }
         ensures journal { journal.new ≡ slice_set journal.old self.old.places place }
     {
-        journal[self.places] = place;
+        journal.as_mut_slice()[self.places] = place;
         self.places += 1;
     }
 }
