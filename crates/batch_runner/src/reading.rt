@@ -38,7 +38,8 @@ impl From<AllocError> for ReadStop {
 /// Room for all of them is taken at once, so that no byte is copied twice. Each turn takes a byte,
 /// so reading ends.
 pub(crate) fn read_input<S: Source>(alloc: Global, source: &mut S) -> Result<Vec<u8>, ReadStop>
-    ensures input { IfOk result (λ bytes. IsInput (S.left source.old) (S.left source.new) bytes.items) }
+    ensures input { IfOk result (λ bytes.
+        IsInput (S.left source.old) (S.left source.new) bytes.items) }
     ensures taken { (front : List ℕ) × Consumes (S.left source.old) (S.left source.new) front
         × (length front ≤ INPUT_LIMIT) }
     ensures later { S.faults source.old ≤ S.faults source.new }
