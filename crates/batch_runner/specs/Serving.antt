@@ -86,7 +86,7 @@ pub record StandAfter (plan : Plan) (k : ℕ) (states : List (Result Standing Ps
   pub count : length books ≡ length plan.contexts
   pub journals : (c : ℕ) → c < length plan.contexts → IsJournalAfter plan k c (journal_at books c)
 
--- a plan after its first k calls, with its one lane
+-- a service of this plan, of one lane at most, after its first k calls
 pub record IsServing (plan : Plan) (k : ℕ) (s : Service) : Type 0 where
   pub plan_is : s.plan.now ≡ plan
   pub lanes : length plan.lanes ≤ 1

@@ -1,10 +1,8 @@
-use Rattle.std.proofs.Common.{◌≡◌, ◌≤◌, ◌∙◌, Some, Ok, Result, ap, sym, subst}
+use Rattle.std.proofs.Common.{◌≤◌, ◌∙◌, ap, sym, subst}
 use Rattle.std.specs.Prelude.{slice_get}
 use Rattle.call_places.specs.Spans.{span_bytes}
-use Rattle.key_schedule.specs.declared.psks.PskFault.{PskFault}
 use Rattle.hpke_context.specs.Contexts.{ContextView, export_limit, exported_by}
 use Rattle.request_frames.specs.ReplyText.{exported_line}
-use Rattle.batch_runner.specs.declared.standing.Standing.{Standing}
 use Rattle.batch_runner.specs.SetUp.{standing_in}
 use Rattle.batch_runner.specs.Calls.{export_line}
 use Rattle.batch_runner.specs.Serving.{places_after, standing_with}
