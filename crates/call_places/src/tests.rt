@@ -1,7 +1,7 @@
-ghost use Rattle.std.specs.Prelude.{◌≡◌};
+ghost use Rattle.std.specs.Prelude.{◌≡◌, []};
 ghost use Rattle.call_places.specs.Entries.{last_of};
 
-use crate::{Entry, Listed, Place, Step, later_entries_change_no_number};
+use crate::{Act, Entry, Item, Listed, Mark, Place, Span, Step, later_entries_change_no_number};
 use std::collections::LinkedList;
 use std::test::Fail;
 
@@ -23,7 +23,7 @@ fn last_in(entries: &[Entry]) -> Option<Entry>
 impl Listed for Log {
     ghost entries = { λ log. log.entries.items };
 
-    ghost terms = { λ log. record { limit = log.limit; quotas = log.quotas } };
+    ghost terms = { λ log. record { limit = log.limit; quotas = log.quotas; counter = [] } };
 
     fn last_entry(&self) -> Option<Entry> {
         last_in(&self.entries)
@@ -40,16 +40,28 @@ fn entry(call: u32, step: Step) -> Entry {
         call,
         item: 0,
     };
-    Entry { place, step }
+    Entry {
+        place,
+        stamp: 7 * u64::from(call),
+        step,
+    }
 }
 
 // RFC 9180, 5.2: the sequence number is raised where a message was sealed or opened.
-const STEPS: [(Step, bool); 5] = [
+const STEPS: [(Step, bool); 6] = [
     (Step::Sealed, true),
     (Step::SealLimit, false),
     (Step::Opened, true),
     (Step::Failed, false),
     (Step::OpenLimit, false),
+    (
+        Step::Note {
+            name: 0,
+            act: Act::Look,
+            live: true,
+        },
+        false,
+    ),
 ];
 
 #[test]
@@ -67,8 +79,24 @@ fn a_log_is_listed_and_shows_its_last_entry(rt: HostRuntime) -> Result<(), Fail>
         let next = entry(call, step);
         log.entries.push(next)?;
         assert_eq!(rt; last_of_listed(&log), Some(next), "{step:?}");
+        let mark = Mark {
+            place: next.place,
+            stamp: next.stamp,
+        };
+        assert_eq!(rt; next.mark(), mark, "{step:?}");
         call = call.wrapping_add(1);
     }
     later_entries_change_no_number(&log.entries, &log.entries);
     Ok(())
+}
+
+#[test]
+fn an_item_names_bytes_of_its_pool(rt: HostRuntime) {
+    let pool = b"aadtext";
+    let item = Item {
+        aad: Span { start: 0, len: 3 },
+        text: Span { start: 3, len: 4 },
+    };
+    assert!(rt; item.aad.of(pool) == b"aad".as_slice());
+    assert!(rt; item.text.of(pool) == b"text".as_slice());
 }

@@ -40,7 +40,11 @@ fn last(list: &[Entry]) -> Option<Entry>
 // Adds an entry, if there is memory.
 fn note(log: &mut Log, lane: u32, call: u32)
     ensures { (log.new.list.items ≡ log.old.list.items) ⊎ (log.new.list.items ≡ log.old.list.items
-        ++ (record { place = record { lane = lane; call = call; item = 0 }; step = Sealed }) ∷ []) }
+        ++ (record {
+          place = record { lane = lane; call = call; item = 0 };
+          stamp = 0;
+          step = Sealed;
+        }) ∷ []) }
 {
     let entry = Entry {
         place: Place {
@@ -48,6 +52,7 @@ fn note(log: &mut Log, lane: u32, call: u32)
             call,
             item: 0,
         },
+        stamp: 0,
         step: Step::Sealed,
     };
     let _ = log.list.push(entry);

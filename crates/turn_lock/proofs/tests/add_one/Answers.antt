@@ -11,7 +11,7 @@ pub returns : goal.returns
 returns g c =
     let e = c.enter-held.ensures in
     let l = c.leave.ensures in
-    let new : Entry = record { place = record { lane = c.number-lane.result; call = c.args.call; item = 0 }; step = Sealed } in
+    let new : Entry = record { place = record { lane = c.number-lane.result; call = c.args.call; item = 0 }; stamp = 0; step = Sealed } in
     let was = ap (λ v. v.list.items) c.value.ensures.value ∙ sym e.seen in
     let next : c.leave.result.next_call ≤ c.args.call + 1 = ⊎_elim
     (λ same. let n = l.next_call [] (same ∙ was ∙ sym (append-nil c.enter-held.result.seen)) in omega (arith, n, e.pass.next_call))
