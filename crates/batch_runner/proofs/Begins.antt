@@ -9,7 +9,7 @@ use Rattle.std.proofs.lemmas.Option.{slice_get-map}
 use Rattle.call_places.specs.declared.entries.Place.{Place}
 use Rattle.key_schedule.specs.declared.psks.PskFault.{PskFault}
 use Rattle.hpke_context.specs.Contexts.{ContextView}
-use Rattle.legal_journals.specs.Batches.{Ask, Nothing, Seals, Opens, place, asked, all_asked, on, lane_places}
+use Rattle.legal_journals.specs.Batches.{Nothing, ToSeal, ToOpen, place, asked, all_asked, on, lane_places}
 use Rattle.legal_journals.specs.Legal.{Legal}
 use Rattle.legal_journals.proofs.Lists.{on-append}
 use Rattle.legal_journals.proofs.OneLane.{one_lane_legal, no_lane_legal}
@@ -33,14 +33,14 @@ one_or_none true p = refl
 one_or_none false p = refl
 
 count_seal : (c k d : ℕ) (aad text : List ℕ) (r : Option CallRefusal)
-    → length (on c (asked 0 k (ask_unless r (Seals d aad text)))) ≡ items_at (if_served r d) c 1
+    → length (on c (asked 0 k (ask_unless r (ToSeal d aad text)))) ≡ items_at (if_served r d) c 1
 count_seal c k d aad text None = one_or_none (d == c) (place 0 k 0)
 count_seal c k d aad text (Some refused) = refl
 
-count_open : (c k d : ℕ) (m : Rattle.legal_journals.specs.Batches.Message) (r : Option CallRefusal)
-    → length (on c (asked 0 k (ask_unless r (Opens d (m ∷ []))))) ≡ items_at (if_served r d) c 1
-count_open c k d m None = one_or_none (d == c) (place 0 k 0)
-count_open c k d m (Some refused) = refl
+count_open : (c k d : ℕ) (aad ct : List ℕ) (r : Option CallRefusal)
+    → length (on c (asked 0 k (ask_unless r (ToOpen d aad ct)))) ≡ items_at (if_served r d) c 1
+count_open c k d aad ct None = one_or_none (d == c) (place 0 k 0)
+count_open c k d aad ct (Some refused) = refl
 
 count_export : (c k : ℕ) (r : Option CallRefusal) → length (on c (asked 0 k (ask_unless r Nothing))) ≡ 0
 count_export c k None = refl
@@ -49,7 +49,7 @@ count_export c k (Some refused) = refl
 count_call : (plan : Plan) (c k : ℕ) (call : CallLine)
     → length (on c (asked 0 k (ask_of plan call))) ≡ items_on plan.contexts (export_limits plan) c call
 count_call plan c k (calls.Seal d item) = count_seal c k d _ _ (call_refusal plan (calls.Seal d item))
-count_call plan c k (calls.Unseal d item) = count_open c k d _ (call_refusal plan (calls.Unseal d item))
+count_call plan c k (calls.Unseal d item) = count_open c k d _ _ (call_refusal plan (calls.Unseal d item))
 count_call plan c k (calls.Export d exporter size) = count_export c k (call_refusal plan (calls.Export d exporter size))
 
 count_calls : (plan : Plan) (c k : ℕ) (calls : List CallLine)

@@ -8,7 +8,7 @@ use Rattle.call_places.specs.declared.entries.Place.{Place}
 use Rattle.key_schedule.specs.declared.psks.PskFault.{PskFault}
 use Rattle.hpke_context.specs.Answers.{Item, Seal, Unseal, next, answer}
 use Rattle.hpke_context.specs.Contexts.{ContextView, cipher_of, answer_now}
-use Rattle.legal_journals.specs.Batches.{Ask, Nothing, Seals, Opens, Message, place, block, asked, all_asked, on, item_of, item_in_call, lane_places}
+use Rattle.legal_journals.specs.Batches.{Ask, Nothing, ToSeal, ToOpen, place, block, asked, all_asked, on, item_of, item_in_call, lane_places}
 use Rattle.legal_journals.specs.Legal.{due_after, reply_of}
 use Rattle.legal_journals.proofs.Lists.{on-spots, on-spots_same, is_cases}
 use Rattle.legal_journals.proofs.OneLane.{answered, parted_places, places_more, places_same, due_more}
@@ -43,7 +43,7 @@ pub record AsksOne (plan : Plan) (k d : ℕ) (a : Ask) (x : Item) : Type 0 where
 none_other : (c d : ℕ) (ps : List Place) → c ≢ d → on c (Rattle.legal_journals.specs.Batches.spots d ps) ≡ []
 none_other c d ps ne = on-spots c d ps ∙ ap (λ b. cond b ps []) (ne_eqb d c (λ e. ne (sym e)))
 
-pub asks_seal : (plan : Plan) (k d : ℕ) (aad text : List ℕ) → slice_get (asks_in plan) k ≡ Some (Seals d aad text) → AsksOne plan k d (Seals d aad text) (Seal aad text)
+pub asks_seal : (plan : Plan) (k d : ℕ) (aad text : List ℕ) → slice_get (asks_in plan) k ≡ Some (ToSeal d aad text) → AsksOne plan k d (ToSeal d aad text) (Seal aad text)
 asks_seal plan k d aad text e = record {
   ask = e;
   one = on-spots_same d (block 0 k 0 1);
@@ -51,8 +51,8 @@ asks_seal plan k d aad text e = record {
   item = ap (λ (o : Option Ask). item_in_call o 0) e;
 }
 
-pub asks_open : (plan : Plan) (k d : ℕ) (m : Message) → slice_get (asks_in plan) k ≡ Some (Opens d (m ∷ [])) → AsksOne plan k d (Opens d (m ∷ [])) (Unseal m.aad m.ct)
-asks_open plan k d m e = record {
+pub asks_open : (plan : Plan) (k d : ℕ) (aad ct : List ℕ) → slice_get (asks_in plan) k ≡ Some (ToOpen d aad ct) → AsksOne plan k d (ToOpen d aad ct) (Unseal aad ct)
+asks_open plan k d aad ct e = record {
   ask = e;
   one = on-spots_same d (block 0 k 0 1);
   others = λ c ne. none_other c d (block 0 k 0 1) ne;

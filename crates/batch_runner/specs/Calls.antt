@@ -1,10 +1,10 @@
 -- What the calls of a plan ask of its contexts, and what they are answered.
-use Rattle.std.specs.Prelude.{ℕ, List, [], ◌∷◌, ◌++◌, codes, decimal, map, false, Option, Some, None, slice_index_or}
+use Rattle.std.specs.Prelude.{ℕ, List, [], ◌++◌, codes, decimal, map, false, Option, Some, None, slice_index_or}
 use Rattle.call_places.specs.Spans.{span_bytes}
 use Rattle.call_places.specs.declared.entries.Place.{Place}
 use Rattle.hpke_context.specs.Answers.{Cipher, Answer, Sealed_at, Opened_at, Failed_at, At_limit}
 use Rattle.hpke_context.specs.Contexts.{ContextView, cipher_of, exported_by}
-use Rattle.legal_journals.specs.Batches.{Ask, Nothing, Seals, Opens, Batch, place}
+use Rattle.legal_journals.specs.Batches.{Ask, Nothing, ToSeal, ToOpen, Batch, place}
 use Rattle.legal_journals.specs.Legal.{reply_of}
 use Rattle.request_frames.specs.declared.plan.Plan.{Plan}
 use Rattle.request_frames.specs.declared.plan.CallLine.{CallLine}
@@ -22,9 +22,9 @@ call_refusal plan call = refusal plan.contexts (export_limits plan) call
 
 -- what a call asks that isn't refused; its spans name bytes of the pool
 abbrev pub asked_by : List ℕ → CallLine → Ask
-asked_by pool (Seal context item) = Seals context (span_bytes pool item.aad) (span_bytes pool item.text)
+asked_by pool (Seal context item) = ToSeal context (span_bytes pool item.aad) (span_bytes pool item.text)
 asked_by pool (Unseal context item) =
-    Opens context (record { aad = span_bytes pool item.aad; ct = span_bytes pool item.text } ∷ [])
+    ToOpen context (span_bytes pool item.aad) (span_bytes pool item.text)
 asked_by pool (Export context exporter size) = Nothing
 
 abbrev pub ask_unless : Option CallRefusal → Ask → Ask

@@ -1,4 +1,13 @@
 pub mod Lists
 pub mod Legals
-pub mod OneLane
 pub mod Numbers
+pub mod OneLane
+pub mod Marks
+pub mod Spots
+pub mod Places
+pub mod Runs
+pub mod EntryNumbers
+pub mod Guessing
+pub mod Checking
+pub mod OneHistory
+pub mod CheckingHistory

@@ -1,12 +1,13 @@
 -- One lane that is served in its order.
 use Rattle.std.proofs.Common.{◌≡◌, ◌≢◌, ℕ, zero, suc, ◌+◌, ◌<◌, ◌≤◌, ◌==◌, ◌&&◌, Bool, true, false, cond, List, [], ◌∷◌, ◌++◌, length, take, drop, sym, refl, ap, ◌∙◌, subst, arith, append_assoc, Option, Some, None, inl, inr}
-use Rattle.std.specs.Prelude.{slice_get}
+use Rattle.std.specs.Prelude.{slice_get, map}
+use Rattle.std.proofs.lemmas.List.{length-map}
 use Rattle.call_places.specs.declared.entries.Place.{Place}
 use Rattle.hpke_context.specs.Answers.{Cipher, Item, Seal, Unseal, answer, run, due, next}
 use Rattle.hpke_context.proofs.Runs.{due-append}
-use Rattle.legal_journals.specs.Batches.{Batch, Ask, Seals, Opens, Message, block, place, asked, all_asked, on, lane_of, lane_places, item_of, items_of, item_in_call, item_or_none, IsServed}
+use Rattle.legal_journals.specs.Batches.{Batch, Ask, ToSeal, ToOpen, ToOpenAll, unseal, block, place, asked, all_asked, on, own_places, lane_of, lane_places, item_of, items_of, item_in_call, item_or_none, IsServed}
 use Rattle.legal_journals.specs.Legal.{OpensOn, StandTogether, Legal, is_same_place, reply_in, reply_of, due_after}
-use Rattle.legal_journals.proofs.Lists.{own, on-append, on-spots_same, own-on, own_spots-all_asked, own_spots-all_asked_other, all_asked-append, append-nil}
+use Rattle.legal_journals.proofs.Lists.{on-append, on-spots_same, own_places-on, own_spots-all_asked, own_spots-all_asked_other, all_asked-append, append-nil}
 use Rattle.legal_journals.proofs.Legals.{In, In-left, contains_in, all_asked_item, legal}
 
 -- ---- a call parts its lane
@@ -40,25 +41,26 @@ parted_places c asks k a e =
 no_ask : (a : Ask) → None ≡ Some a → ⊥
 no_ask a e = cc
 
-one_lane : (asks : List Ask) (c : ℕ) (l : ℕ) → own l (lane_places c 0 asks) ≡ on c (all_asked l 0 (lane_of (asks ∷ []) l))
-one_lane asks c zero = own-on 0 c (all_asked 0 0 asks) ∙ ap (on c) (own_spots-all_asked 0 0 asks)
-one_lane asks c (suc l) = own-on (suc l) c (all_asked 0 0 asks) ∙ ap (on c) (own_spots-all_asked_other (suc l) 0 0 asks (λ e. absurd (let f : 0 ≡ suc l = e in omega arith)))
+one_lane : (asks : List Ask) (c : ℕ) (l : ℕ) → own_places l (lane_places c 0 asks) ≡ on c (all_asked l 0 (lane_of (asks ∷ []) l))
+one_lane asks c zero = own_places-on 0 c (all_asked 0 0 asks) ∙ ap (on c) (own_spots-all_asked 0 0 asks)
+one_lane asks c (suc l) = own_places-on (suc l) c (all_asked 0 0 asks) ∙ ap (on c) (own_spots-all_asked_other (suc l) 0 0 asks (λ e. absurd (let f : 0 ≡ suc l = e in omega arith)))
 
 one_block : (asks : List Ask) (c l call n : ℕ) → OpensOn (asks ∷ []) c l call n → StandTogether (lane_places c 0 asks) (block l call 0 n)
 one_block asks c zero call n o =
-    let places : on c (asked 0 call (Opens c o.0)) ≡ block 0 call 0 n = on-spots_same c (block 0 call 0 (length o.0)) ∙ ap (block 0 call 0) o.2 in (
+    let places : on c (asked 0 call (ToOpenAll c o.0)) ≡ block 0 call 0 n =
+    on-spots_same c (block 0 call 0 (length (map unseal o.0))) ∙ ap (block 0 call 0) (length-map o.0 unseal ∙ o.2) in (
       lane_places c 0 (take call asks),
       on c (all_asked 0 (call + 1) (drop (call + 1) asks)),
-      parted_places c asks call (Opens c o.0) o.1 ∙ ap (λ m. lane_places c 0 (take call asks) ++ (m ++ on c (all_asked 0 (call + 1) (drop (call + 1) asks)))) places,
+      parted_places c asks call (ToOpenAll c o.0) o.1 ∙ ap (λ m. lane_places c 0 (take call asks) ++ (m ++ on c (all_asked 0 (call + 1) (drop (call + 1) asks)))) places,
     )
-one_block asks c (suc l) call n o = absurd (no_ask (Opens c o.0) o.1)
+one_block asks c (suc l) call n o = absurd (no_ask (ToOpenAll c o.0) o.1)
 
 pub one_lane_legal : (asks : List Ask) (c : ℕ) → Legal (asks ∷ []) c (lane_places c 0 asks)
 one_lane_legal asks c = legal (asks ∷ []) c (lane_places c 0 asks) (record { lanes = one_lane asks c; blocks = one_block asks c })
 
 pub no_lane_legal : (c : ℕ) → Legal [] c []
 no_lane_legal c =
-    legal [] c [] (record { lanes = λ l. refl; blocks = λ l call n o. absurd (no_ask (Opens c o.0) o.1) })
+    legal [] c [] (record { lanes = λ l. refl; blocks = λ l call n o. absurd (no_ask (ToOpenAll c o.0) o.1) })
 
 -- ---- the reply of a place behind others
 
@@ -125,15 +127,15 @@ answered asks context c k a x e one item =
     ∙ ap (λ o. reply_in (p ∷ back) (run c n (item_or_none o (items_of batch back))) p) item
     ∙ ap (λ b. cond b (Some (answer c n x)) (reply_in back (run c (next n (answer c n x)) (items_of batch back)) p)) (same p)
 
-pub sealed : (asks : List Ask) (context : ℕ) (c : Cipher) (k : ℕ) (aad text : List ℕ) → slice_get asks k ≡ Some (Seals context aad text)
+pub sealed : (asks : List Ask) (context : ℕ) (c : Cipher) (k : ℕ) (aad text : List ℕ) → slice_get asks k ≡ Some (ToSeal context aad text)
     → reply_of (asks ∷ []) c (lane_places context 0 asks) (place 0 k 0) ≡ Some (answer c (due_after (asks ∷ []) c (lane_places context 0 (take k asks))) (Seal aad text))
 sealed asks context c k aad text e =
-    answered asks context c k (Seals context aad text) (Seal aad text) e (on-spots_same context (block 0 k 0 1)) (ap (λ (o : Option Ask). item_in_call o 0) e)
+    answered asks context c k (ToSeal context aad text) (Seal aad text) e (on-spots_same context (block 0 k 0 1)) (ap (λ (o : Option Ask). item_in_call o 0) e)
 
-pub opened : (asks : List Ask) (context : ℕ) (c : Cipher) (k : ℕ) (m : Message) → slice_get asks k ≡ Some (Opens context (m ∷ []))
-    → reply_of (asks ∷ []) c (lane_places context 0 asks) (place 0 k 0) ≡ Some (answer c (due_after (asks ∷ []) c (lane_places context 0 (take k asks))) (Unseal m.aad m.ct))
-opened asks context c k m e =
-    answered asks context c k (Opens context (m ∷ [])) (Unseal m.aad m.ct) e (on-spots_same context (block 0 k 0 1)) (ap (λ (o : Option Ask). item_in_call o 0) e)
+pub opened : (asks : List Ask) (context : ℕ) (c : Cipher) (k : ℕ) (aad ct : List ℕ) → slice_get asks k ≡ Some (ToOpen context aad ct)
+    → reply_of (asks ∷ []) c (lane_places context 0 asks) (place 0 k 0) ≡ Some (answer c (due_after (asks ∷ []) c (lane_places context 0 (take k asks))) (Unseal aad ct))
+opened asks context c k aad ct e =
+    answered asks context c k (ToOpen context aad ct) (Unseal aad ct) e (on-spots_same context (block 0 k 0 1)) (ap (λ (o : Option Ask). item_in_call o 0) e)
 
 -- ---- one call more
 

@@ -1,20 +1,22 @@
 -- A batch as its lanes of calls, each reduced to what it asks of a context, and the places of what
 -- is asked.
-use Rattle.std.specs.Prelude.{ℕ, zero, suc, ◌≡◌, ◌+◌, ◌==◌, cond, List, [], ◌∷◌, ◌++◌, length, slice_get, slice_index_or, Option, Some, None}
+use Rattle.std.specs.Prelude.{ℕ, zero, suc, ◌≡◌, ◌+◌, ◌==◌, cond, List, [], ◌∷◌, ◌++◌, length, map, filter, slice_get, slice_index_or, Option, Some, None}
 use Rattle.call_places.specs.declared.entries.Place.{Place}
 use Rattle.hpke_context.specs.Answers.{Item, Seal, Unseal}
 
 -- a ciphertext with its associated data
-pub record Message : Type 0 where
+pub record SealedMessage : Type 0 where
   pub aad : List ℕ
   pub ct : List ℕ
 
--- What a call asks. An unseal opens one message. An export asks nothing that changes a context, and
--- so does a call that is refused before a context is reached.
+-- What a call asks: to seal a text, to open a ciphertext, or to open several, one after another. An
+-- export asks nothing that changes a context, and so does a call that is refused before a context
+-- is reached.
 pub data Ask : Type 0 where
   Nothing : Ask
-  Seals : (context : ℕ) (aad text : List ℕ) → Ask
-  Opens : (context : ℕ) (messages : List Message) → Ask
+  ToSeal : (context : ℕ) (aad text : List ℕ) → Ask
+  ToOpen : (context : ℕ) (aad ct : List ℕ) → Ask
+  ToOpenAll : (context : ℕ) (messages : List SealedMessage) → Ask
 
 -- the calls of each lane
 abbrev pub Batch : Type 0
@@ -23,22 +25,36 @@ Batch = List (List Ask)
 abbrev pub lane_of : Batch → ℕ → List Ask
 lane_of batch lane = slice_index_or batch lane []
 
--- ---- the item of a place
+-- ---- the items of a call
 
-abbrev pub message_at : ℕ → Option Message → Option (ℕ × Item)
-message_at context None = None
-message_at context (Some m) = Some (context, Unseal m.aad m.ct)
+abbrev pub unseal : SealedMessage → Item
+unseal m = Unseal m.aad m.ct
+
+-- what is asked of a context, item by item
+abbrev pub items_in : Ask → List Item
+items_in Nothing = []
+items_in (ToSeal context aad text) = Seal aad text ∷ []
+items_in (ToOpen context aad ct) = Unseal aad ct ∷ []
+items_in (ToOpenAll context messages) = map unseal messages
+
+-- the context that is asked; a call that asks nothing has no items, so there the 0 says nothing
+abbrev pub context_in : Ask → ℕ
+context_in Nothing = 0
+context_in (ToSeal context aad text) = context
+context_in (ToOpen context aad ct) = context
+context_in (ToOpenAll context messages) = context
+
+abbrev pub with_context : ℕ → Option Item → Option (ℕ × Item)
+with_context context None = None
+with_context context (Some x) = Some (context, x)
 
 -- the item of this number in a call, with its context
 abbrev pub item_in : Ask → ℕ → Option (ℕ × Item)
-item_in Nothing i = None
-item_in (Seals context aad text) zero = Some (context, Seal aad text)
-item_in (Seals context aad text) (suc i) = None
-item_in (Opens context messages) i = message_at context (slice_get messages i)
+item_in ask i = with_context (context_in ask) (slice_get (items_in ask) i)
 
 abbrev pub item_in_call : Option Ask → ℕ → Option (ℕ × Item)
 item_in_call None i = None
-item_in_call (Some a) i = item_in a i
+item_in_call (Some ask) i = item_in ask i
 
 -- the item of a place, with its context
 abbrev pub item_of : Batch → Place → Option (ℕ × Item)
@@ -78,14 +94,12 @@ spots context (p ∷ ps) = record { context = context; place = p } ∷ spots con
 
 -- the places that a call of a lane asks for
 abbrev pub asked : ℕ → ℕ → Ask → List Spot
-asked lane call Nothing = []
-asked lane call (Seals context aad text) = spots context (block lane call 0 1)
-asked lane call (Opens context messages) = spots context (block lane call 0 (length messages))
+asked lane call ask = spots (context_in ask) (block lane call 0 (length (items_in ask)))
 
 -- those of all calls of a lane, from this call on, in order
 abbrev pub all_asked : ℕ → ℕ → List Ask → List Spot
 all_asked lane call [] = []
-all_asked lane call (a ∷ asks) = asked lane call a ++ all_asked lane (call + 1) asks
+all_asked lane call (ask ∷ asks) = asked lane call ask ++ all_asked lane (call + 1) asks
 
 -- the places on one context
 abbrev pub on : ℕ → List Spot → List Place
@@ -95,3 +109,7 @@ on context (s ∷ ss) = cond (s.context == context) (s.place ∷ on context ss) 
 -- the places that a lane asks for on one context, in order
 abbrev pub lane_places : ℕ → ℕ → List Ask → List Place
 lane_places context lane asks = on context (all_asked lane 0 asks)
+
+-- the places of one lane, in their order
+abbrev pub own_places : ℕ → List Place → List Place
+own_places lane ps = filter (λ p. p.lane == lane) ps

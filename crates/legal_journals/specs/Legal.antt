@@ -5,7 +5,7 @@ use Rattle.std.specs.List.{AllPairs}
 use Rattle.call_places.specs.declared.entries.Place.{Place}
 use Rattle.call_places.specs.Entries.{IsBefore}
 use Rattle.hpke_context.specs.Answers.{Cipher, Answer, Sealed_at, Opened_at, Failed_at, At_limit, run, due}
-use Rattle.legal_journals.specs.Batches.{Batch, Message, Opens, block, lane_of, items_of, IsServed}
+use Rattle.legal_journals.specs.Batches.{Batch, SealedMessage, ToOpenAll, block, lane_of, items_of, IsServed}
 
 -- ---- the order of a journal
 
@@ -13,17 +13,17 @@ use Rattle.legal_journals.specs.Batches.{Batch, Message, Opens, block, lane_of, 
 abbrev pub IsInLaneOrder : Place → Place → Type 0
 IsInLaneOrder p q = p.lane ≡ q.lane → IsBefore p q
 
--- the call opens so many messages on this context
+-- the call opens so many messages on this context, one after another
 abbrev pub OpensOn : Batch → ℕ → ℕ → ℕ → ℕ → Type 0
 OpensOn batch context lane call n =
-    (messages : List Message)
-    × (slice_get (lane_of batch lane) call ≡ Some (Opens context messages))
+    (messages : List SealedMessage)
+    × (slice_get (lane_of batch lane) call ≡ Some (ToOpenAll context messages))
     × (length messages ≡ n)
 
 -- these places stand next to one another
 abbrev pub StandTogether : List Place → List Place → Type 0
 StandTogether journal places =
-    (before after : List Place) × (journal ≡ before ++ (places ++ after))
+    (front after : List Place) × (journal ≡ front ++ (places ++ after))
 
 pub record Legal (batch : Batch) (context : ℕ) (journal : List Place) : Type 0 where
   -- it holds each served place, and nothing else
@@ -33,7 +33,7 @@ pub record Legal (batch : Batch) (context : ℕ) (journal : List Place) : Type 0
   -- of two places of one lane the one with the lower call stands first; within one call the one
   -- with the lower item
   pub in_order : AllPairs IsInLaneOrder journal
-  -- the places of one opening stand next to one another
+  -- the places of one opening of several messages stand next to one another
   pub together : (lane call n : ℕ) → OpensOn batch context lane call n → StandTogether journal (block lane call 0 n)
 
 -- ---- the replies of a journal
@@ -57,6 +57,15 @@ reply_in (q ∷ qs) (a ∷ answers) p = cond (is_same_place q p) (Some a) (reply
 -- the reply of a place in a journal
 abbrev pub reply_of : Batch → Cipher → List Place → Place → Option Answer
 reply_of batch c journal p = reply_in journal (replies batch c journal) p
+
+-- the places of a journal that stand before this one
+abbrev pub before : Place → List Place → List Place
+before p [] = []
+before p (q ∷ qs) = cond (is_same_place q p) [] (q ∷ before p qs)
+
+-- the number that is due at a place: the one after those that stand before it
+abbrev pub number_of : Batch → Cipher → List Place → Place → ℕ
+number_of batch c journal p = due_after batch c (before p journal)
 
 -- the sequence numbers at which a list of answers sealed or opened, in its order
 abbrev pub numbers_used : List Answer → List ℕ

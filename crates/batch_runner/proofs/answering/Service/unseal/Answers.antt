@@ -37,7 +37,7 @@ note-requires c =
     s.found c.requires.serving.stand.slots (sym c.index_mut.ensures.value ∙ c.in-Ok.is) in
     let ask = ask_served plan c.args.number (calls.Unseal c.args.context c.args.item.now) c.requires.call c.requires.served in
     let room = room_here plan c.args.number c.args.context _ _ s.view c.args.self.now.slots.items c.args.self.now.journals.items c.in-Ok.standing c.index_mut-2.result.now
-    (asks_open plan c.args.number c.args.context (record { aad = span_bytes plan.pool c.args.item.now.aad; ct = span_bytes plan.pool c.args.item.now.text }) ask) c.requires.serving.stand s.within is in
+    (asks_open plan c.args.number c.args.context (span_bytes plan.pool c.args.item.now.aad) (span_bytes plan.pool c.args.item.now.text) ask) c.requires.serving.stand s.within is in
     omega (arith, room, ap length c.index_mut-2.ensures.value)
 
 pub unseal-requires-clause-context : goal.unseal-requires-clause-context
@@ -65,7 +65,7 @@ returns-clause-serving c =
       stand =
           stand_now plan c.args.number c.args.context _ item s.view c.args.self.now.slots.items c.args.self.now.journals.items
           c.in-Ok.standing c.unseal.new.self c.index_mut-2.result.now c.note.new.journal c.first_item.result
-          (asks_open plan c.args.number c.args.context (record { aad = span_bytes plan.pool c.args.item.now.aad; ct = span_bytes plan.pool c.args.item.now.text }) ask) s.found s.within c.requires.serving.stand is
+          (asks_open plan c.args.number c.args.context (span_bytes plan.pool c.args.item.now.aad) (span_bytes plan.pool c.args.item.now.text) ask) s.found s.within c.requires.serving.stand is
           (noted_by c.in-Ok.standing c.note.new.self c.unseal.new.self item c.note.ensures.sequential c.note.ensures.places
           (c.unseal.ensures.sequential ∙ ap (gone_on c.note.new.self.sequential) asked) c.unseal.ensures.places)
           c.first_item.ensures
@@ -87,4 +87,4 @@ returns-clause-line c =
     ∙ ap (λ x. answer_line (Some (answer_now c.in-Ok.standing.sequential x))) asked
     ∙ line_now plan c.args.number c.args.context _ item s.view c.in-Ok.standing
     (one_batch plan c.args.number (calls.Unseal c.args.context c.args.item.now) c.requires.serving.lanes c.requires.call)
-    (asks_open plan c.args.number c.args.context (record { aad = span_bytes plan.pool c.args.item.now.aad; ct = span_bytes plan.pool c.args.item.now.text }) ask) s.found s.within is
+    (asks_open plan c.args.number c.args.context (span_bytes plan.pool c.args.item.now.aad) (span_bytes plan.pool c.args.item.now.text) ask) s.found s.within is
