@@ -1,0 +1,7 @@
+pub mod Totals
+pub mod Drawn
+pub mod Steps
+pub mod Ends
+pub mod Apart
+pub mod Ids
+pub mod Dealing

@@ -1,0 +1,24 @@
+//! A counter that gives each stamp once, to callers that each may draw so many.
+//!
+//! A [`StampCounter`] is made with shares. Each share is a [`StampSeat`] that may draw as many
+//! stamps as it has left; a draw is one step on one word, and waits for nobody. Contracts see of a
+//! seat the stamps that it drew, and its low, which is above them: its next stamp is at least that.
+//! What one seat knows of the count goes to another by `note` and `join`, so that stamps rise from
+//! one caller to the next. The promise for the layer above: once all that was drawn and all that is
+//! left is with one seat, `close` tells how many stamps there are, and the drawn ones are the
+//! numbers below, each once. `specs/Rule.antt` is what holds between any two atomic steps.
+//!
+//! Nothing here says which caller draws first.
+#![tactic(auto)]
+
+mod counter;
+mod laws;
+mod rules;
+mod seats;
+#[cfg(test)]
+mod tests;
+mod views;
+
+pub use counter::StampCounter;
+pub use laws::{each_step_keeps_the_rule, the_rule_tells_stamps_apart};
+pub use seats::{SeatList, StampSeat};
