@@ -20,7 +20,8 @@ pub enum Took {
 
 /// Where input comes from.
 ///
-/// A contract sees the bytes that are left, where the source tells them, and a count of faults.
+/// A contract sees the bytes that are left, where the source tells them, and a count of faults,
+/// which rises with each `Failed` and with nothing else.
 pub trait Source {
     ghost use Rattle.std.specs.Prelude.{ℕ, List, Option, ◌≡◌, ◌≤◌};
     ghost use Rattle.batch_io.specs.Outside.{Rose, Gives};
@@ -38,12 +39,14 @@ pub trait Source {
     fn read(&mut self, buf: &mut [u8]) -> Got
         ensures bytes { Gives result (left self.old) (left self.new) buf.new }
         ensures later { faults self.old ≤ faults self.new }
+        ensures given { (n : ℕ) → result ≡ Got.Bytes n → faults self.new ≡ faults self.old }
         ensures failed { result ≡ Got.Failed → Rose (faults self.old) (faults self.new) };
 }
 
 /// Where output goes.
 ///
-/// A contract sees the bytes that were written, where the sink tells them, and a count of faults.
+/// A contract sees the bytes that were written, where the sink tells them, and a count of faults,
+/// which rises with each `Failed` and with nothing else.
 pub trait Sink {
     ghost use Rattle.std.specs.Prelude.{ℕ, List, Option, ◌≡◌, ◌≤◌};
     ghost use Rattle.batch_io.specs.Outside.{Rose, Takes};
@@ -60,6 +63,7 @@ pub trait Sink {
     fn write(&mut self, piece: &[u8]) -> Took
         ensures bytes { Takes result (written self.old) (written self.new) piece.now }
         ensures later { faults self.old ≤ faults self.new }
+        ensures taken { (n : ℕ) → result ≡ Took.Bytes n → faults self.new ≡ faults self.old }
         ensures failed { result ≡ Took.Failed → Rose (faults self.old) (faults self.new) };
 }
 

@@ -1,11 +1,11 @@
 //! The adapters over readers and writers of std: the edge that no contract can look behind.
 
-ghost use Rattle.std.specs.Prelude.{◌≡◌, ◌<◌, ◌≤◌, length, take, IfSome, None};
-ghost use Rattle.std.specs.Io.KnownBytes.{Appends};
-ghost use Rattle.batch_io.specs.Streams.{HandsOn};
+ghost use Rattle.std.specs.Prelude.{◌≡◌, ◌≤◌};
+ghost use Rattle.batch_io.specs.Streams.{HandsOn, read_answer, write_answer};
 ghost use Rattle.batch_io.specs.Outside.{Gives, Takes, faults_after_read, faults_after_write};
 
 use crate::outside::{Got, Sink, Source, Took};
+use std::io;
 use std::io::{Read, Write};
 use std::marker::Model;
 
@@ -36,6 +36,16 @@ impl<T: Read> StdSource<T> {
     }
 }
 
+// What a read answers, by what the reader answered.
+fn got_of(read: io::Result<usize>) -> Got
+    ensures { result ≡ read_answer read }
+{
+    match read {
+        Ok(count) => Got::Bytes(count),
+        Err(_) => Got::Failed,
+    }
+}
+
 impl<T: Read> Source for StdSource<T> {
     ghost use Rattle.std.specs.Prelude.{None};
 
@@ -50,13 +60,11 @@ impl<T: Read> Source for StdSource<T> {
         ensures later { self.old.faults ≤ self.new.faults }
         ensures faults { self.new.faults ≡ faults_after_read result self.old.faults }
     {
-        match self.inner.read(buf) {
-            Ok(count) => Got::Bytes(count),
-            Err(_) => {
-                self.faults = self.faults.saturating_add(1);
-                Got::Failed
-            }
+        let got = got_of(self.inner.read(buf));
+        if got == Got::Failed {
+            self.faults = self.faults.saturating_add(1);
         }
+        got
     }
 }
 
@@ -88,19 +96,16 @@ impl<T: Write> StdSink<T> {
     }
 }
 
-// One write and a flush: how many bytes were taken, or none where either failed.
-fn write_and_flush<T: Write>(inner: &mut T, piece: &[u8]) -> Option<usize>
-    ensures within { IfSome result (λ n. n ≤ length piece.now) }
-    ensures known { IfSome result (λ n.
-        Appends (T.contents inner.old) (T.contents inner.new) (take n piece.now)) }
-    ensures some { IfSome result (λ n. 0 < length piece.now → 0 < n) }
+// What a write of a piece of this size answers, by what the writer answered to the write and to
+// the flush after it.
+fn took_of(wrote: io::Result<usize>, flushed: io::Result<()>, size: usize) -> Took
+    ensures { result ≡ write_answer wrote flushed size }
 {
-    let count = inner.write(piece).ok()?;
-    if count == 0 && !piece.is_empty() {
-        return None;
+    match (wrote, flushed) {
+        (Ok(0), Ok(())) if size > 0 => Took::Failed,
+        (Ok(count), Ok(())) => Took::Bytes(count),
+        _ => Took::Failed,
     }
-    inner.flush().ok()?;
-    Some(count)
 }
 
 impl<T: Write> Sink for StdSink<T> {
@@ -110,7 +115,7 @@ impl<T: Write> Sink for StdSink<T> {
 
     ghost faults = { λ s. s.faults };
 
-    /// One `write` of the writer, and a `flush`.
+    /// One `write` of the writer, and a `flush` after it, whatever the write answered.
     ///
     /// Where the flush fails the answer is `Failed`, though the writer may have taken bytes.
     fn write(&mut self, piece: &[u8]) -> Took
@@ -119,12 +124,12 @@ impl<T: Write> Sink for StdSink<T> {
         ensures later { self.old.faults ≤ self.new.faults }
         ensures faults { self.new.faults ≡ faults_after_write result self.old.faults }
     {
-        match write_and_flush(&mut self.inner, piece) {
-            Some(count) => Took::Bytes(count),
-            None => {
-                self.faults = self.faults.saturating_add(1);
-                Took::Failed
-            }
+        let wrote = self.inner.write(piece);
+        let flushed = self.inner.flush();
+        let took = took_of(wrote, flushed, piece.len());
+        if took == Took::Failed {
+            self.faults = self.faults.saturating_add(1);
         }
+        took
     }
 }

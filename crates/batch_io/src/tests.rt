@@ -263,7 +263,7 @@ fn the_std_source_answers_failed_at_an_error_and_goes_on(rt: HostRuntime) {
 fn the_std_sink_flushes_each_write_and_answers_failed_where_one_fails(rt: HostRuntime) {
     let mut writer = Script {
         moves: &[Some(2), None, Some(0), Some(2), Some(1)],
-        flushes: &[true, false, true],
+        flushes: &[true, true, true, false, true],
         at: 0,
         flushed: 0,
     };
@@ -277,5 +277,26 @@ fn the_std_sink_flushes_each_write_and_answers_failed_where_one_fails(rt: HostRu
     ];
     expect_writes(&rt, &mut sink, &takes, b"batch", "std sink");
     drop(sink);
-    assert_eq!(rt; writer.flushed, 3);
+    assert_eq!(rt; writer.flushed, 5);
+}
+
+// Reads and writes of so many bytes at once, up to the largest piece that is printed.
+const SIZES: [usize; 4] = [1, 4096, 20_000, 32_768];
+
+#[test]
+fn the_std_ends_move_large_pieces_whole(rt: HostRuntime) -> Result<(), Fail> {
+    for size in SIZES {
+        let mut piece = vec![in rt.alloc(); 0; size]?;
+        let mut script = Script {
+            moves: &[Some(32_768), Some(32_768)],
+            flushes: &[],
+            at: 0,
+            flushed: 0,
+        };
+        let got = StdSource::new(&mut script).read(&mut piece);
+        assert_eq!(rt; got, Got::Bytes(size));
+        let took = StdSink::new(&mut script).write(&piece);
+        assert_eq!(rt; took, Took::Bytes(size));
+    }
+    Ok(())
 }
