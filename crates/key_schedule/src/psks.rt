@@ -1,7 +1,7 @@
 //! Whether a pre-shared key fits the mode (RFC 9180, 5.1).
 
 ghost use Rattle.std.specs.Prelude.{◌≡◌, ◌↔◌, [], Some};
-ghost use Rattle.key_schedule.specs.Faults.{fault_text};
+ghost use Rattle.key_schedule.specs.Faults.{fault_number, fault_text};
 ghost use Rattle.key_schedule.specs.Psks.{IsGiven, OneIsMissing, verify_psk_inputs};
 
 use crate::modes::Mode;
@@ -18,6 +18,15 @@ pub enum PskFault {
     Unneeded = 2,
     /// No psk is given in mode psk.
     Missing = 3,
+}
+
+impl From<PskFault> for u8 {
+    ghost from_gives = { λ fault number. number ≡ fault_number fault };
+
+    /// The number of the fault.
+    fn from(fault: PskFault) -> u8 {
+        fault as u8
+    }
 }
 
 impl fmt::Display for PskFault {

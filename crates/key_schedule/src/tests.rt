@@ -1,6 +1,6 @@
 //! Published vectors: the key schedule, exports and nonces.
 
-use crate::{CipherSecrets, Mode, Secrets, nonce_at, schedule};
+use crate::{CipherSecrets, Mode, PskFault, Secrets, nonce_at, schedule};
 use hex::{FromHex, decode};
 use hkdf_labelled::{Aead, Kdf, Suite, labeled_expand_into};
 use std::alloc::Global;
@@ -278,6 +278,25 @@ fn nonces_are_those_published(rt: HostRuntime) -> Result<(), Fail> {
         let base_nonce = <[u8; 12]>::from_hex(case.base_nonce)?;
         let want = <[u8; 12]>::from_hex(case.nonce)?;
         assert_eq!(rt; nonce_at(&base_nonce, case.seq), want, "{source}");
+    }
+    Ok(())
+}
+
+#[test]
+fn a_fault_is_told_by_its_number_and_in_words(rt: HostRuntime) -> Result<(), Fail> {
+    let rows = [
+        (
+            PskFault::Inconsistent,
+            1,
+            "one of psk and psk_id is missing",
+        ),
+        (PskFault::Unneeded, 2, "mode base takes no psk"),
+        (PskFault::Missing, 3, "mode psk needs a psk"),
+    ];
+    for (fault, number, want) in rows {
+        assert_eq!(rt; u8::from(fault), number);
+        let text = format!(in rt.alloc(); "{fault}")?;
+        assert_eq!(rt; text.as_str(), want);
     }
     Ok(())
 }
