@@ -15,7 +15,7 @@ use Rattle.key_schedule.specs.declared.modes.Role.{Role}
 use Rattle.key_schedule.specs.declared.modes.Role.TheVariants.{Sender, Recipient}
 use Rattle.key_schedule.specs.declared.psks.PskFault.{PskFault}
 use Rattle.key_schedule.specs.declared.schedules.Secrets.{Secrets}
-use Rattle.hpke_context.specs.Contexts.{ContextView, encrypts, export_limit, Seals as IsSealing, Opens as IsOpening}
+use Rattle.hpke_context.specs.Contexts.{ContextView, encrypts, export_limit, CanSeal, CanOpen}
 use Rattle.legal_journals.specs.Batches.{Nothing}
 use Rattle.request_frames.specs.declared.plan.Plan.{Plan}
 use Rattle.request_frames.specs.declared.plan.ContextLine.{ContextLine}
@@ -112,7 +112,7 @@ inside : (plan : Plan) (c : ℕ) (view : ContextView) → slice_get (contexts_of
 inside plan c view found =
     omega (arith, slice_get_within (contexts_of plan) c (Ok view) found, length-map plan.contexts (context_of plan.pool))
 
-pub serves_seal : (plan : Plan) (c : ℕ) (item : ItemSpans) → call_refusal plan (calls.Seal c item) ≡ None → Serves plan c IsSealing
+pub serves_seal : (plan : Plan) (c : ℕ) (item : ItemSpans) → call_refusal plan (calls.Seal c item) ≡ None → Serves plan c CanSeal
 serves_seal plan c item free =
     let on = on_context plan c (calls.Seal c item) free in
     let both = sender (context_role on.line.kind) on.line.aead on.free in
@@ -123,7 +123,7 @@ serves_seal plan c item free =
       can = (on.role ∙ both.0, ap encrypts on.aead ∙ both.1);
     }
 
-pub serves_open : (plan : Plan) (c : ℕ) (item : ItemSpans) → call_refusal plan (calls.Unseal c item) ≡ None → Serves plan c IsOpening
+pub serves_open : (plan : Plan) (c : ℕ) (item : ItemSpans) → call_refusal plan (calls.Unseal c item) ≡ None → Serves plan c CanOpen
 serves_open plan c item free =
     let on = on_context plan c (calls.Unseal c item) free in
     let both = recipient (context_role on.line.kind) on.line.aead on.free in

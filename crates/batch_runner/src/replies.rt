@@ -7,7 +7,8 @@ ghost use Rattle.std.specs.Prelude.{ℕ, length, take, drop, Some, OnErr};
 ghost use Rattle.request_frames.specs.ReplyText.{reply_line, exported_line, IsInRange};
 ghost use Rattle.hpke_context.specs.declared.faults.CallFault.{CallFault};
 ghost use Rattle.hpke_context.specs.Answers.{Sealed_at, Opened_at, Failed_at, At_limit};
-ghost use Rattle.hpke_context.specs.Contexts.{Seals, Opens, answer_now, export_limit, exported_by};
+ghost use Rattle.hpke_context.specs.Contexts.{CanSeal, CanOpen, answer_now};
+ghost use Rattle.hpke_context.specs.Contexts.{export_limit, exported_by};
 ghost use Rattle.batch_runner.specs.Calls.{answer_line};
 ghost use Rattle.batch_runner.specs.Serving.{seal_of, unseal_of, gone_on};
 
@@ -33,7 +34,7 @@ fn seal_at(
     room: &mut [u8],
     at: usize,
 ) -> Result<u64, CallFault>
-    requires context { Seals sequential.old.context }
+    requires context { CanSeal sequential.old.context }
     requires aad { length message.now.aad.now ≤ 65535 }
     requires text { length message.now.text.now ≤ 1048576 }
     requires room { at + (length message.now.text.now + 16) ≤ length room.old }
@@ -55,7 +56,7 @@ fn unseal_at(
     at: usize,
     checks: &mut Checks,
 ) -> Result<u64, CallFault>
-    requires context { Opens sequential.old.context }
+    requires context { CanOpen sequential.old.context }
     requires aad { length message.now.aad.now ≤ 65535 }
     requires text { length message.now.text.now ≤ 1048592 }
     requires room { at + (length message.now.text.now - 16) ≤ length room.old }
@@ -104,7 +105,7 @@ fn span(start: usize, len: usize) -> Span
 impl Standing {
     /// Seals a text on a sender with a cipher (RFC 9180, 5.2).
     pub(crate) fn seal(&mut self, message: &Message, room: &mut [u8], at: &mut usize) -> Reply
-        requires context { Seals self.old.sequential.context }
+        requires context { CanSeal self.old.sequential.context }
         requires aad { length message.now.aad.now ≤ 65535 }
         requires text { length message.now.text.now ≤ 1048576 }
         requires room { at.old + (length message.now.text.now + 16) ≤ length room.old }
@@ -138,7 +139,7 @@ impl Standing {
         at: &mut usize,
         checks: &mut Checks,
     ) -> Reply
-        requires context { Opens self.old.sequential.context }
+        requires context { CanOpen self.old.sequential.context }
         requires aad { length message.now.aad.now ≤ 65535 }
         requires text { length message.now.text.now ≤ 1048592 }
         requires room { at.old + (length message.now.text.now - 16) ≤ length room.old }

@@ -59,12 +59,12 @@ abbrev pub IsExportOnly : ContextView → Type 0
 IsExportOnly c = c.suite.aead ≡ aead.ExportOnly
 
 -- a sender with a cipher: what it seals is answered
-abbrev pub Seals : ContextView → Type 0
-Seals c = (c.role ≡ Sender) × HasCipher c
+abbrev pub CanSeal : ContextView → Type 0
+CanSeal c = (c.role ≡ Sender) × HasCipher c
 
 -- a recipient with a cipher: what it opens is answered
-abbrev pub Opens : ContextView → Type 0
-Opens c = (c.role ≡ Recipient) × HasCipher c
+abbrev pub CanOpen : ContextView → Type 0
+CanOpen c = (c.role ≡ Recipient) × HasCipher c
 
 -- the authenticated decryption function doesn't fail (SP 800-38D, 7.2), as a Bool
 abbrev pub tag_holds : List ℕ → List ℕ → List ℕ → List ℕ → Bool

@@ -1,7 +1,7 @@
 //! Why a call of a context is refused.
 
-ghost use Rattle.std.specs.Prelude.{Some};
-ghost use Rattle.hpke_context.specs.Faults.{fault_text};
+ghost use Rattle.std.specs.Prelude.{◌≡◌, Some};
+ghost use Rattle.hpke_context.specs.Faults.{fault_number, fault_text};
 
 use std::error::Error;
 use std::fmt;
@@ -19,6 +19,15 @@ pub enum CallFault {
     Failed = 4,
     /// More than 255 Nh bytes are asked for.
     ExportSize = 5,
+}
+
+impl From<CallFault> for u8 {
+    ghost from_gives = { λ fault number. number ≡ fault_number fault };
+
+    /// The number of the fault.
+    fn from(fault: CallFault) -> u8 {
+        fault as u8
+    }
 }
 
 impl fmt::Display for CallFault {

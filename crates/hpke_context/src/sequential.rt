@@ -2,7 +2,7 @@
 
 ghost use Rattle.std.specs.Prelude.{◌≡◌, ◌≤◌, ◌<◌, ◌+◌, ◌-◌, ◌^◌, ◌↔◌, ◌⊎◌, ℕ, length, IsTrue, IsOk, OnOk, OnErr};
 ghost use Rattle.hpke_context.specs.Answers.{Seal, Unseal, Sealed_at, Opened_at, Failed_at, At_limit, advances, next};
-ghost use Rattle.hpke_context.specs.Contexts.{HasCipher, IsExportOnly, Seals, Opens, export_limit, exported_by, answer_now};
+ghost use Rattle.hpke_context.specs.Contexts.{HasCipher, IsExportOnly, CanSeal, CanOpen, export_limit, exported_by, answer_now};
 
 use crate::contexts::Context;
 use crate::faults::CallFault;
@@ -74,13 +74,13 @@ impl Sequential {
         ensures nocipher { (result ≡ Err CallFault.NoCipher)
             ↔ ((self.old.context.role ≡ Role.Sender) × IsExportOnly self.old.context) }
         ensures limit { (result ≡ Err CallFault.Limit)
-            ↔ (Seals self.old.context × (self.old.seq ≡ self.old.context.limit)) }
+            ↔ (CanSeal self.old.context × (self.old.seq ≡ self.old.context.limit)) }
         ensures ok { IsOk result
-            ↔ (Seals self.old.context × (self.old.seq < self.old.context.limit)) }
+            ↔ (CanSeal self.old.context × (self.old.seq < self.old.context.limit)) }
         ensures sealed { (n : ℕ) → result ≡ Ok n
             → answer_now self.old (Seal aad.now text.now) ≡ Sealed_at n out.new }
         ensures number { (n : ℕ) → result ≡ Ok n → n ≡ self.old.seq }
-        ensures due { Seals self.old.context
+        ensures due { CanSeal self.old.context
             → self.new.seq ≡ next self.old.seq (answer_now self.old (Seal aad.now text.now)) }
         ensures context { self.new.context ≡ self.old.context }
         ensures refused { OnErr result ((self.new ≡ self.old) × (out.new ≡ out.old)) }
@@ -123,20 +123,20 @@ impl Sequential {
         ensures role { (result ≡ Err CallFault.Role) ↔ (self.old.context.role ≡ Role.Sender) }
         ensures nocipher { (result ≡ Err CallFault.NoCipher)
             ↔ ((self.old.context.role ≡ Role.Recipient) × IsExportOnly self.old.context) }
-        ensures failed { (result ≡ Err CallFault.Failed) ↔ (Opens self.old.context
+        ensures failed { (result ≡ Err CallFault.Failed) ↔ (CanOpen self.old.context
             × (answer_now self.old (Unseal aad.now ct.now) ≡ Failed_at self.old.seq)) }
-        ensures limit { (result ≡ Err CallFault.Limit) ↔ (Opens self.old.context
+        ensures limit { (result ≡ Err CallFault.Limit) ↔ (CanOpen self.old.context
             × (answer_now self.old (Unseal aad.now ct.now) ≡ At_limit)) }
-        ensures ok { IsOk result ↔ (Opens self.old.context
+        ensures ok { IsOk result ↔ (CanOpen self.old.context
             × IsTrue (advances (answer_now self.old (Unseal aad.now ct.now)))) }
         ensures opened { (n : ℕ) → result ≡ Ok n
             → answer_now self.old (Unseal aad.now ct.now) ≡ Opened_at n out.new }
         ensures number { (n : ℕ) → result ≡ Ok n → n ≡ self.old.seq }
-        ensures due { Opens self.old.context
+        ensures due { CanOpen self.old.context
             → self.new.seq ≡ next self.old.seq (answer_now self.old (Unseal aad.now ct.now)) }
         ensures context { self.new.context ≡ self.old.context }
         ensures refused { OnErr result ((self.new ≡ self.old) × (out.new ≡ out.old)) }
-        ensures checked { Opens self.old.context → checks.new ≡ checks.old + 1 }
+        ensures checked { CanOpen self.old.context → checks.new ≡ checks.old + 1 }
         ensures unchecked { ((result ≡ Err CallFault.Role) ⊎ (result ≡ Err CallFault.NoCipher))
             → checks.new ≡ checks.old }
     {

@@ -434,8 +434,18 @@ fn a_context_tells_what_it_is_made_of(rt: HostRuntime) -> Result<(), Fail> {
 }
 
 #[test]
-fn a_fault_is_told_in_words(rt: HostRuntime) -> Result<(), Fail> {
-    let text = format!(in rt.alloc(); "{}", CallFault::Failed)?;
-    assert_eq!(rt; text.as_str(), "the tag does not hold");
+fn a_fault_is_told_by_its_number_and_in_words(rt: HostRuntime) -> Result<(), Fail> {
+    let rows = [
+        (CallFault::Role, 1, "the other role's call"),
+        (CallFault::NoCipher, 2, "the suite is export-only"),
+        (CallFault::Limit, 3, "the sequence number is at its limit"),
+        (CallFault::Failed, 4, "the tag does not hold"),
+        (CallFault::ExportSize, 5, "the export is too long"),
+    ];
+    for (fault, number, want) in rows {
+        assert_eq!(rt; u8::from(fault), number);
+        let text = format!(in rt.alloc(); "{fault}")?;
+        assert_eq!(rt; text.as_str(), want);
+    }
     Ok(())
 }

@@ -2,7 +2,7 @@ use Rattle.std.proofs.Common.{List, length, set, ap, sym, ◌∙◌, subst, Some
 use Rattle.call_places.specs.declared.entries.Place.{Place}
 use Rattle.call_places.specs.Spans.{span_bytes}
 use Rattle.hpke_context.specs.Answers.{Item, Unseal}
-use Rattle.hpke_context.specs.Contexts.{SequentialView, answer_now, Opens as CAN}
+use Rattle.hpke_context.specs.Contexts.{SequentialView, answer_now, CanOpen}
 use Rattle.request_frames.specs.declared.plan.CallLine.TheVariants as calls
 use Rattle.batch_runner.specs.Calls.{answer_line}
 use Rattle.batch_runner.specs.Serving.{unseal_of, gone_on, places_after}
@@ -47,7 +47,7 @@ unseal-requires-clause-context c =
     let is = standing_is plan c.args.number c.args.context c.args.self.now.slots.items s.view c.index_mut.result.now c.in-Ok.standing
     s.found c.requires.serving.stand.slots (sym c.index_mut.ensures.value ∙ c.in-Ok.is) in
     let view = context_is plan s.view (places_after plan c.args.number c.args.context) c.in-Ok.standing is in
-    subst CAN (sym (ap (λ (q : SequentialView). q.context) c.note.ensures.sequential ∙ view)) s.can
+    subst CanOpen (sym (ap (λ (q : SequentialView). q.context) c.note.ensures.sequential ∙ view)) s.can
 
 pub returns-clause-serving : goal.returns-clause-serving
 returns-clause-serving c =
