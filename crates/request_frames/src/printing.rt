@@ -26,6 +26,7 @@ pub fn print_answers<K: Sink>(plan: &Plan, answers: &Answers, sink: &mut K) -> P
     requires { IsAnswered plan.now answers.now }
     ensures whole { result ≡ Printed.Whole
         → Appends (K.written sink.old) (K.written sink.new) (answers_text answers.now) }
+    ensures no_fault { result ≡ Printed.Whole → K.faults sink.new ≡ K.faults sink.old }
     ensures cut { result ≡ Printed.Failed
         → AppendsPrefix (K.written sink.old) (K.written sink.new) (answers_text answers.now) }
     ensures failed { result ≡ Printed.Failed → Rose (K.faults sink.old) (K.faults sink.new) }
@@ -42,6 +43,7 @@ pub fn print_answers<K: Sink>(plan: &Plan, answers: &Answers, sink: &mut K) -> P
 pub fn print_bad<K: Sink>(bad: &BadBatch, sink: &mut K) -> Printed
     ensures whole { result ≡ Printed.Whole
         → Appends (K.written sink.old) (K.written sink.new) (bad_text bad.now) }
+    ensures no_fault { result ≡ Printed.Whole → K.faults sink.new ≡ K.faults sink.old }
     ensures cut { result ≡ Printed.Failed
         → AppendsPrefix (K.written sink.old) (K.written sink.new) (bad_text bad.now) }
     ensures failed { result ≡ Printed.Failed → Rose (K.faults sink.old) (K.faults sink.new) }
