@@ -7,8 +7,9 @@ use std::thread::Threads;
 
 /// The number of tag checks. A contract sees the number.
 ///
-/// Nothing but `check_tag` raises it, and it is made only from a runtime that may start threads:
-/// who is lent no `Checks` and no such runtime checks no tag.
+/// Nothing but `check_tag` raises it, and it is made only from a runtime that may start threads.
+/// `hash_ciphertext` asks for such a runtime too: who is lent neither it nor a `Checks` checks no
+/// tag.
 #[derive(Drop)]
 pub struct Checks {
     count: u64,

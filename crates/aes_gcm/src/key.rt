@@ -1,6 +1,6 @@
 //! Keys of GCM: sealing, checking, decrypting.
 
-ghost use Rattle.std.specs.Prelude.{◌≡◌, ◌≤◌, ◌<◌, ◌+◌, ◌-◌, ◌*◌, ◌/◌, ◌^◌, ◌++◌, ℕ, length, take, drop, IsTrue, ◌↔◌};
+ghost use Rattle.std.specs.Prelude.{◌≡◌, ◌≤◌, ◌<◌, ◌+◌, ◌-◌, ◌*◌, ◌/◌, ◌^◌, ◌++◌, ℕ, List, length, take, drop, IsTrue, ◌↔◌};
 ghost use Rattle.aes_block.specs.Cipher.{IsKey, cipher};
 ghost use Rattle.aes_gcm.specs.Gcm.{hash_key, counter_block, gctr_from, gctr, hash_of, tag_of, seal, Holds, clear};
 
@@ -56,7 +56,7 @@ impl GcmKey {
     }
 
     // S (SP 800-38D, 7.1, step 5).
-    fn hash(&self, aad: &[u8], ct: &[u8]) -> Block
+    pub(crate) fn hash(&self, aad: &[u8], ct: &[u8]) -> Block
         requires aad { length aad.now < 2 ^ 61 }
         requires ct { length ct.now < 2 ^ 61 }
         ensures { result ≡ hash_of self.now aad.now ct.now }
@@ -67,15 +67,13 @@ impl GcmKey {
         hash.finish(aad.len() as u64, ct.len() as u64)
     }
 
-    // T (SP 800-38D, 7.1, step 6).
+    // T of a text whose S is `hash` (SP 800-38D, 7.1, step 6).
     #[tactic(auto, unfolding(crate::specs::Gcm::tag_of))]
-    fn tag(&self, nonce: &[u8; 12], aad: &[u8], ct: &[u8]) -> Block
-        requires aad { length aad.now < 2 ^ 61 }
-        requires ct { length ct.now < 2 ^ 61 }
-        ensures { result ≡ tag_of self.now nonce.now aad.now ct.now }
+    pub(crate) fn tag(&self, nonce: &[u8; 12], hash: Block) -> Block
+        ensures { (aad ct : List ℕ) → hash ≡ hash_of self.now aad ct
+            → result ≡ tag_of self.now nonce.now aad ct }
     {
-        let mask = self.stream_block(nonce, 0);
-        add_blocks(self.hash(aad, ct), mask)
+        add_blocks(hash, self.stream_block(nonce, 0))
     }
 
     // The cipher of counter block `i`.
@@ -142,7 +140,7 @@ impl GcmKey {
     {
         let (ct, tag) = out.split_at_mut(text.len());
         self.add_key_stream(nonce, text, ct);
-        tag.copy_from_slice(&self.tag(nonce, aad, ct));
+        tag.copy_from_slice(&self.tag(nonce, self.hash(aad, ct)));
     }
 
     /// Whether the authenticated decryption function (SP 800-38D, 7.2) finds that `ct` was sealed
@@ -159,11 +157,7 @@ impl GcmKey {
         ensures count { checks.new ≡ checks.old + 1 }
     {
         checks.raise();
-        if ct.len() < 16 {
-            return false;
-        }
-        let (body, tag) = ct.split_at(ct.len() - 16);
-        tag == &self.tag(nonce, aad, body)[..]
+        self.hashed(aad, ct).holds_at(nonce)
     }
 
     /// The plaintext of the authenticated decryption function (SP 800-38D, 7.2): fills `out` with

@@ -122,6 +122,9 @@ fn seals_are_those_published(rt: HostRuntime) -> Result<(), Fail> {
             "{source}"
         );
         assert_eq!(rt; &sealed[plaintext.len()..end], &tag[..], "{source}, tag");
+        let hashed = key.hash_ciphertext(&rt, &aad, &sealed[..end]);
+        assert!(rt; hashed.holds_at(&iv), "{source}, hashed once");
+        assert!(rt; !hashed.holds_at(&NONCE), "{source}, another nonce");
     }
     Ok(())
 }
