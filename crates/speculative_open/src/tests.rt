@@ -1,0 +1,177 @@
+//! Published messages at guessed numbers, and windows that end at LIMIT.
+
+ghost use Rattle.std.specs.Prelude.{◌≡◌, ◌≤◌, ◌<◌, All, IfOk, length};
+ghost use Rattle.speculative_open.specs.Tables.{ItemIsInPool};
+
+use crate::GuessTable;
+use aes_gcm::GcmKey;
+use call_places::{Item, Span};
+use hex::FromHex;
+use std::alloc::Global;
+use std::test::Fail;
+use std::thread::Threads;
+
+// key and base_nonce of RFC 9180, A.1.1.
+const KEY: &str = "4531685d41d65f03dc48f6b8302c05b0";
+
+const BASE_NONCE: &str = "56d890e5accaaf011cff4b7d";
+
+// aad and ct of RFC 9180, A.1.1.1, sequence numbers 0 and 1, and ct 1 with the last bit of its tag
+// changed: 7 and 45 bytes each.
+const MESSAGES: &str = concat!(
+    "436f756e742d30",
+    "f938558b5d72f1a23810b4be2ab4f84331acc02fc97babc53a52ae8218a355a96d8770ac83d07bea87e13c512a",
+    "436f756e742d31",
+    "af2d7e9ac9ae7e270f46ba1f975be53c09f8d875bdc8535458c2494e8a6eab251c03d0c22a56b8ca42c2063b84",
+    "436f756e742d31",
+    "af2d7e9ac9ae7e270f46ba1f975be53c09f8d875bdc8535458c2494e8a6eab251c03d0c22a56b8ca42c2063b85",
+);
+
+// One of the messages.
+fn message(number: u32) -> Item
+    requires { number < 3 }
+    ensures { ItemIsInPool 156 result }
+{
+    let start = 52 * number;
+    Item {
+        aad: Span { start, len: 7 },
+        text: Span {
+            start: start + 7,
+            len: 45,
+        },
+    }
+}
+
+// A table that was filled at another guess before.
+fn table_of<R: Threads + Sync>(
+    rt: &R,
+    alloc: Global,
+    guess: u64,
+    limit: u64,
+    pool: &[u8],
+    items: &[Item],
+) -> Result<GuessTable, Fail>
+    requires guess { guess ≤ limit }
+    requires spans { All (ItemIsInPool (length pool.now)) items.now }
+    ensures { IfOk result (λ t. length t.rows ≡ length items.now) }
+{
+    let key = GcmKey::new128(&<[u8; 16]>::from_hex(KEY)?);
+    let base_nonce = <[u8; 12]>::from_hex(BASE_NONCE)?;
+    let mut table = GuessTable::with_room(alloc, items.len())?;
+    table.fill(rt, &key, &base_nonce, limit, limit, pool, items);
+    table.fill(rt, &key, &base_nonce, guess, limit, pool, items);
+    Ok(table)
+}
+
+struct TableCase {
+    source: &'static str,
+    guess: u64,
+    limit: u64,
+    looks: &'static [(usize, u64, Option<bool>)],
+}
+
+const LAST: u64 = u64::MAX;
+
+// Item 0 is message 0, items 1 to 3 are the changed message, item 4 is message 1.
+const TABLES: [TableCase; 5] = [
+    TableCase {
+        source: "RFC 9180, A.1.1.1: each message opens at its own number alone",
+        guess: 0,
+        limit: 9,
+        looks: &[
+            (0, 0, Some(true)),
+            (0, 1, None),
+            (1, 0, Some(false)),
+            (1, 1, Some(false)),
+            (1, 2, None),
+            (3, 0, Some(false)),
+            (4, 0, None),
+            (4, 1, Some(true)),
+            (4, 2, Some(false)),
+            (4, 4, Some(false)),
+            (4, 5, None),
+        ],
+    },
+    TableCase {
+        source: "own, by hand: a stale guess",
+        guess: 1,
+        limit: 9,
+        looks: &[
+            (0, 0, None),
+            (0, 1, Some(false)),
+            (4, 1, None),
+            (4, 2, Some(false)),
+        ],
+    },
+    TableCase {
+        source: "own, by hand: LIMIT in the window",
+        guess: 0,
+        limit: 1,
+        looks: &[
+            (0, 0, Some(true)),
+            (1, 1, Some(false)),
+            (4, 1, Some(true)),
+            (4, 2, None),
+        ],
+    },
+    TableCase {
+        source: "own, by hand: the guess at LIMIT",
+        guess: 1,
+        limit: 1,
+        looks: &[
+            (0, 1, Some(false)),
+            (1, 1, Some(false)),
+            (1, 2, None),
+            (4, 1, None),
+        ],
+    },
+    TableCase {
+        source: "own, by hand: the last number",
+        guess: LAST,
+        limit: LAST,
+        looks: &[
+            (0, LAST, Some(false)),
+            (1, LAST, Some(false)),
+            (1, LAST - 1, None),
+            (4, LAST, None),
+        ],
+    },
+];
+
+#[test]
+fn messages_open_at_their_numbers(rt: HostRuntime) -> Result<(), Fail> {
+    let pool = <[u8; 156]>::from_hex(MESSAGES)?;
+    let items = [message(0), message(2), message(2), message(2), message(1)];
+    for case in &TABLES {
+        let source = case.source;
+        assert!(rt; case.guess <= case.limit);
+        let table = table_of(&rt, rt.alloc(), case.guess, case.limit, &pool, &items)?;
+        assert_eq!(rt; table.guess(), case.guess);
+        for (i, n, verdict) in case.looks {
+            assert!(rt; *i < 5);
+            assert_eq!(rt; table.look(*i, *n), *verdict, "{source}: item {i} at {n}");
+        }
+    }
+    Ok(())
+}
+
+// Four texts of 20,000 zeros and a message: work for several threads.
+#[test]
+fn rows_are_filled_in_pieces(rt: HostRuntime) -> Result<(), Fail> {
+    let mut pool = [0u8; 20_156];
+    pool[..156].copy_from_slice(&<[u8; 156]>::from_hex(MESSAGES)?);
+    let zeros = Item {
+        aad: Span { start: 0, len: 0 },
+        text: Span {
+            start: 156,
+            len: 20_000,
+        },
+    };
+    let items = [zeros, zeros, zeros, zeros, message(1)];
+    let table = table_of(&rt, rt.alloc(), 0, 9, &pool, &items)?;
+    for i in 0..4usize {
+        assert_eq!(rt; table.look(i, 0), Some(false), "item {i}");
+    }
+    assert_eq!(rt; table.look(4, 1), Some(true));
+    Ok(())
+}
