@@ -17,6 +17,9 @@ const WINDOW: usize = 4;
 /// there it is false, and nobody reads it.
 pub(crate) type Row = [bool; WINDOW];
 
+/// A row before its item is checked.
+pub(crate) const BLANK: Row = [false; WINDOW];
+
 /// The k for which `n` is guess + i - k, if item `i` is checked at `n`.
 pub(crate) fn place(guess: u64, limit: u64, i: usize, n: u64) -> Option<usize>
     ensures none { IsNone result ↔ ¬ IsChecked guess limit i n }
@@ -67,7 +70,7 @@ impl Opener<'_> {
         let hashed = self
             .key
             .hash_ciphertext(rt, item.aad.of(self.pool), item.text.of(self.pool));
-        let mut row = [false; WINDOW];
+        let mut row = BLANK;
         for k in 0..WINDOW {
             if let Some(number) = self.number(i, k) {
                 row[k] = hashed.holds_at(&nonce_at(self.base_nonce, number));

@@ -3,7 +3,7 @@
 ghost use Rattle.std.specs.Prelude.{◌≡◌, ◌≤◌, ◌<◌, ◌↔◌, ℕ, List, [], All, Some, IfOk, IfSome, IsNone, IsTrue, length, slice_get};
 ghost use Rattle.speculative_open.specs.Tables.{Ciphertext, ciphertexts, ItemIsInPool, OpensAt, IsChecked, verdict_at, row_of, Fits};
 
-use crate::rows::{Opener, Row, place};
+use crate::rows::{BLANK, Opener, Row, place};
 use aes_gcm::GcmKey;
 use call_places::Item;
 use std::alloc::{AllocError as OutOfMemory, Global};
@@ -38,25 +38,25 @@ impl Model for GuessTable {
 }
 
 impl GuessTable {
-    /// A table with room for `most` rows, and no row. All the memory that it ever takes is taken
-    /// here.
+    /// A table with room for `most` rows, and no row; its guess and its LIMIT are 0 until it is
+    /// filled. All the memory that it ever takes is taken here.
     pub fn with_room(alloc: Global, most: usize) -> Result<GuessTable, OutOfMemory>
-        ensures room { IfOk result (λ t. t.room ≡ most) }
-        ensures rows { IfOk result (λ t. t.rows ≡ []) }
+        ensures { IfOk result (λ t.
+            t ≡ record { room = most; guess = 0; limit = 0; rows = [] }) }
     {
         Ok(GuessTable {
             guess: 0,
             limit: 0,
             used: 0,
-            rows: vec![in alloc; [false; 4]; most]?,
+            rows: vec![in alloc; BLANK; most]?,
         })
     }
 
-    /// Checks each item at the numbers that are likely where `guess` is due at the first of them,
-    /// and `limit` is LIMIT. What the table held before is overwritten.
+    /// Checks item i at the numbers guess + i - k, for k from 0 to min(i, 3), that are at most
+    /// `limit`, which is LIMIT. What the table held before is overwritten.
     ///
-    /// The rows are filled by several threads where there is work enough. It waits for no lock, and
-    /// takes no memory.
+    /// Each item is hashed once, by one of several threads where there is work enough. It waits for
+    /// no lock, and takes no memory.
     pub fn fill<R: Threads + Sync>(
         &mut self,
         rt: &R,
@@ -69,7 +69,6 @@ impl GuessTable {
     )
         requires room { length items.now ≤ self.old.room }
         requires spans { All (ItemIsInPool (length pool.now)) items.now }
-        requires guess { guess ≤ limit }
         ensures guess { self.new.guess ≡ guess }
         ensures limit { self.new.limit ≡ limit }
         ensures room { self.new.room ≡ self.old.room }

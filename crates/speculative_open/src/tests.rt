@@ -51,8 +51,7 @@ fn table_of<R: Threads + Sync>(
     pool: &[u8],
     items: &[Item],
 ) -> Result<GuessTable, Fail>
-    requires guess { guess ≤ limit }
-    requires spans { All (ItemIsInPool (length pool.now)) items.now }
+    requires { All (ItemIsInPool (length pool.now)) items.now }
     ensures { IfOk result (λ t. length t.rows ≡ length items.now) }
 {
     let key = GcmKey::new128(&<[u8; 16]>::from_hex(KEY)?);
@@ -144,7 +143,6 @@ fn messages_open_at_their_numbers(rt: HostRuntime) -> Result<(), Fail> {
     let items = [message(0), message(2), message(2), message(2), message(1)];
     for case in &TABLES {
         let source = case.source;
-        assert!(rt; case.guess <= case.limit);
         let table = table_of(&rt, rt.alloc(), case.guess, case.limit, &pool, &items)?;
         assert_eq!(rt; table.guess(), case.guess);
         for (i, n, verdict) in case.looks {
