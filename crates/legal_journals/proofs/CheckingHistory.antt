@@ -9,70 +9,46 @@ use Rattle.call_places.specs.declared.entries.Mark.{Mark}
 use Rattle.call_places.specs.Entries.{IsBefore}
 use Rattle.legal_journals.specs.Batches.{Batch, Ask, Nothing, ToSeal, ToOpen, ToOpenAll, unseal, with_context, item_in_call, Spot, spots, block, place, on, all_asked, lane_of}
 use Rattle.legal_journals.specs.Legal.{IsInLaneOrder, OpensOn, StandTogether, is_same_place}
-use Rattle.legal_journals.specs.Histories.{places, marks_at, LegalHistory, journals_of, own_spots, IsHistory}
-use Rattle.legal_journals.specs.Checks.{goes_on_in, is_unbroken, is_same_spot, are_same_spots, are_same_marks, are_same_journals, spots_stamped, by_stamps, is_history, is_legal_history}
-use Rattle.legal_journals.proofs.Legals.{In, In-left, In-right, in_contains, contains_in, all_asked_item, item_all_asked, Rises, lane_ordered, got}
-use Rattle.legal_journals.proofs.Marks.{Rising, rising, stamps_at, not_before, spot, on_in}
-use Rattle.legal_journals.proofs.Spots.{all_places, all_places-spots, own-all_places, rises_all}
-use Rattle.legal_journals.proofs.Places.{same, same_places}
-use Rattle.legal_journals.proofs.Checking.{and_left, and_right, both_true, all_true, true_all, in_range, lt_true, true_lt, one_item, unbroken_from, stands_unbroken}
-use Rattle.legal_journals.proofs.OneHistory.{spot_in, own_spot, spot_own, all, at_stamp, same_mark, journals_are, one_history, history_iff}
+use Rattle.legal_journals.specs.Histories.{mark, places, marks_at, HasLowerStamp, LegalHistory, journals_of, own_spots, IsHistory}
+use Rattle.legal_journals.specs.Checks.{are_same, goes_on_in, is_unbroken, is_same_spot, is_same_mark, spots_stamped, by_stamps, has_lane_spots, is_history, is_legal_history}
+use Rattle.legal_journals.proofs.Members.{In, In-left, In-right, in_contains, contains_in, got, in_map, filter_in, in_range, none_in, RisesBy, rises_pairs}
+use Rattle.legal_journals.proofs.Truths.{and_left, and_right, both_true, all_true, true_all, lt_true, true_lt}
+use Rattle.legal_journals.proofs.Places.{same, same_places, not_before}
+use Rattle.legal_journals.proofs.Legals.{in_block, all_asked_item, item_all_asked}
+use Rattle.legal_journals.proofs.Spots.{all_places, all_places-spots, history_ordered, own_spot, spot_own}
+use Rattle.legal_journals.proofs.HistoryJournals.{spot, on_in, spot_in}
+use Rattle.legal_journals.proofs.Checking.{same_list, list_same, one_item, unbroken_from, stands_unbroken}
+use Rattle.legal_journals.proofs.OneHistory.{all, at_stamp, same_mark as one_mark, journals_are, one_history, history_iff}
 
--- ---- the same lists
+-- ---- the same spots, marks and journals
 
-spots_same : (ss ts : List Spot) → are_same_spots ss ts ≡ true → ss ≡ ts
-spots_same [] [] e = refl
-spots_same [] (t ∷ ts) e = absurd (let f : false ≡ true = e in cc)
-spots_same (s ∷ ss) [] e = absurd (let f : false ≡ true = e in cc)
-spots_same (s ∷ ss) (t ∷ ts) e =
-    let a = and_left (is_same_spot s t) (are_same_spots ss ts) e in
-    let c = eqb-true s.context t.context (and_left (s.context == t.context) (is_same_place s.place t.place) a) in
-    let p = same_places s.place t.place (and_right (s.context == t.context) (is_same_place s.place t.place) a) in
-    (λ i. spot (c i) (p i) ∷ spots_same ss ts (and_right (is_same_spot s t) (are_same_spots ss ts) e) i)
+spot_same : (s t : Spot) → is_same_spot s t ≡ true → s ≡ t
+spot_same s t e =
+    let c = eqb-true s.context t.context (and_left (s.context == t.context) (is_same_place s.place t.place) e) in
+    let p = same_places s.place t.place (and_right (s.context == t.context) (is_same_place s.place t.place) e) in
+    (λ i. spot (c i) (p i))
 
-same_spots : (ss : List Spot) → are_same_spots ss ss ≡ true
-same_spots [] = refl
-same_spots (s ∷ ss) = both_true (is_same_spot s s) (are_same_spots ss ss) (both_true (s.context == s.context) (is_same_place s.place s.place) (eq-eqb s.context s.context refl) (same s.place)) (same_spots ss)
+same_spot : (s : Spot) → is_same_spot s s ≡ true
+same_spot s = both_true (s.context == s.context) (is_same_place s.place s.place) (eq-eqb s.context s.context refl) (same s.place)
 
-marks_same : (ms ks : List Mark) → are_same_marks ms ks ≡ true → ms ≡ ks
-marks_same [] [] e = refl
-marks_same [] (k ∷ ks) e = absurd (let f : false ≡ true = e in cc)
-marks_same (m ∷ ms) [] e = absurd (let f : false ≡ true = e in cc)
-marks_same (m ∷ ms) (k ∷ ks) e =
-    let a = and_left (is_same_place m.place k.place && (m.stamp == k.stamp)) (are_same_marks ms ks) e in
-    let p = same_places m.place k.place (and_left (is_same_place m.place k.place) (m.stamp == k.stamp) a) in
-    let s = eqb-true m.stamp k.stamp (and_right (is_same_place m.place k.place) (m.stamp == k.stamp) a) in
-    (λ i. record { place = p i; stamp = s i } ∷ marks_same ms ks (and_right (is_same_place m.place k.place && (m.stamp == k.stamp)) (are_same_marks ms ks) e) i)
+mark_same : (m k : Mark) → is_same_mark m k ≡ true → m ≡ k
+mark_same m k e =
+    let p = same_places m.place k.place (and_left (is_same_place m.place k.place) (m.stamp == k.stamp) e) in
+    let s = eqb-true m.stamp k.stamp (and_right (is_same_place m.place k.place) (m.stamp == k.stamp) e) in
+    (λ i. mark (p i) (s i))
 
-same_marks : (ms : List Mark) → are_same_marks ms ms ≡ true
-same_marks [] = refl
-same_marks (m ∷ ms) =
-    both_true (is_same_place m.place m.place && (m.stamp == m.stamp)) (are_same_marks ms ms)
-    (both_true (is_same_place m.place m.place) (m.stamp == m.stamp) (same m.place) (eq-eqb m.stamp m.stamp refl)) (same_marks ms)
+same_mark : (m : Mark) → is_same_mark m m ≡ true
+same_mark m = both_true (is_same_place m.place m.place) (m.stamp == m.stamp) (same m.place) (eq-eqb m.stamp m.stamp refl)
 
-journals_same : (js ks : List (List Mark)) → are_same_journals js ks ≡ true → js ≡ ks
-journals_same [] [] e = refl
-journals_same [] (k ∷ ks) e = absurd (let f : false ≡ true = e in cc)
-journals_same (j ∷ js) [] e = absurd (let f : false ≡ true = e in cc)
-journals_same (j ∷ js) (k ∷ ks) e = (λ i. marks_same j k (and_left (are_same_marks j k) (are_same_journals js ks) e) i ∷ journals_same js ks (and_right (are_same_marks j k) (are_same_journals js ks) e) i)
-
-same_journals : (js : List (List Mark)) → are_same_journals js js ≡ true
-same_journals [] = refl
-same_journals (j ∷ js) = both_true (are_same_marks j j) (are_same_journals js js) (same_marks j) (same_journals js)
+-- the same journals
+abbrev are_journals : List (List Mark) → List (List Mark) → Bool
+are_journals js ks = are_same (are_same is_same_mark) js ks
 
 -- ---- a history passes
 
-place_in : (ss : List Spot) (x : Spot) → In x ss → In x.place (all_places ss)
-place_in [] x j = absurd j
-place_in (s ∷ ss) x j = elim j [ inl e ↦ inl (ap (λ (y : Spot). y.place) e) | inr later ↦ inr (place_in ss x later) ]
-
-spot_with : (ss : List Spot) (p : Place) → In p (all_places ss) → (x : Spot) × In x ss × (x.place ≡ p)
-spot_with [] p i = absurd i
-spot_with (s ∷ ss) p i = elim i [ inl e ↦ (s, inl refl, e) | inr later ↦ (let t = spot_with ss p later in (t.0, inr t.1, t.2)) ]
-
 module _ (batch : Batch) (contexts : ℕ) (h : List Spot) (t : IsHistory batch contexts h) where
   ordered : AllPairs IsInLaneOrder (all_places h)
-  ordered = lane_ordered (all_places h) (λ l. subst Rises (sym (own-all_places l h ∙ ap all_places (t.lanes l))) (rises_all l 0 (lane_of batch l)))
+  ordered = history_ordered h (lane_of batch) t.lanes
 
   once : AllPairs (λ (p q : Place). p ≢ q) (all_places h)
   once = λ i j d a b same. let o = ordered i j d a b (ap (λ (q : Place). q.lane) same) in
@@ -109,11 +85,11 @@ module _ (batch : Batch) (contexts : ℕ) (h : List Spot) (t : IsHistory batch c
   pub history_passes : is_history batch contexts h ≡ true
   history_passes =
       let spots_test = λ (s : Spot). nat_lt s.context contexts && nat_lt s.place.lane (length batch) in
-      let lanes_test = λ (lane : ℕ). are_same_spots (own_spots lane h) (all_asked lane 0 (lane_of batch lane)) in
+      let lanes_test = has_lane_spots batch h in
       both_true (list_all spots_test h && list_all lanes_test (range_with_len 0 (length batch))) (is_unbroken batch (all_places h))
       (both_true (list_all spots_test h) (list_all lanes_test (range_with_len 0 (length batch)))
       (true_all spots_test h (λ s i. both_true (nat_lt s.context contexts) (nat_lt s.place.lane (length batch)) (true_lt s.context contexts (t.within s (contains_in h s i))) (true_lt s.place.lane (length batch) (lane_there s i))))
-      (true_all lanes_test (range_with_len 0 (length batch)) (λ l i. ap (λ ss. are_same_spots ss (all_asked l 0 (lane_of batch l))) (t.lanes l) ∙ same_spots (all_asked l 0 (lane_of batch l)))))
+      (true_all lanes_test (range_with_len 0 (length batch)) (λ l i. ap (λ ss. are_same is_same_spot ss (all_asked l 0 (lane_of batch l))) (t.lanes l) ∙ list_same is_same_spot same_spot (all_asked l 0 (lane_of batch l)))))
       (unbroken_from batch (all_places h) once (λ p i go. opens_at p (slice_get (lane_of batch p.lane) p.call) refl go) [] (all_places h) refl)
 
 -- ---- what passes is a history
@@ -137,7 +113,7 @@ module _ (batch : Batch) (contexts : ℕ) (h : List Spot) (passes : is_history b
   spots_test s = nat_lt s.context contexts && nat_lt s.place.lane (length batch)
 
   abbrev lanes_test : ℕ → Bool
-  lanes_test lane = are_same_spots (own_spots lane h) (all_asked lane 0 (lane_of batch lane))
+  lanes_test = has_lane_spots batch h
 
   front : (list_all spots_test h && list_all lanes_test (range_with_len 0 (length batch))) ≡ true
   front = and_left (list_all spots_test h && list_all lanes_test (range_with_len 0 (length batch))) (is_unbroken batch (all_places h)) passes
@@ -149,16 +125,12 @@ module _ (batch : Batch) (contexts : ℕ) (h : List Spot) (passes : is_history b
 
   lane_is : (l : ℕ) → own_spots l h ≡ all_asked l 0 (lane_of batch l)
   lane_is l = elim (cases_lt l (length batch)) [
-    | inl low ↦ spots_same (own_spots l h) (all_asked l 0 (lane_of batch l))
+    | inl low ↦ same_list is_same_spot spot_same (own_spots l h) (all_asked l 0 (lane_of batch l))
         (all_true lanes_test (range_with_len 0 (length batch)) (and_right (list_all spots_test h) (list_all lanes_test (range_with_len 0 (length batch))) front) l (in_range (length batch) 0 l (omega arith) (omega arith)))
-    | inr high ↦ none (own_spots l h) (λ s i. let o = own_spot l s h i in let low = (spot_passes s o.0).1 in let same = o.1 in omega arith) ∙ sym (ap (all_asked l 0) (get_or_past batch l [] high))
+    | inr high ↦ none_in (own_spots l h) (λ s i. let o = own_spot l s h i in let low = (spot_passes s o.0).1 in let same = o.1 in omega arith) ∙ sym (ap (all_asked l 0) (get_or_past batch l [] high))
   ]
-    where
-      none : (ss : List Spot) → ((s : Spot) → In s ss → ⊥) → ss ≡ []
-      none [] f = refl
-      none (s ∷ ss) f = absurd (f s (inl refl))
 
-  together_is : (c l call n : ℕ) → OpensOn batch c l call n → (before after : List Spot) × (h ≡ before ++ (spots c (block l call 0 n) ++ after))
+  together_is : (c l call n : ℕ) → OpensOn batch c l call n → (front after : List Spot) × (h ≡ front ++ (spots c (block l call 0 n) ++ after))
   together_is c l call zero o = ([], h, refl)
   together_is c l call (suc m) o =
       let size : length (map unseal o.0) ≡ suc m = length-map o.0 unseal ∙ o.2 in
@@ -168,14 +140,14 @@ module _ (batch : Batch) (contexts : ℕ) (h : List Spot) (passes : is_history b
       spot_in c (all_asked l 0 (lane_of batch l)) (place l call 0)
       (subst (λ k. In (place l k 0) (on c (all_asked l 0 (lane_of batch l)))) (let z : 0 + call ≡ call = omega arith in z) (item_all_asked c l 0 (lane_of batch l) call 0 x.0 item)) in
       let here = (own_spot l (spot c (place l call 0)) h (subst (In (spot c (place l call 0))) (sym (lane_is l)) asked)).0 in
-      let st = stands_unbroken batch l call c m o.0 o.1 o.2 (all_places h) (place_in h (spot c (place l call 0)) here)
+      let st = stands_unbroken batch l call c m o.0 o.1 o.2 (all_places h) (in_map (λ (s : Spot). s.place) (spot c (place l call 0)) h here)
       (and_right (list_all spots_test h && list_all lanes_test (range_with_len 0 (length batch))) (is_unbroken batch (all_places h)) passes) in
       let one = map_split h st.0 (block l call 0 (suc m) ++ st.1) st.2 in
       let two = map_split one.1 (block l call 0 (suc m)) st.1 one.4 in
       let whole : h ≡ one.0 ++ (two.0 ++ two.1) = one.2 ∙ ap (λ ss. one.0 ++ ss) two.2 in
       let mine : two.0 ≡ spots c (block l call 0 (suc m)) = of_context c two.0 (λ s i.
       let inside : In s h = subst (In s) (sym whole) (In-right s one.0 (two.0 ++ two.1) (In-left s two.0 two.1 i)) in
-      let p = Rattle.legal_journals.proofs.Legals.in_block s.place l call 0 (suc m) (subst (In s.place) two.3 (place_in two.0 s i)) in
+      let p = in_block s.place l call 0 (suc m) (subst (In s.place) two.3 (in_map (λ (x : Spot). x.place) s two.0 i)) in
       let own : In s (all_asked s.place.lane 0 (lane_of batch s.place.lane)) = subst (In s) (lane_is s.place.lane) (spot_own s.place.lane s h inside refl) in
       let a = all_asked_item s.context s.place.lane 0 (lane_of batch s.place.lane) s.place (on_in (all_asked s.place.lane 0 (lane_of batch s.place.lane)) s own) in
       let k : ℕ = a.1 in
@@ -197,28 +169,23 @@ module _ (batch : Batch) (contexts : ℕ) (h : List Spot) (passes : is_history b
 
 -- ---- the places by their stamps are the history
 
-one_stamped : (s : ℕ) (ms : List Mark) (m : Mark) → Rising ms → In m ms → m.stamp ≡ s → filter (λ (k : Mark). k.stamp == s) ms ≡ m ∷ []
+none_here : (s : ℕ) (xs : List Mark) → ((x : Mark) → In x xs → x.stamp ≡ s → ⊥) → filter (λ (x : Mark). x.stamp == s) xs ≡ []
+none_here s xs f = none_in (filter (λ (x : Mark). x.stamp == s) xs) (λ x i. let k = filter_in (λ (y : Mark). y.stamp == s) x xs i in f x k.0 (eqb-true x.stamp s k.1))
+
+one_stamped : (s : ℕ) (ms : List Mark) (m : Mark) → RisesBy HasLowerStamp ms → In m ms → m.stamp ≡ s → filter (λ (k : Mark). k.stamp == s) ms ≡ m ∷ []
 one_stamped s [] m r i e = absurd i
 one_stamped s (k ∷ ms) m r i e = elim i [
   | inl is ↦ ap (λ b. cond b (k ∷ filter (λ (x : Mark). x.stamp == s) ms) (filter (λ (x : Mark). x.stamp == s) ms)) (eq-eqb k.stamp s (ap (λ (x : Mark). x.stamp) is ∙ e))
-      ∙ (λ j. is j ∷ none_stamped s ms (λ x h f. let g : k.stamp < x.stamp = r.0 x h in let q : k.stamp ≡ m.stamp = ap (λ (y : Mark). y.stamp) is in omega arith) j)
+      ∙ (λ j. is j ∷ none_here s ms (λ x h f. let g : k.stamp < x.stamp = r.0 x h in let q : k.stamp ≡ m.stamp = ap (λ (y : Mark). y.stamp) is in omega arith) j)
   | inr later ↦ ap (λ b. cond b (k ∷ filter (λ (x : Mark). x.stamp == s) ms) (filter (λ (x : Mark). x.stamp == s) ms))
       (ne_eqb k.stamp s (λ f. let g : k.stamp < m.stamp = r.0 m later in omega arith)) ∙ one_stamped s ms m r.1 later e
 ]
-  where
-    none_stamped : (s : ℕ) (xs : List Mark) → ((x : Mark) → In x xs → x.stamp ≡ s → ⊥) → filter (λ (x : Mark). x.stamp == s) xs ≡ []
-    none_stamped s [] f = refl
-    none_stamped s (x ∷ xs) f = ap (λ b. cond b (x ∷ filter (λ (y : Mark). y.stamp == s) xs) (filter (λ (y : Mark). y.stamp == s) xs)) (ne_eqb x.stamp s (λ e. f x (inl refl) e)) ∙ none_stamped s xs (λ y i. f y (inr i))
-
-none_here : (s : ℕ) (xs : List Mark) → ((x : Mark) → In x xs → x.stamp ≡ s → ⊥) → filter (λ (x : Mark). x.stamp == s) xs ≡ []
-none_here s [] f = refl
-none_here s (x ∷ xs) f = ap (λ b. cond b (x ∷ filter (λ (y : Mark). y.stamp == s) xs) (filter (λ (y : Mark). y.stamp == s) xs)) (ne_eqb x.stamp s (λ e. f x (inl refl) e)) ∙ none_here s xs (λ y i. f y (inr i))
 
 none_in_all : (s k : ℕ) (journals : List (List Mark)) → ((d : ℕ) (x : Mark) → In x (marks_at journals d) → x.stamp ≡ s → ⊥) → spots_stamped s k journals ≡ []
 none_in_all s k [] f = refl
 none_in_all s k (ms ∷ journals) f = (λ i. spots k (places (none_here s ms (f 0) i)) ++ none_in_all s (k + 1) journals (λ d. f (suc d)) i)
 
-only_one : (s k c : ℕ) (journals : List (List Mark)) (m : Mark) → ((d : ℕ) → Rising (marks_at journals d)) → In m (marks_at journals c) → m.stamp ≡ s
+only_one : (s k c : ℕ) (journals : List (List Mark)) (m : Mark) → ((d : ℕ) → RisesBy HasLowerStamp (marks_at journals d)) → In m (marks_at journals c) → m.stamp ≡ s
     → ((d : ℕ) (x : Mark) → In x (marks_at journals d) → x.stamp ≡ s → c ≡ d) → spots_stamped s k journals ≡ spot (k + c) m.place ∷ []
 only_one s k c [] m r i e f = absurd i
 only_one s k zero (ms ∷ journals) m r i e f =
@@ -242,22 +209,22 @@ module _ (batch : Batch) (journals : List (List Mark)) (t : LegalHistory batch j
       ap (λ n. flat_map (λ s. spots_stamped s 0 journals) (range_with_len 0 n)) (sym (all batch journals t).1)
       ∙ each_single (λ s. spots_stamped s 0 journals) 0 h (λ i x at.
       let u = at_stamp batch journals t i x at in
-      only_one (0 + i) 0 x.context journals u.0 (λ d. rising (marks_at journals d) (stamps_at (marks_at journals d) (t.each d).rise)) u.3 u.4
-      (λ d k has e. (same_mark batch journals t x.context d u.0 k u.3 has (u.4 ∙ sym e)).0)
+      only_one (0 + i) 0 x.context journals u.0 (λ d. rises_pairs HasLowerStamp (marks_at journals d) (t.each d).rise) u.3 u.4
+      (λ d k has e. (one_mark batch journals t x.context d u.0 k u.3 has (u.4 ∙ sym e)).0)
       ∙ (λ j. spot ((let z : 0 + x.context ≡ x.context = omega arith in z) j) u.0.place ∷ []) ∙ ap (λ (y : Spot). y ∷ []) (sym u.1))
 
   pub legal_history_passes : is_legal_history batch journals ≡ true
   legal_history_passes =
-      both_true (are_same_journals journals (journals_of (length journals) (by_stamps journals))) (is_history batch (length journals) (by_stamps journals))
-      (ap (are_same_journals journals) (ap (journals_of (length journals)) by_stamps_is ∙ sym (journals_are batch journals t)) ∙ same_journals journals)
+      both_true (are_journals journals (journals_of (length journals) (by_stamps journals))) (is_history batch (length journals) (by_stamps journals))
+      (ap (are_journals journals) (ap (journals_of (length journals)) by_stamps_is ∙ sym (journals_are batch journals t)) ∙ list_same (are_same is_same_mark) (list_same is_same_mark same_mark) journals)
       (ap (is_history batch (length journals)) by_stamps_is ∙ history_passes batch (length journals) h (one_history batch journals t))
 
 pub legal_history_iff : (batch : Batch) (journals : List (List Mark)) → IsTrue (is_legal_history batch journals) ↔ LegalHistory batch journals
 legal_history_iff batch journals = (
   λ e. (history_iff batch journals).1 (
     by_stamps journals,
-    passes_history batch (length journals) (by_stamps journals) (and_right (are_same_journals journals (journals_of (length journals) (by_stamps journals))) (is_history batch (length journals) (by_stamps journals)) e),
-    journals_same journals (journals_of (length journals) (by_stamps journals)) (and_left (are_same_journals journals (journals_of (length journals) (by_stamps journals))) (is_history batch (length journals) (by_stamps journals)) e),
+    passes_history batch (length journals) (by_stamps journals) (and_right (are_journals journals (journals_of (length journals) (by_stamps journals))) (is_history batch (length journals) (by_stamps journals)) e),
+    same_list (are_same is_same_mark) (same_list is_same_mark mark_same) journals (journals_of (length journals) (by_stamps journals)) (and_left (are_journals journals (journals_of (length journals) (by_stamps journals))) (is_history batch (length journals) (by_stamps journals)) e),
   ),
   legal_history_passes batch journals,
 )

@@ -1,14 +1,18 @@
 -- One lane that is served in its order.
 use Rattle.std.proofs.Common.{◌≡◌, ◌≢◌, ℕ, zero, suc, ◌+◌, ◌<◌, ◌≤◌, ◌==◌, ◌&&◌, Bool, true, false, cond, List, [], ◌∷◌, ◌++◌, length, take, drop, sym, refl, ap, ◌∙◌, subst, arith, append_assoc, Option, Some, None, inl, inr}
-use Rattle.std.specs.Prelude.{slice_get, map}
+use Rattle.std.specs.Prelude.{slice_get, map, ◌↔◌}
 use Rattle.std.proofs.lemmas.List.{length-map}
 use Rattle.call_places.specs.declared.entries.Place.{Place}
-use Rattle.hpke_context.specs.Answers.{Cipher, Item, Seal, Unseal, answer, run, due, next}
+use Rattle.hpke_context.specs.Answers.{Cipher, Item, Seal, Unseal, answer, due, next}
 use Rattle.hpke_context.proofs.Runs.{due-append}
-use Rattle.legal_journals.specs.Batches.{Batch, Ask, ToSeal, ToOpen, ToOpenAll, unseal, block, place, asked, all_asked, on, own_places, lane_of, lane_places, item_of, items_of, item_in_call, item_or_none, IsServed}
-use Rattle.legal_journals.specs.Legal.{OpensOn, StandTogether, Legal, is_same_place, reply_in, reply_of, due_after}
+use Rattle.legal_journals.specs.Batches.{Ask, ToSeal, ToOpen, ToOpenAll, unseal, block, place, asked, all_asked, on, own_places, lane_of, lane_places, item_of, items_of, item_in_call, item_or_none}
+use Rattle.legal_journals.specs.Legal.{OpensOn, StandTogether, Legal, reply_of, due_after}
 use Rattle.legal_journals.proofs.Lists.{on-append, on-spots_same, own_places-on, own_spots-all_asked, own_spots-all_asked_other, all_asked-append, append-nil}
-use Rattle.legal_journals.proofs.Legals.{In, In-left, contains_in, all_asked_item, legal}
+use Rattle.legal_journals.proofs.Members.{In, In-left, contains_in, none_in}
+use Rattle.legal_journals.proofs.Places.{in_own}
+use Rattle.legal_journals.proofs.Legals.{all_asked_item, legal, lane_is}
+use Rattle.legal_journals.proofs.Replies.{reply_at}
+use Rattle.legal_journals.proofs.Runs.{items_of-append}
 
 -- ---- a call parts its lane
 
@@ -38,7 +42,7 @@ parted_places c asks k a e =
 
 -- ---- its journal is legal
 
-no_ask : (a : Ask) → None ≡ Some a → ⊥
+pub no_ask : (a : Ask) → None ≡ Some a → ⊥
 no_ask a e = cc
 
 one_lane : (asks : List Ask) (c : ℕ) (l : ℕ) → own_places l (lane_places c 0 asks) ≡ on c (all_asked l 0 (lane_of (asks ∷ []) l))
@@ -56,38 +60,38 @@ one_block asks c zero call n o =
 one_block asks c (suc l) call n o = absurd (no_ask (ToOpenAll c o.0) o.1)
 
 pub one_lane_legal : (asks : List Ask) (c : ℕ) → Legal (asks ∷ []) c (lane_places c 0 asks)
-one_lane_legal asks c = legal (asks ∷ []) c (lane_places c 0 asks) (record { lanes = one_lane asks c; blocks = one_block asks c })
+one_lane_legal asks c = legal (asks ∷ []) c (lane_places c 0 asks) (record { lanes = one_lane asks c; together = one_block asks c })
 
 pub no_lane_legal : (c : ℕ) → Legal [] c []
 no_lane_legal c =
-    legal [] c [] (record { lanes = λ l. refl; blocks = λ l call n o. absurd (no_ask (ToOpenAll c o.0) o.1) })
+    legal [] c [] (record { lanes = λ l. refl; together = λ l call n o. absurd (no_ask (ToOpenAll c o.0) o.1) })
 
--- ---- the reply of a place behind others
+-- ---- and no other journal is
 
-apart : (q p : Place) → q.call < p.call → is_same_place q p ≡ false
-apart q p lt = step (q.lane == p.lane) (q.item == p.item)
+own_all : (ps : List Place) → ((p : Place) → In p ps → p.lane ≡ 0) → own_places 0 ps ≡ ps
+own_all [] f = refl
+own_all (p ∷ ps) f = ap (λ b. cond b (p ∷ own_places 0 ps) (own_places 0 ps)) (Rattle.std.proofs.Common.eq-eqb p.lane 0 (f p (inl refl))) ∙ ap (λ m. p ∷ m) (own_all ps (λ q i. f q (inr i)))
+
+lane_0 : (asks : List Ask) (c : ℕ) (journal : List Place) → Legal (asks ∷ []) c journal → (p : Place) → In p journal → (l : ℕ) → p.lane ≡ l → l ≡ 0
+lane_0 asks c journal t p i zero e = refl
+lane_0 asks c journal t p i (suc l) e = absurd (subst (In p) (lane_is (asks ∷ []) c journal t (suc l)) (subst (λ k. In p (own_places k journal)) e (in_own p journal i)))
+
+pub one_lane_only : (asks : List Ask) (c : ℕ) (journal : List Place) → Legal (asks ∷ []) c journal ↔ (journal ≡ lane_places c 0 asks)
+one_lane_only asks c journal = (
+  λ t. sym (own_all journal (λ p i. lane_0 asks c journal t p i p.lane refl)) ∙ lane_is (asks ∷ []) c journal t 0,
+  λ e. subst (Legal (asks ∷ []) c) (sym e) (one_lane_legal asks c),
+)
+
+pub no_lane_only : (c : ℕ) (journal : List Place) → Legal [] c journal ↔ (journal ≡ [])
+no_lane_only c journal = (
+  λ t. none_in journal (λ p i. let x = (t.served p).0 (contains_in journal p i) in absurd (no_item (c, x.0) x.1)),
+  λ e. subst (Legal [] c) (sym e) (no_lane_legal c),
+)
   where
-    calls : (q.call == p.call) ≡ false
-    calls = Rattle.std.proofs.Common.ne_eqb q.call p.call (λ e. absurd (omega (arith, lt, e)))
+    no_item : (x : ℕ × Item) → None ≡ Some x → ⊥
+    no_item x e = cc
 
-    step : (x y : Bool) → ((x && (q.call == p.call)) && y) ≡ false
-    step true y = ap (λ b. b && y) calls
-    step false y = refl
-
-pub behind : (batch : Batch) (context : ℕ) (c : Cipher) (n : ℕ) (qs ps : List Place) (p : Place)
-    → ((q : Place) → In q qs → IsServed batch context q) → ((q : Place) → In q qs → q.call < p.call)
-    → reply_in (qs ++ ps) (run c n (items_of batch (qs ++ ps))) p ≡ reply_in ps (run c (due c n (items_of batch qs)) (items_of batch ps)) p
-behind batch context c n [] ps p served before = refl
-behind batch context c n (q ∷ qs) ps p served before =
-    let here = served q (inl refl) in
-    let x : Item = here.0 in
-    ap (λ o. reply_in (q ∷ (qs ++ ps)) (run c n (item_or_none o (items_of batch (qs ++ ps)))) p) here.1
-    ∙ ap (λ b. cond b (Some (answer c n x)) (reply_in (qs ++ ps) (run c (next n (answer c n x)) (items_of batch (qs ++ ps))) p)) (apart q p (before q (inl refl)))
-    ∙ behind batch context c (next n (answer c n x)) qs ps p (λ r i. served r (inr i)) (λ r i. before r (inr i))
-    ∙ ap (λ o. reply_in ps (run c (due c n (item_or_none o (items_of batch qs))) (items_of batch ps)) p) (sym here.1)
-
-same : (p : Place) → is_same_place p p ≡ true
-same p = (λ i. Rattle.std.proofs.Common.eq-eqb p.lane p.lane refl i && Rattle.std.proofs.Common.eq-eqb p.call p.call refl i && Rattle.std.proofs.Common.eq-eqb p.item p.item refl i)
+-- ---- the replies of its calls
 
 -- the places of earlier calls have earlier calls
 earlier : (asks : List Ask) (c k : ℕ) (q : Place) → In q (lane_places c 0 (take k asks)) → q.call < k
@@ -114,18 +118,14 @@ pub answered : (asks : List Ask) (context : ℕ) (c : Cipher) (k : ℕ) (a : Ask
     → on context (asked 0 k a) ≡ place 0 k 0 ∷ [] → item_of (asks ∷ []) (place 0 k 0) ≡ Some (context, x)
     → reply_of (asks ∷ []) c (lane_places context 0 asks) (place 0 k 0) ≡ Some (answer c (due_after (asks ∷ []) c (lane_places context 0 (take k asks))) x)
 answered asks context c k a x e one item =
-    let batch = asks ∷ [] in
     let p = place 0 k 0 in
     let front = lane_places context 0 (take k asks) in
     let back = on context (all_asked 0 (k + 1) (drop (k + 1) asks)) in
     let parts : lane_places context 0 asks ≡ front ++ (p ∷ back) = parted_places context asks k a e ∙ ap (λ m. front ++ (m ++ back)) one in
-    let n = due_after batch c front in
-    ap (λ ps. reply_in ps (run c 0 (items_of batch ps)) p) parts
-    ∙ behind batch context c 0 front (p ∷ back) p
+    ap (λ ps. reply_of (asks ∷ []) c ps p) parts
+    ∙ reply_at (asks ∷ []) context c front back p x
     (λ q i. ((one_lane_legal asks context).served q).0 (contains_in (lane_places context 0 asks) q (subst (In q) (sym parts) (In-left q front (p ∷ back) i))))
-    (λ q i. earlier asks context k q i)
-    ∙ ap (λ o. reply_in (p ∷ back) (run c n (item_or_none o (items_of batch back))) p) item
-    ∙ ap (λ b. cond b (Some (answer c n x)) (reply_in back (run c (next n (answer c n x)) (items_of batch back)) p)) (same p)
+    (λ i. let low = earlier asks context k p i in absurd (omega arith)) item
 
 pub sealed : (asks : List Ask) (context : ℕ) (c : Cipher) (k : ℕ) (aad text : List ℕ) → slice_get asks k ≡ Some (ToSeal context aad text)
     → reply_of (asks ∷ []) c (lane_places context 0 asks) (place 0 k 0) ≡ Some (answer c (due_after (asks ∷ []) c (lane_places context 0 (take k asks))) (Seal aad text))
@@ -161,14 +161,6 @@ pub places_same : (c : ℕ) (asks : List Ask) (k : ℕ) (a : Ask) → slice_get 
     → lane_places c 0 (take (k + 1) asks) ≡ lane_places c 0 (take k asks)
 places_same c asks k a e none =
     places_more c asks k a e ∙ ap (λ m. lane_places c 0 (take k asks) ++ m) none ∙ append-nil (lane_places c 0 (take k asks))
-
-pub items_of-append : (batch : Batch) (xs ys : List Place) → items_of batch (xs ++ ys) ≡ items_of batch xs ++ items_of batch ys
-items_of-append batch [] ys = refl
-items_of-append batch (p ∷ xs) ys = ap (item_or_none (item_of batch p)) (items_of-append batch xs ys) ∙ step (item_of batch p)
-  where
-    step : (o : Option (ℕ × Item)) → item_or_none o (items_of batch xs ++ items_of batch ys) ≡ item_or_none o (items_of batch xs) ++ items_of batch ys
-    step None = refl
-    step (Some x) = refl
 
 -- a call of one item on this context is answered at the number that is due
 pub due_more : (asks : List Ask) (context : ℕ) (c : Cipher) (k : ℕ) (a : Ask) (x : Item) → slice_get asks k ≡ Some a

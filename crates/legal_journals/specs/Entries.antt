@@ -52,7 +52,8 @@ entry_places entries = map (λ e. e.place) entries
 
 -- of each entry by itself: P holds of its number and it
 abbrev pub AtNumbers : (ℕ → Entry → Type 0) → List Entry → Type 0
-AtNumbers P entries = (i : ℕ) (e : Entry) → slice_get entries i ≡ Some e → P (number_at i entries) e
+AtNumbers P entries =
+    (i : ℕ) (e : Entry) → slice_get entries i ≡ Some e → P (number_at i entries) e
 
 -- the entry's step is that of the sequential context at this number, for the item of its place
 abbrev pub FitsAt : Batch → ℕ → Cipher → ℕ → Entry → Type 0

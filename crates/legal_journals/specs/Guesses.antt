@@ -10,7 +10,8 @@ use Rattle.legal_journals.specs.Legal.{OpensOn, due_after, before, number_of}
 
 -- The guess of a call of n messages is the number that was due after a front of the journal. This
 -- front holds all earlier places of the call's lane, and it ends before the call's own places.
-pub record Guessed (batch : Batch) (c : Cipher) (journal : List Place) (lane call n guess : ℕ) : Type 0 where
+pub record Guessed (batch : Batch) (c : Cipher) (journal : List Place)
+    (lane call n guess : ℕ) : Type 0 where
   pub front : List Place
   pub others : List Place
   pub after : List Place
@@ -38,11 +39,13 @@ missed_in batch c journal lane call n guess =
 -- a list of places up to and with the last one of a lane; nothing where the lane has none
 abbrev pub through : ℕ → List Place → List Place
 through lane [] = []
-through lane (p ∷ ps) = if list_any (λ q. q.lane == lane) (p ∷ ps) then p ∷ through lane ps else []
+through lane (p ∷ ps) =
+    if list_any (λ q. q.lane == lane) (p ∷ ps) then p ∷ through lane ps else []
 
 -- the number that is due just after the last earlier place of the call's lane, or 0 without one
 abbrev pub least_guess : Batch → Cipher → List Place → ℕ → ℕ → ℕ
-least_guess batch c journal lane call = due_after batch c (through lane (before (place lane call 0) journal))
+least_guess batch c journal lane call =
+    due_after batch c (through lane (before (place lane call 0) journal))
 
 -- the number that is due at the call's first place
 abbrev pub greatest_guess : Batch → Cipher → List Place → ℕ → ℕ → ℕ
@@ -66,7 +69,9 @@ abbrev pub guess_at : List Ask → List ℕ → ℕ → ℕ
 guess_at asks guesses call = slice_index guesses (guess_count (take call asks))
 
 -- the lane has one guess for each of its openings of several messages, and each may have been made
-pub record AllGuessed (batch : Batch) (ciphers : ℕ → Cipher) (journals : ℕ → List Place) (lane : ℕ) (guesses : List ℕ) : Type 0 where
+pub record AllGuessed (batch : Batch) (ciphers : ℕ → Cipher) (journals : ℕ → List Place)
+    (lane : ℕ) (guesses : List ℕ) : Type 0 where
   pub count : length guesses ≡ guess_count (lane_of batch lane)
   pub each : (context call n : ℕ) → OpensOn batch context lane call n
-      → Guessed batch (ciphers context) (journals context) lane call n (guess_at (lane_of batch lane) guesses call)
+      → Guessed batch (ciphers context) (journals context) lane call n
+      (guess_at (lane_of batch lane) guesses call)

@@ -31,7 +31,8 @@ HasLowerStamp m k = m.stamp < k.stamp
 -- the items of a call of n items have consecutive stamps in a journal, in their order
 abbrev pub HaveConsecutiveStamps : List Mark → ℕ → ℕ → ℕ → Type 0
 HaveConsecutiveStamps journal lane call n =
-    (first : ℕ) × ((item : ℕ) → item < n → Contains journal (mark (place lane call item) (first + item)))
+    (first : ℕ)
+    × ((item : ℕ) → item < n → Contains journal (mark (place lane call item) (first + item)))
 
 -- the journal of one context, with its stamps
 pub record LegalMarks (batch : Batch) (context : ℕ) (journal : List Mark) : Type 0 where
@@ -41,17 +42,24 @@ pub record LegalMarks (batch : Batch) (context : ℕ) (journal : List Mark) : Ty
   pub once : AllPairs (λ p q. p ≢ q) (places journal)
   -- its stamps rise
   pub rise : AllPairs HasLowerStamp journal
-  -- the places of one opening of several messages have consecutive stamps, in the order of its items
-  pub together : (lane call n : ℕ) → OpensOn batch context lane call n → HaveConsecutiveStamps journal lane call n
+  -- the places of one opening of several messages have consecutive stamps, in the order of its
+  -- items
+  pub together : (lane call n : ℕ) → OpensOn batch context lane call n
+      → HaveConsecutiveStamps journal lane call n
+
+-- so many numbers from 0 on, each once, in any order
+abbrev pub AreAllFrom0 : List ℕ → Type 0
+AreAllFrom0 numbers = IsPermutation numbers (range_with_len 0 (length numbers))
 
 -- The journals of all contexts: the stamps merge them into one history.
 pub record LegalHistory (batch : Batch) (journals : List (List Mark)) : Type 0 where
   pub each : (context : ℕ) → LegalMarks batch context (marks_at journals context)
   -- all stamps together are the numbers from 0 on, as many as there are places, each once
-  pub stamped : IsPermutation (all_stamps journals) (range_with_len 0 (length (all_stamps journals)))
+  pub stamped : AreAllFrom0 (all_stamps journals)
   -- of two places of one lane, in whichever journals, the one with the lower call has the lower
   -- stamp; within one call the one with the lower item
-  pub in_order : (c d : ℕ) (m k : Mark) → Contains (marks_at journals c) m → Contains (marks_at journals d) k
+  pub in_order : (c d : ℕ) (m k : Mark)
+      → Contains (marks_at journals c) m → Contains (marks_at journals d) k
       → m.place.lane ≡ k.place.lane → IsBefore m.place k.place → HasLowerStamp m k
 
 -- ---- the journals of a history
@@ -60,11 +68,14 @@ pub record LegalHistory (batch : Batch) (journals : List (List Mark)) : Type 0 w
 abbrev pub stamped_on : ℕ → ℕ → List Spot → List Mark
 stamped_on context stamp [] = []
 stamped_on context stamp (s ∷ ss) =
-    cond (s.context == context) (mark s.place stamp ∷ stamped_on context (stamp + 1) ss) (stamped_on context (stamp + 1) ss)
+    cond (s.context == context)
+    (mark s.place stamp ∷ stamped_on context (stamp + 1) ss)
+    (stamped_on context (stamp + 1) ss)
 
 -- those of so many contexts
 abbrev pub journals_of : ℕ → List Spot → List (List Mark)
-journals_of contexts history = map (λ context. stamped_on context 0 history) (range_with_len 0 contexts)
+journals_of contexts history =
+    map (λ context. stamped_on context 0 history) (range_with_len 0 contexts)
 
 -- ---- one list of all places
 
@@ -79,4 +90,5 @@ pub record IsHistory (batch : Batch) (contexts : ℕ) (history : List Spot) : Ty
   pub lanes : (lane : ℕ) → own_spots lane history ≡ all_asked lane 0 (lane_of batch lane)
   -- those of one opening of several messages stand next to one another
   pub together : (context lane call n : ℕ) → OpensOn batch context lane call n
-      → (front after : List Spot) × (history ≡ front ++ (spots context (block lane call 0 n) ++ after))
+      → (front after : List Spot)
+      × (history ≡ front ++ (spots context (block lane call 0 n) ++ after))

@@ -5,7 +5,7 @@ use Rattle.std.specs.List.{AllPairs}
 use Rattle.call_places.specs.declared.entries.Place.{Place}
 use Rattle.call_places.specs.Entries.{IsBefore}
 use Rattle.hpke_context.specs.Answers.{Cipher, Answer, Sealed_at, Opened_at, Failed_at, At_limit, run, due}
-use Rattle.legal_journals.specs.Batches.{Batch, SealedMessage, ToOpenAll, block, lane_of, items_of, IsServed}
+use Rattle.legal_journals.specs.Batches.{Batch, SealedMessage, ToOpenAll, block, lane_of, lane_places, own_places, items_of, IsServed}
 
 -- ---- the order of a journal
 
@@ -34,7 +34,15 @@ pub record Legal (batch : Batch) (context : ℕ) (journal : List Place) : Type 0
   -- with the lower item
   pub in_order : AllPairs IsInLaneOrder journal
   -- the places of one opening of several messages stand next to one another
-  pub together : (lane call n : ℕ) → OpensOn batch context lane call n → StandTogether journal (block lane call 0 n)
+  pub together : (lane call n : ℕ) → OpensOn batch context lane call n
+      → StandTogether journal (block lane call 0 n)
+
+-- The same, lane by lane: the places of each lane are those that it asks for, in order, and
+-- openings of several messages stand together.
+pub record MergesLanes (batch : Batch) (context : ℕ) (journal : List Place) : Type 0 where
+  pub lanes : (lane : ℕ) → own_places lane journal ≡ lane_places context lane (lane_of batch lane)
+  pub together : (lane call n : ℕ) → OpensOn batch context lane call n
+      → StandTogether journal (block lane call 0 n)
 
 -- ---- the replies of a journal
 

@@ -4,3 +4,4 @@ pub mod Entries
 pub mod Guesses
 pub mod Histories
 pub mod Checks
+pub mod Rows

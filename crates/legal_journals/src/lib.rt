@@ -1,31 +1,38 @@
 //! Which journals are legal for a batch, and how their items are answered (RFC 9180, 5.2).
 //!
-//! A call asks a context to seal a text or to open ciphertexts; what it asks for has places, and the
-//! journal of a context is a list of places. `Legal` of `specs/Legal.antt` says which lists those
-//! are: each place that a context was asked for once, in the order of its lane. The replies of a
-//! journal are the answers of the sequential context along it.
+//! A call asks a context to seal a text or to open ciphertexts; what it asks for has places, and
+//! the journal of a context is a list of places. `Legal` of `specs/Legal.antt` says which lists
+//! those are: each place that a context was asked for once, in the order of its lane. The replies
+//! of a journal are the answers of the sequential context along it; `specs/Entries.antt` says it
+//! entry by entry.
 //!
 //! An opening of several messages guesses the number at which its turn will come: `Guessed` of
-//! `specs/Guesses.antt` says which guesses it may have made. With stamps the journals of all contexts
-//! are one history: `LegalHistory` of `specs/Histories.antt`. `specs/Checks.antt` has tests of all
-//! this that a program can run.
+//! `specs/Guesses.antt` says which guesses it may have made. With stamps the journals of all
+//! contexts are one history: `LegalHistory` of `specs/Histories.antt`. `specs/Checks.antt` has
+//! tests of all this that a program can run.
 //!
 //! Everything here is a definition or a law of definitions: each function does nothing, and its
-//! contract is the law.
+//! contract is the law. What lanes do, and what they show, is said above.
 #![tactic(auto)]
 
+mod checks;
 mod entries;
-mod laws;
+mod guesses;
+mod histories;
+mod journals;
+mod rows;
+#[cfg(test)]
+mod tests;
 
+pub use checks::{a_guess_is_told, a_legal_history_is_told, a_legal_journal_is_told};
 pub use entries::{
     a_step_advances_as_its_answer, entries_fit_lane_by_lane, fitting_entries_are_a_run,
 };
-pub use laws::{
-    a_call_is_answered_item_by_item, a_guess_is_told, a_guess_lies_between,
-    a_legal_history_has_legal_journals, a_legal_history_is_one_list, a_legal_history_is_told,
-    a_legal_journal_is_told, each_number_is_used_once, no_lane_is_legal,
-    one_lane_is_answered_in_order, one_lane_is_legal,
+pub use guesses::a_guess_lies_between;
+pub use histories::{a_legal_history_has_legal_journals, a_legal_history_is_one_list};
+pub use journals::{
+    a_call_is_answered_item_by_item, a_legal_journal_merges_its_lanes, each_number_is_used_once,
+    each_served_place_has_its_reply, no_lane_has_an_empty_journal, one_lane_has_one_journal,
+    one_lane_is_answered_in_order, some_journals_are_not_legal,
 };
-
-#[cfg(test)]
-mod tests;
+pub use rows::{rows_of_guesses, rows_of_histories, rows_of_journals, rows_of_replies};
