@@ -1,5 +1,5 @@
--- A small batch to try the definitions on. Context 0 seals, and context 1 opens. Lane 0 seals a text,
--- and then it opens two messages together; lane 1 seals a text and opens one message.
+-- A small batch to try the definitions on. Context 0 seals, and context 1 opens. Lane 0 seals a
+-- text, and then it opens two messages together; lane 1 seals a text and opens one message.
 use Rattle.std.specs.Prelude.{ℕ, ◌==◌, List, [], ◌∷◌, slice_index}
 use Rattle.call_places.specs.declared.entries.Place.{Place}
 use Rattle.call_places.specs.declared.entries.Mark.{Mark}
