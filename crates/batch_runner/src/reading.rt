@@ -1,15 +1,15 @@
 //! The whole input of a run.
 
-ghost use Rattle.std.specs.Prelude.{◌≡◌, ◌≤◌, ℕ, List, length, IfOk};
+ghost use Rattle.std.specs.Prelude.{◌≡◌, ◌≢◌, ◌≤◌, ℕ, List, length, IfOk};
 ghost use Rattle.std.specs.Io.KnownBytes.{Consumes};
 ghost use Rattle.batch_io.specs.Outside.{Rose};
-ghost use Rattle.batch_runner.specs.Input.{IsInput};
+ghost use Rattle.batch_runner.specs.Input.{IsInput, input_limit};
 
 use batch_io::{Got, Source};
 use std::alloc::{AllocError, Global};
 
 /// The most bytes that are taken: one more than a batch may have.
-pub(crate) const INPUT_LIMIT: usize = 67_108_865;
+const INPUT_LIMIT: usize = 67_108_865;
 
 // The bytes that one read is offered room for.
 const PIECE_SIZE: usize = 65_536;
@@ -41,8 +41,9 @@ pub(crate) fn read_input<S: Source>(alloc: Global, source: &mut S) -> Result<Vec
     ensures input { IfOk result (λ bytes.
         IsInput (S.left source.old) (S.left source.new) bytes.items) }
     ensures taken { (front : List ℕ) × Consumes (S.left source.old) (S.left source.new) front
-        × (length front ≤ INPUT_LIMIT) }
-    ensures later { S.faults source.old ≤ S.faults source.new }
+        × (length front ≤ input_limit) }
+    ensures no_fault { result ≢ Err ReadStop.Fault
+        → S.faults source.new ≡ S.faults source.old }
     ensures fault { result ≡ Err ReadStop.Fault → Rose (S.faults source.old) (S.faults source.new) }
 {
     let mut bytes = Vec::with_capacity(alloc, INPUT_LIMIT)?;

@@ -10,8 +10,7 @@ ghost use Rattle.field_text.specs.Printing.{AppendsPrefix};
 ghost use Rattle.request_frames.specs.Batch.{Spells, BadAt, batch};
 ghost use Rattle.request_frames.specs.Limits.{IsWithinLimits};
 ghost use Rattle.request_frames.specs.ReplyText.{answers_text, bad_text, IsAnswered};
-ghost use Rattle.batch_runner.specs.declared.reading.TheConstants.{INPUT_LIMIT};
-ghost use Rattle.batch_runner.specs.Input.{IsInput};
+ghost use Rattle.batch_runner.specs.Input.{IsInput, input_limit};
 ghost use Rattle.batch_runner.specs.Outcomes.{outcome_for};
 ghost use Rattle.batch_runner.specs.Text.{IsReply, IsDue};
 ghost use Rattle.batch_words.specs.Words.{command_of};
@@ -69,6 +68,7 @@ fn reply_to<K: Sink>(alloc: Global, plan: &Plan, checks: Checks, sink: &mut K) -
     ensures cut { result ≡ Outcome.WriteFault → (text : List ℕ) × IsReply plan.now text
         × AppendsPrefix (K.written sink.old) (K.written sink.new) text }
     ensures failed { result ≡ Outcome.WriteFault → Rose (K.faults sink.old) (K.faults sink.new) }
+    ensures no_fault { result ≢ Outcome.WriteFault → K.faults sink.new ≡ K.faults sink.old }
     ensures unwritten { result ≡ Outcome.OutOfMemory → sink.new ≡ sink.old }
 {
     let Ok(answers) = answers_to(alloc, plan, checks) else {
@@ -89,6 +89,7 @@ fn tell_bad<K: Sink>(bad: &BadBatch, sink: &mut K) -> Outcome
     ensures cut { result ≡ Outcome.WriteFault
         → AppendsPrefix (K.written sink.old) (K.written sink.new) (bad_text bad.now) }
     ensures failed { result ≡ Outcome.WriteFault → Rose (K.faults sink.old) (K.faults sink.new) }
+    ensures no_fault { result ≢ Outcome.WriteFault → K.faults sink.new ≡ K.faults sink.old }
 {
     match print_bad(bad, sink) {
         Printed::Whole => Outcome::BadBatch {
@@ -109,6 +110,7 @@ fn answer_input<K: Sink>(alloc: Global, input: &[u8], checks: Checks, sink: &mut
     ensures cut { result ≡ Outcome.WriteFault → (text : List ℕ) × IsDue input.now text
         × AppendsPrefix (K.written sink.old) (K.written sink.new) text }
     ensures failed { result ≡ Outcome.WriteFault → Rose (K.faults sink.old) (K.faults sink.new) }
+    ensures no_fault { result ≢ Outcome.WriteFault → K.faults sink.new ≡ K.faults sink.old }
     ensures unwritten { result ≡ Outcome.OutOfMemory → sink.new ≡ sink.old }
 {
     match read_batch(alloc, input) {
@@ -143,8 +145,12 @@ fn run<S: Source, K: Sink>(alloc: Global, source: &mut S, sink: &mut K, checks: 
         → Rose (S.faults source.old) (S.faults source.new) }
     ensures write_fault { result ≡ Outcome.WriteFault
         → Rose (K.faults sink.old) (K.faults sink.new) }
+    ensures no_read_fault { result ≢ Outcome.ReadFault
+        → S.faults source.new ≡ S.faults source.old }
+    ensures no_write_fault { result ≢ Outcome.WriteFault
+        → K.faults sink.new ≡ K.faults sink.old }
     ensures taken { (front : List ℕ) × Consumes (S.left source.old) (S.left source.new) front
-        × (length front ≤ INPUT_LIMIT) }
+        × (length front ≤ input_limit) }
     ensures complete { (input : List ℕ) → S.left source.old ≡ Some input
         → ¬ Rose (S.faults source.old) (S.faults source.new)
         → ¬ Rose (K.faults sink.old) (K.faults sink.new)
@@ -179,7 +185,8 @@ pub fn serve_words<R: Threads + Wait + Sync, S: Source, K: Sink, G: Gate + Sync>
 ) -> Outcome
     ensures usage { result ≢ Outcome.OutOfMemory
         → ((result ≡ Outcome.Usage) ↔ (command_of (map string_bytes words.now) ≡ None)) }
-    ensures untouched { result ≡ Outcome.Usage → (source.new ≡ source.old) × (sink.new ≡ sink.old) }
+    ensures untouched { command_of (map string_bytes words.now) ≡ None
+        → (source.new ≡ source.old) × (sink.new ≡ sink.old) }
 
     // What was written, for the input that was read.
     ensures done { result ≡ Outcome.Done → (input : List ℕ)
@@ -198,15 +205,19 @@ pub fn serve_words<R: Threads + Wait + Sync, S: Source, K: Sink, G: Gate + Sync>
     ensures unwritten { (result ≡ Outcome.ReadFault) ⊎ (result ≡ Outcome.OutOfMemory)
         → sink.new ≡ sink.old }
 
-    // Why a fault comes.
+    // Why a fault comes, and that none is passed over.
     ensures read_fault { result ≡ Outcome.ReadFault
         → Rose (S.faults source.old) (S.faults source.new) }
     ensures write_fault { result ≡ Outcome.WriteFault
         → Rose (K.faults sink.old) (K.faults sink.new) }
+    ensures no_read_fault { result ≢ Outcome.ReadFault
+        → S.faults source.new ≡ S.faults source.old }
+    ensures no_write_fault { result ≢ Outcome.WriteFault
+        → K.faults sink.new ≡ K.faults sink.old }
 
     // What was read, however the run ended.
     ensures taken { (front : List ℕ) × Consumes (S.left source.old) (S.left source.new) front
-        × (length front ≤ INPUT_LIMIT) }
+        × (length front ≤ input_limit) }
 
     // An input that is told, and no fault, leave only its own outcome and want of memory.
     ensures complete { (input : List ℕ) → S.left source.old ≡ Some input
