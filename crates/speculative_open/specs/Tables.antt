@@ -38,8 +38,8 @@ pub record TableView : Type 0 where
   pub limit : ℕ
   pub rows : List (List Bool)
 
--- Item i is checked at the numbers guess + i - k, for k from 0 to min(i, 3), that are at most LIMIT:
--- at those that are due where at most 3 of the items before it don't open.
+-- Item i is checked at the numbers guess + i - k, for k from 0 to min(i, 3), that are at most LIMIT.
+-- One of them is due where the guess is right and at most 3 of the items before it don't open.
 abbrev pub IsChecked : ℕ → ℕ → ℕ → ℕ → Type 0
 IsChecked guess limit i n = (n ≤ guess + i) × (guess + i ≤ n + min i 3) × (n ≤ limit)
 
