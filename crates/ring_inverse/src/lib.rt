@@ -6,16 +6,25 @@
 //! `specs/Reciprocals.antt`, and that an annihilator comes exactly where no inverse exists: no
 //! element has both. Want of memory is the only refusal.
 //!
+//! An inverse is looked for by division steps first, and tested by one product: for 3f by
+//! [`times_3f`], which decryption uses too. Only where that fails does the elimination decide.
+//!
 //! The time depends on the element: nothing here is constant time.
 #![tactic(auto)]
 
+mod division;
 mod elimination;
 pub mod laws;
 mod lines;
+mod modulo_3;
+mod modulo_q;
 mod numbers;
+mod quick;
 mod reciprocal;
+mod windows;
 mod words;
 
+pub use quick::times_3f;
 pub use reciprocal::{Reciprocal, reciprocal_3, reciprocal_3f};
 
 #[cfg(test)]

@@ -1,7 +1,8 @@
 ghost use Rattle.std.specs.Prelude.{◌≤◌, unsigned_abs};
 
+use crate::quick::{quick_3, quick_3f};
 use crate::{Reciprocal, reciprocal_3, reciprocal_3f};
-use ring_core::{Multiplier, Plain, Small, Sntrup761};
+use ring_core::{Multiplier, Params, Plain, Small, Sntrup761, Sntrup857};
 use std::alloc::{AllocError as OutOfMemory, Global};
 use std::process::Abort;
 use std::test::Fail;
@@ -23,7 +24,7 @@ struct ReciprocalCase {
     modulo_q: Want,
 }
 
-const RECIPROCALS: [ReciprocalCase; 3] = [
+const RECIPROCALS_761: [ReciprocalCase; 3] = [
     ReciprocalCase {
         source: "own, by hand: x (x^760 - 1) = x^761 - x = 1, and 3 * 1530 = -1 modulo 4591",
         element: &[0, 1],
@@ -44,11 +45,23 @@ const RECIPROCALS: [ReciprocalCase; 3] = [
     },
 ];
 
+const RECIPROCALS_857: [ReciprocalCase; 1] = [ReciprocalCase {
+    source: "own, by hand: x (x^856 - 1) = x^857 - x = 1, and 3 * 1722 = -1 modulo 5167",
+    element: &[0, 1],
+    modulo_3: Want::Inverse(&[(0, -1), (856, 1)]),
+    modulo_q: Want::Inverse(&[(0, 1722), (856, -1722)]),
+}];
+
 // A factor of x^761 - x - 1 modulo 3, of the least degree that one has, from x^0 on. Found by the
 // distinct degrees of its factors in Python 3.11.7, and checked by sympy 1.14.0, which divides
 // Poly(x**761 - x - 1, x, modulus=3) by it without a rest.
-const FACTOR: [i8; 20] = [
+const FACTOR_761: [i8; 20] = [
     -1, -1, 0, -1, -1, -1, 1, -1, 1, -1, 0, -1, 1, 1, 1, 1, -1, 0, 1, 1,
+];
+
+// The same of x^857 - x - 1, found in the same way.
+const FACTOR_857: [i8; 26] = [
+    1, 0, 0, 1, -1, 0, 0, 0, 1, 1, 1, -1, 0, -1, 1, -1, -1, 0, 0, 1, 1, 0, 1, -1, 0, 1,
 ];
 
 // Coefficients of the inverses of `dense`, by the extended Euclid of x^761 - x - 1 and the element
@@ -80,12 +93,12 @@ fn sign(number: i8) -> i8
 }
 
 // The element that begins with the signs of these numbers.
-fn element(alloc: Global, front: &[i8]) -> Result<Small<Sntrup761>, OutOfMemory> {
-    let mut list = Vec::with_capacity(alloc, P)?;
-    for k in 0..P {
+fn element<S: Params>(alloc: Global, front: &[i8]) -> Result<Small<S>, OutOfMemory> {
+    let mut list = Vec::with_capacity(alloc, S::P)?;
+    for k in 0..S::P {
         list.push(if k < front.len() { sign(front[k]) } else { 0 })?;
     }
-    Small::from_coefficients(alloc, &list)
+    Ok(Small::from_vec(list))
 }
 
 fn number_at(places: Places, k: usize) -> i32 {
@@ -97,22 +110,28 @@ fn number_at(places: Places, k: usize) -> i32 {
     0
 }
 
-fn assert_modulo_3<M: Multiplier>(
+fn is_inverse(want: &Want) -> bool {
+    match want {
+        Want::Inverse(_) => true,
+        Want::Annihilator => false,
+    }
+}
+
+// No contract says that a candidate is right: a wrong one costs the time of an elimination.
+fn assert_modulo_3<S: Params>(
     rt: &impl Abort,
     alloc: Global,
-    multiplier: &M,
     case: &ReciprocalCase,
 ) -> Result<(), OutOfMemory> {
     let source = case.source;
-    let a = element(alloc, case.element)?;
-    match (reciprocal_3(alloc, multiplier, &a)?, &case.modulo_3) {
+    let a: Small<S> = element(alloc, case.element)?;
+    let found = quick_3(alloc, &Plain, &a)?.is_some();
+    assert_eq!(rt; found, is_inverse(&case.modulo_3), "{source}");
+    match (reciprocal_3(alloc, &Plain, &a)?, &case.modulo_3) {
         (Reciprocal::Inverse(v), Want::Inverse(places)) => {
-            for k in 0..P {
-                assert_eq!(rt;
-                    i32::from(v.coefficient(k)),
-                    number_at(places, k),
-                    "{source}: {k}"
-                );
+            for k in 0..S::P {
+                let number = i32::from(v.coefficient(k));
+                assert_eq!(rt; number, number_at(places, k), "{source}: {k}");
             }
         }
         (Reciprocal::Annihilator(u), Want::Annihilator) => assert!(rt; u.weight() > 0, "{source}"),
@@ -121,17 +140,18 @@ fn assert_modulo_3<M: Multiplier>(
     Ok(())
 }
 
-fn assert_modulo_q<M: Multiplier>(
+fn assert_modulo_q<S: Params>(
     rt: &impl Abort,
     alloc: Global,
-    multiplier: &M,
     case: &ReciprocalCase,
 ) -> Result<(), OutOfMemory> {
     let source = case.source;
-    let f = element(alloc, case.element)?;
-    match (reciprocal_3f(alloc, multiplier, &f)?, &case.modulo_q) {
+    let f: Small<S> = element(alloc, case.element)?;
+    let found = quick_3f(alloc, &Plain, &f)?.is_some();
+    assert_eq!(rt; found, is_inverse(&case.modulo_q), "{source}");
+    match (reciprocal_3f(alloc, &Plain, &f)?, &case.modulo_q) {
         (Reciprocal::Inverse(v), Want::Inverse(places)) => {
-            for k in 0..P {
+            for k in 0..S::P {
                 assert_eq!(rt; v.coefficient(k), number_at(places, k), "{source}: {k}");
             }
         }
@@ -143,20 +163,27 @@ fn assert_modulo_q<M: Multiplier>(
 
 #[test]
 fn reciprocals_are_those_by_hand(rt: HostRuntime) -> Result<(), Fail> {
-    for case in &RECIPROCALS {
-        assert_modulo_3(&rt, rt.alloc(), &Plain, case)?;
-        assert_modulo_q(&rt, rt.alloc(), &Plain, case)?;
+    for case in &RECIPROCALS_761 {
+        assert_modulo_3::<Sntrup761>(&rt, rt.alloc(), case)?;
+        assert_modulo_q::<Sntrup761>(&rt, rt.alloc(), case)?;
+    }
+    for case in &RECIPROCALS_857 {
+        assert_modulo_3::<Sntrup857>(&rt, rt.alloc(), case)?;
+        assert_modulo_q::<Sntrup857>(&rt, rt.alloc(), case)?;
     }
     Ok(())
 }
 
-#[test]
-fn a_multiple_of_a_factor_has_an_annihilator(rt: HostRuntime) -> Result<(), Fail> {
-    let a = element(rt.alloc(), &FACTOR)?;
-    match reciprocal_3(rt.alloc(), &Plain, &a)? {
+fn assert_annihilated<S: Params>(
+    rt: &impl Abort,
+    alloc: Global,
+    factor: &[i8],
+) -> Result<(), OutOfMemory> {
+    let a: Small<S> = element(alloc, factor)?;
+    match reciprocal_3(alloc, &Plain, &a)? {
         Reciprocal::Annihilator(u) => {
             assert!(rt; u.weight() > 0);
-            assert_eq!(rt; Plain.mul_3(rt.alloc(), &u, &a)?.weight(), 0);
+            assert_eq!(rt; Plain.mul_3(alloc, &u, &a)?.weight(), 0);
         }
         Reciprocal::Inverse(_) => assert!(rt; false),
     }
@@ -164,17 +191,25 @@ fn a_multiple_of_a_factor_has_an_annihilator(rt: HostRuntime) -> Result<(), Fail
 }
 
 #[test]
+fn a_multiple_of_a_factor_has_an_annihilator(rt: HostRuntime) -> Result<(), Fail> {
+    assert_annihilated::<Sntrup761>(&rt, rt.alloc(), &FACTOR_761)?;
+    assert_annihilated::<Sntrup857>(&rt, rt.alloc(), &FACTOR_857)?;
+    Ok(())
+}
+
+#[test]
 fn a_dense_element_has_its_inverses(rt: HostRuntime) -> Result<(), Fail> {
-    let a = element(rt.alloc(), &dense())?;
-    match reciprocal_3(rt.alloc(), &Plain, &a)? {
-        Reciprocal::Inverse(v) => {
+    let a: Small<Sntrup761> = element(rt.alloc(), &dense())?;
+    assert!(rt; quick_3f(rt.alloc(), &Plain, &a)?.is_some());
+    match quick_3(rt.alloc(), &Plain, &a)? {
+        Some(v) => {
             for (k, number) in DENSE_MODULO_3 {
                 if *k < P {
                     assert_eq!(rt; i32::from(v.coefficient(*k)), *number, "{k}");
                 }
             }
         }
-        Reciprocal::Annihilator(_) => assert!(rt; false),
+        None => assert!(rt; false),
     }
     match reciprocal_3f(rt.alloc(), &Plain, &a)? {
         Reciprocal::Inverse(v) => {

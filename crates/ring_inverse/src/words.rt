@@ -28,6 +28,17 @@ pub(crate) fn tripled(alloc: Global, list: &[i8]) -> Result<Vec<i16>, OutOfMemor
     Ok(wide)
 }
 
+// Three times each number of an element.
+pub(crate) fn tripled_long(alloc: Global, list: &[i16]) -> Result<Vec<i32>, OutOfMemory>
+    ensures { IfOk result (λ v. v.items ≡ triple list.now) }
+{
+    let mut wide = Vec::with_capacity(alloc, list.len())?;
+    for number in list {
+        wide.push(3 * i32::from(*number))?;
+    }
+    Ok(wide)
+}
+
 // Residues modulo 3.
 pub(crate) fn narrowed(alloc: Global, list: &[i16]) -> Result<Vec<i8>, OutOfMemory>
     requires { IsWithin 1 list.now }
@@ -38,15 +49,4 @@ pub(crate) fn narrowed(alloc: Global, list: &[i16]) -> Result<Vec<i8>, OutOfMemo
         narrow.push(*number as i8)?;
     }
     Ok(narrow)
-}
-
-// Residues modulo q.
-pub(crate) fn widened(alloc: Global, list: &[i16]) -> Result<Vec<i32>, OutOfMemory>
-    ensures { IfOk result (λ v. v.items ≡ list.now) }
-{
-    let mut wide = Vec::with_capacity(alloc, list.len())?;
-    for number in list {
-        wide.push(i32::from(*number))?;
-    }
-    Ok(wide)
 }

@@ -1,0 +1,71 @@
+//! Inverses by division steps, each tested by a product.
+
+ghost use Rattle.std.specs.Prelude.{◌≡◌, ℤ, pos, ◌*ℤ◌, Bool, true, List, length, map, IfOk, IfSome};
+ghost use Rattle.ring_core.specs.Product.{one, product, IsCentred};
+ghost use Rattle.ring_inverse.specs.Reciprocals.{triple, IsInverse};
+
+use crate::modulo_3::candidate_3;
+use crate::modulo_q::candidate_3f;
+use crate::reciprocal::modulus;
+use crate::words::{tripled_long, widened_small};
+use ring_core::{Multiplier, Params, Rq, Small};
+use std::alloc::{AllocError as OutOfMemory, Global};
+
+// Whether the list is 1 and then zeros.
+fn is_one(list: &[i16]) -> bool
+    ensures { result ≡ true → list.now ≡ one (length list.now) }
+{
+    for k in 0..list.len() {
+        if list[k] != i16::from(k == 0) {
+            return false;
+        }
+    }
+    true
+}
+
+// 1/a in R/3, where the division steps find it.
+pub(crate) fn quick_3<S: Params, M: Multiplier>(
+    alloc: Global,
+    mult: &M,
+    a: &Small<S>,
+) -> Result<Option<Small<S>>, OutOfMemory>
+    ensures { IfOk result (λ o. IfSome o (IsInverse 3 S.set.p a.now)) }
+{
+    let v = Small::from_vec(candidate_3(alloc, a.as_slice())?);
+    let product = mult.mul_3(alloc, &v, a)?;
+    let list = widened_small(alloc, product.as_slice())?;
+    Ok(if is_one(&list) { Some(v) } else { None })
+}
+
+/// 3 f c in R/q (NTRU Prime round 3, Decrypt).
+pub fn times_3f<S: Params, M: Multiplier>(
+    alloc: Global,
+    mult: &M,
+    c: &Rq<S>,
+    f: &Small<S>,
+) -> Result<Rq<S>, OutOfMemory>
+    ensures { IfOk result (λ e. e ≡ product S.set.q S.set.p (triple f.now) c.now) }
+{
+    let product = mult.mul_q_small(alloc, c, f)?;
+    let numbers = tripled_long(alloc, product.as_slice())?;
+    Rq::from_coefficients(alloc, &numbers)
+}
+
+// 1/(3 f) in R/q, where the division steps find it.
+pub(crate) fn quick_3f<S: Params, M: Multiplier>(
+    alloc: Global,
+    mult: &M,
+    f: &Small<S>,
+) -> Result<Option<Rq<S>>, OutOfMemory>
+    ensures centred { IfOk result (λ o. IfSome o (IsCentred S.set.q S.set.p)) }
+    ensures inverse { IfOk result (λ o. IfSome o (IsInverse S.set.q S.set.p (triple f.now))) }
+{
+    let numbers = candidate_3f(alloc, f.as_slice(), modulus::<S>())?;
+    let v = Rq::from_coefficients(alloc, &numbers)?;
+    let product = times_3f(alloc, mult, &v, f)?;
+    Ok(if is_one(product.as_slice()) {
+        Some(v)
+    } else {
+        None
+    })
+}
