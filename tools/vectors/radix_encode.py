@@ -62,6 +62,7 @@ def show(name, values, radices, count):
 
 CASES = [
     ([4590], [4591], 761),
+    ([5166], [5167], 857),
     ([0], [1], 1),
     ([1], [2], 1),
     ([254], [255], 1),
@@ -81,6 +82,6 @@ CASES = [
 for values, radices, count in CASES:
     show("RADIX_CASES", values, radices, count)
 
-# Rounded elements of sntrup761: 3 digit - 2295.
-for pattern in ([0], [1530], [765, 766], [1, 1529]):
-    show("ROUNDED", pattern, [1531], 761)
+# Rounded elements: 3 digit - 2295 of sntrup761, 3 digit - 2583 of sntrup857.
+show("ROUNDED", [765, 766], [1531], 761)
+show("ROUNDED", [1, 1721], [1723], 857)

@@ -1,9 +1,10 @@
 #!/usr/bin/env python3
-"""Rejection keys of sntrup761 (NTRU Prime round 3, Decap), Hash_0(Hash_3(rho) || ct), for the key of
-stream 0 of the seed of 32 zero bytes, by the definitions of sntrup761.py and hashlib's SHA-512.
+"""Rejection keys of sntrup761 and sntrup857 (NTRU Prime round 3, Decap), Hash_0(Hash_3(rho) || ct),
+for the key of stream 0 of the seed of 32 zero bytes, by the definitions of sntrup.py and hashlib's
+SHA-512.
 
-The ciphertexts are that of stream 1 with one bit flipped, and what Hide makes of an r of weight 285:
-285 ones followed by zeros. That one is decrypted to its r, and its hash is right.
+The ciphertexts are that of stream 1 with one bit flipped, and what Hide makes of an r of weight
+w - 1: ones followed by zeros. That one is decrypted to its r, and its hash is right.
 
     python3 tools/vectors/sntrup_reject.py
 
@@ -13,15 +14,10 @@ It prints the rows of `REJECTED` in crates/sntrup_kem/src/tests.rt.
 import hashlib
 
 from chacha20_words import stream_words
-from samples import P, short
-from sntrup761 import OPENSSH, Q, encode, encrypt, hashed, keygen, small_encode
+from samples import SETS, short
+from sntrup import PUBLISHED, hashed, hide, keygen, rq_encode
 
 SEED = bytes(32)
-
-
-def hide(r, public, h):
-    rounded = encode([(x + 2295) // 3 for x in encrypt(r, h)], [1531] * P)
-    return rounded + hashed(2, hashed(3, small_encode(r)) + hashed(4, public))
 
 
 def rejection_key(rho, ct):
@@ -29,13 +25,15 @@ def rejection_key(rho, ct):
 
 
 if __name__ == "__main__":
-    h, f, ginv, rho = keygen(stream_words(SEED, 0, 3 * P))
-    public = encode([x + 2295 for x in h], [Q] * P)
-    enc = hide(short(stream_words(SEED, 1, P)), public, h)
-    assert hashlib.sha256(enc).hexdigest() == OPENSSH[SEED][2]
-    for place in (0, 1006, 1007, 1038):
-        spoilt = bytearray(enc)
-        spoilt[place] ^= 1
-        print("bit 0 of byte", place, rejection_key(rho, bytes(spoilt)).hex())
-    light = [1] * 285 + [0] * (P - 285)
-    print("weight 285", rejection_key(rho, hide(light, public, h)).hex())
+    for p, of in SETS.items():
+        h, f, ginv, rho = keygen(of, stream_words(SEED, 0, 3 * p))
+        public = rq_encode(of, h)
+        enc = hide(of, short(stream_words(SEED, 1, p), of.w), public, h)
+        assert hashlib.sha256(enc).hexdigest() == PUBLISHED[p, 0][2]
+        print(f"sntrup{p}")
+        for place in (0, len(enc) - 33, len(enc) - 32, len(enc) - 1):
+            spoilt = bytearray(enc)
+            spoilt[place] ^= 1
+            print("bit 0 of byte", place, rejection_key(rho, bytes(spoilt)).hex())
+        light = [1] * (of.w - 1) + [0] * (p - of.w + 1)
+        print(f"weight {of.w - 1}", rejection_key(rho, hide(of, light, public, h)).hex())

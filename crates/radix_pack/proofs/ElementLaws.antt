@@ -5,8 +5,9 @@ use Rattle.std.proofs.lemmas.Bool.{cases_lt}
 use Rattle.std.proofs.lemmas.List.{get_or_past, get_or-map, get_or-replicate, length-map, length-replicate, map_more}
 use Rattle.ring_core.specs.Bounds.{IsWithin}
 use Rattle.ring_core.specs.Product.{coefficients, centred, IsCentred}
+use Rattle.ring_core.specs.Sets.{Set}
 use Rattle.radix_pack.specs.declared.levels.Digit.{Digit}
-use Rattle.radix_pack.specs.Radix.{encode, encode_in, with_radices, decode, AreDigits, AreRadices, AreBelow}
+use Rattle.radix_pack.specs.Radix.{encode, encode_in, encoded_length, with_radices, decode, AreDigits, AreRadices, AreBelow}
 use Rattle.radix_pack.specs.Codings.{shifted, rq_digit, rq_length, rq_encode, rq_decode, rounded_radix, rounded_digit, rounded_length, rounded_encode, rounded_decode, AreMultiplesOf3}
 use Rattle.radix_pack.proofs.RoundTrip.{decode-encode, length-encode}
 use Rattle.radix_pack.proofs.PartSteps.{AreBelow-decode_in}
@@ -53,23 +54,27 @@ encode_map f m p a xs e d =
     ∙ ap (λ n. encode_in n digits) count
     ∙ ap (λ t. encode_in (length (replicate p m)) t) (sym (with_radices_map f m a) ∙ ap (λ n. with_radices (map f a) (replicate n m)) e)
 
-pub rq_encode_is : (q p : ℕ) (a : List ℤ) (xs : List Digit) → length a ≡ p → xs ≡ map (rq_digit q) a → encode_in (length xs) xs ≡ rq_encode q p a
+pub rq_encode_is : (set : Set) (a : List ℤ) (xs : List Digit) → length a ≡ set.p → xs ≡ map (rq_digit set.q) a → encode_in (length xs) xs ≡ rq_encode set a
 unfolding rq_encode
-rq_encode_is q p a xs e d = encode_map (shifted q) q p a xs e d
+rq_encode_is set a xs e d = encode_map (shifted set.q) set.q set.p a xs e d
 
-pub rounded_encode_is : (q p : ℕ) (a : List ℤ) (xs : List Digit) → length a ≡ p → xs ≡ map (rounded_digit q) a → encode_in (length xs) xs ≡ rounded_encode q p a
+pub rounded_encode_is : (set : Set) (a : List ℤ) (xs : List Digit) → length a ≡ set.p → xs ≡ map (rounded_digit set.q) a → encode_in (length xs) xs ≡ rounded_encode set a
 unfolding rounded_encode
-rounded_encode_is q p a xs e d = encode_map (λ c. shifted q c / 3) (rounded_radix q) p a xs e d
+rounded_encode_is set a xs e d =
+    encode_map (λ c. shifted set.q c / 3) (rounded_radix set.q) set.p a xs e d
 
-pub length-rq_encode : (q p : ℕ) (a : List ℤ) → length a ≡ p → length (rq_encode q p a) ≡ rq_length q p
+length-encode_map : (f : ℤ → ℕ) (m p : ℕ) (a : List ℤ) → length a ≡ p → length (encode (map f a) (replicate p m)) ≡ encoded_length (replicate p m)
+length-encode_map f m p a e =
+    length-encode (map f a) (replicate p m) (length-map a f ∙ e ∙ sym (length-replicate p m))
+
+pub length-rq_encode : (set : Set) (a : List ℤ) → length a ≡ set.p → length (rq_encode set a) ≡ rq_length set
 unfolding rq_encode rq_length
-length-rq_encode q p a e =
-    length-encode (map (shifted q) a) (replicate p q) (length-map a (shifted q) ∙ e ∙ sym (length-replicate p q))
+length-rq_encode set a e = length-encode_map (shifted set.q) set.q set.p a e
 
-pub length-rounded_encode : (q p : ℕ) (a : List ℤ) → length a ≡ p → length (rounded_encode q p a) ≡ rounded_length q p
+pub length-rounded_encode : (set : Set) (a : List ℤ) → length a ≡ set.p → length (rounded_encode set a) ≡ rounded_length set
 unfolding rounded_encode rounded_length
-length-rounded_encode q p a e =
-    length-encode (map (λ c. shifted q c / 3) a) (replicate p (rounded_radix q)) (length-map a (λ c. shifted q c / 3) ∙ e ∙ sym (length-replicate p (rounded_radix q)))
+length-rounded_encode set a e =
+    length-encode_map (λ c. shifted set.q c / 3) (rounded_radix set.q) set.p a e
 
 -- ---- what was encoded
 
@@ -79,16 +84,20 @@ map_back f g (c ∷ a) h =
     ap (λ t. t ∷ map g (map f a)) (h 0 (omega arith))
     ∙ ap (λ t. c ∷ t) (map_back f g a (λ k l. h (suc k) (omega arith)))
 
-pub rq_source : (q p : ℕ) (a : List ℤ) → q % 2 ≡ 1 → q < 16384 → IsCentred q p a → rq_decode q p (rq_encode q p a) ≡ a
+pub rq_source : (set : Set) (a : List ℤ) → set.q % 2 ≡ 1 → set.q < 16384 → IsCentred set.q set.p a → rq_decode set (rq_encode set a) ≡ a
 unfolding rq_encode rq_decode
-rq_source q p a odd l c =
+rq_source set a odd l c =
+    let q = set.q in
+    let p = set.p in
     let w = IsCentred-half q p a odd c in
     ap (λ rs. map (λ r. pos r -ℤ pos ((q - 1) / 2)) rs) (decode-encode (map (shifted q) a) (replicate p q) (AreRadices-replicate p q (omega arith) l) (AreBelow-map (shifted q) q p a c.0 (λ k. shifted_below q (coefficients a k) odd (w k))))
     ∙ map_back (shifted q) (λ r. pos r -ℤ pos ((q - 1) / 2)) a (λ k _. shifted_back q (coefficients a k) (w k))
 
-pub rounded_source : (q p : ℕ) (a : List ℤ) → q % 2 ≡ 1 → q < 16384 → (q - 1) / 2 % 3 ≡ 0 → IsCentred q p a → AreMultiplesOf3 a → rounded_decode q p (rounded_encode q p a) ≡ a
+pub rounded_source : (set : Set) (a : List ℤ) → set.q % 2 ≡ 1 → set.q < 16384 → (set.q - 1) / 2 % 3 ≡ 0 → IsCentred set.q set.p a → AreMultiplesOf3 a → rounded_decode set (rounded_encode set a) ≡ a
 unfolding rounded_encode rounded_decode
-rounded_source q p a odd l half c m =
+rounded_source set a odd l half c m =
+    let q = set.q in
+    let p = set.p in
     let w = IsCentred-half q p a odd c in
     let f = λ (z : ℤ). shifted q z / 3 in
     let g = λ (r : ℕ). pos (3 * r) -ℤ pos ((q - 1) / 2) in
@@ -120,20 +129,26 @@ centred_digits f q m p digits b h =
     centred_digit q (f (get_or digits k 0)) (h (get_or digits k 0) (omega (arith, b.1 k short, is)))
     )
 
-pub rq_decode_is : (q p : ℕ) (bytes : List ℕ) → q % 2 ≡ 1 → q < 16384 → map (λ z. centred q z) (map (λ r. pos r -ℤ pos ((q - 1) / 2)) (decode bytes (replicate p q))) ≡ rq_decode q p bytes
+pub rq_decode_is : (set : Set) (bytes : List ℕ) → set.q % 2 ≡ 1 → set.q < 16384 → map (λ z. centred set.q z) (map (λ r. pos r -ℤ pos ((set.q - 1) / 2)) (decode bytes (replicate set.p set.q))) ≡ rq_decode set bytes
 unfolding rq_decode
-rq_decode_is q p bytes odd l =
+rq_decode_is set bytes odd l =
+    let q = set.q in
+    let p = set.p in
     centred_digits (λ r. r) q q p (decode bytes (replicate p q)) (AreBelow-decode bytes (replicate p q) (AreRadices-replicate p q (omega arith) l)) (λ r h. h)
 
-pub rounded_decode_is : (q p : ℕ) (bytes : List ℕ) → q % 2 ≡ 1 → q < 16384 → (q - 1) / 2 % 3 ≡ 0 → map (λ z. centred q z) (map (λ r. pos (3 * r) -ℤ pos ((q - 1) / 2)) (decode bytes (replicate p (rounded_radix q)))) ≡ rounded_decode q p bytes
+pub rounded_decode_is : (set : Set) (bytes : List ℕ) → set.q % 2 ≡ 1 → set.q < 16384 → (set.q - 1) / 2 % 3 ≡ 0 → map (λ z. centred set.q z) (map (λ r. pos (3 * r) -ℤ pos ((set.q - 1) / 2)) (decode bytes (replicate set.p (rounded_radix set.q)))) ≡ rounded_decode set bytes
 unfolding rounded_decode
-rounded_decode_is q p bytes odd l half =
+rounded_decode_is set bytes odd l half =
+    let q = set.q in
+    let p = set.p in
     let m = rounded_radix q in
     centred_digits (λ r. 3 * r) q m p (decode bytes (replicate p m)) (AreBelow-decode bytes (replicate p m) (AreRadices-replicate p m (omega arith) (omega arith))) (λ r h. triple_below q r odd half h)
 
-pub AreMultiplesOf3-decode : (q p : ℕ) (bytes : List ℕ) → (q - 1) / 2 % 3 ≡ 0 → AreMultiplesOf3 (rounded_decode q p bytes)
+pub AreMultiplesOf3-decode : (set : Set) (bytes : List ℕ) → (set.q - 1) / 2 % 3 ≡ 0 → AreMultiplesOf3 (rounded_decode set bytes)
 unfolding rounded_decode
-AreMultiplesOf3-decode q p bytes half k =
+AreMultiplesOf3-decode set bytes half k =
+    let q = set.q in
+    let p = set.p in
     let digits = decode bytes (replicate p (rounded_radix q)) in
     let g = λ (r : ℕ). pos (3 * r) -ℤ pos ((q - 1) / 2) in
     elim (cases_lt k (length digits)) [

@@ -6,3 +6,4 @@ pub mod PartSteps
 pub mod SmallLaws
 pub mod Shifts
 pub mod ElementLaws
+pub mod Lengths

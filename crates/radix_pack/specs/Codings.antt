@@ -1,8 +1,9 @@
 -- The codings of elements as byte strings (NTRU Prime round 3, Small, Rq and Rounded encodings). An
--- element is the list of its p coefficients, and q is its modulus.
+-- element is the list of its p coefficients, from x^0 on. The small coding depends on p alone.
 use Rattle.std.specs.Prelude.{◌≡◌, ◌≢◌, ◌⊎◌, ℕ, ◌+◌, ◌-◌, ◌*◌, ◌/◌, ◌%◌, ◌^◌, ◌≤◌, ℤ, pos, negsuc, ◌+ℤ◌, ◌-ℤ◌, unsigned_abs, List, map, replicate, slice_index, slice_index_or}
 use Rattle.std.specs.List.{range_with_len}
 use Rattle.ring_core.specs.Product.{coefficients}
+use Rattle.ring_core.specs.Sets.{Set}
 use Rattle.radix_pack.specs.declared.levels.Digit.{Digit}
 use Rattle.radix_pack.specs.Radix.{encode, decode, encoded_length}
 
@@ -41,14 +42,15 @@ abbrev pub shifted : ℕ → ℤ → ℕ
 shifted q c = unsigned_abs (c +ℤ pos ((q - 1) / 2))
 
 -- the length of the coding of R/q, in bytes
-unfoldable pub rq_length : ℕ → ℕ → ℕ
-rq_length q p = encoded_length (replicate p q)
+unfoldable pub rq_length : Set → ℕ
+rq_length set = encoded_length (replicate set.p set.q)
 
-unfoldable pub rq_encode : ℕ → ℕ → List ℤ → List ℕ
-rq_encode q p a = encode (map (λ c. shifted q c) a) (replicate p q)
+unfoldable pub rq_encode : Set → List ℤ → List ℕ
+rq_encode set a = encode (map (λ c. shifted set.q c) a) (replicate set.p set.q)
 
-unfoldable pub rq_decode : ℕ → ℕ → List ℕ → List ℤ
-rq_decode q p bytes = map (λ r. pos r -ℤ pos ((q - 1) / 2)) (decode bytes (replicate p q))
+unfoldable pub rq_decode : Set → List ℕ → List ℤ
+rq_decode set bytes =
+    map (λ r. pos r -ℤ pos ((set.q - 1) / 2)) (decode bytes (replicate set.p set.q))
 
 -- ---- the rounded coding: each multiple of 3, c, as the digit (c + (q - 1) / 2) / 3
 
@@ -57,15 +59,16 @@ abbrev pub rounded_radix : ℕ → ℕ
 rounded_radix q = (q + 2) / 3
 
 -- the length of the rounded coding, in bytes
-unfoldable pub rounded_length : ℕ → ℕ → ℕ
-rounded_length q p = encoded_length (replicate p (rounded_radix q))
+unfoldable pub rounded_length : Set → ℕ
+rounded_length set = encoded_length (replicate set.p (rounded_radix set.q))
 
-unfoldable pub rounded_encode : ℕ → ℕ → List ℤ → List ℕ
-rounded_encode q p a = encode (map (λ c. shifted q c / 3) a) (replicate p (rounded_radix q))
+unfoldable pub rounded_encode : Set → List ℤ → List ℕ
+rounded_encode set a =
+    encode (map (λ c. shifted set.q c / 3) a) (replicate set.p (rounded_radix set.q))
 
-unfoldable pub rounded_decode : ℕ → ℕ → List ℕ → List ℤ
-rounded_decode q p bytes =
-    map (λ r. pos (3 * r) -ℤ pos ((q - 1) / 2)) (decode bytes (replicate p (rounded_radix q)))
+unfoldable pub rounded_decode : Set → List ℕ → List ℤ
+rounded_decode set bytes =
+    map (λ r. pos (3 * r) -ℤ pos ((set.q - 1) / 2)) (decode bytes (replicate set.p (rounded_radix set.q)))
 
 -- each coefficient is a multiple of 3
 abbrev pub AreMultiplesOf3 : List ℤ → Type 0

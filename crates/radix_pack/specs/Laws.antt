@@ -1,6 +1,7 @@
 -- The laws of the codings: what was encoded decodes to its source.
 use Rattle.std.specs.Prelude.{◌≡◌, ℕ, ◌-◌, ◌/◌, ◌%◌, ◌<◌, ℤ, List}
 use Rattle.ring_core.specs.Product.{IsCentred}
+use Rattle.ring_core.specs.Sets.{Set}
 use Rattle.radix_pack.specs.Radix.{encode, decode, pair_radix, radix_in, AreRadices, AreBelow}
 use Rattle.radix_pack.specs.Codings.{small_encode, small_decode, IsMalformed, rq_encode, rq_decode, rounded_encode, rounded_decode, AreMultiplesOf3}
 
@@ -23,8 +24,8 @@ SmallCodingIsWellFormed = (p : ℕ) (a : List ℤ) → IsCentred 3 p a → ¬ Is
 
 abbrev pub RqDecodesWhatWasEncoded : Type 0
 RqDecodesWhatWasEncoded =
-    (q p : ℕ) (a : List ℤ) → q % 2 ≡ 1 → q < 16384 → IsCentred q p a → rq_decode q p (rq_encode q p a) ≡ a
+    (set : Set) (a : List ℤ) → set.q % 2 ≡ 1 → set.q < 16384 → IsCentred set.q set.p a → rq_decode set (rq_encode set a) ≡ a
 
 abbrev pub RoundedDecodesWhatWasEncoded : Type 0
 RoundedDecodesWhatWasEncoded =
-    (q p : ℕ) (a : List ℤ) → q % 2 ≡ 1 → q < 16384 → (q - 1) / 2 % 3 ≡ 0 → IsCentred q p a → AreMultiplesOf3 a → rounded_decode q p (rounded_encode q p a) ≡ a
+    (set : Set) (a : List ℤ) → set.q % 2 ≡ 1 → set.q < 16384 → (set.q - 1) / 2 % 3 ≡ 0 → IsCentred set.q set.p a → AreMultiplesOf3 a → rounded_decode set (rounded_encode set a) ≡ a

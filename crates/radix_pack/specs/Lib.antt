@@ -1,4 +1,3 @@
 pub mod Radix
 pub mod Codings
 pub mod Laws
-pub mod Lengths

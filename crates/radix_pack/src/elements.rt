@@ -1,6 +1,6 @@
 //! The codings of elements of R/q: of any, and of those whose coefficients are multiples of 3.
 
-ghost use Rattle.std.specs.Prelude.{◌≡◌, ◌+◌, ◌-◌, ◌*◌, ◌/◌, ◌%◌, ◌<◌, ◌≤◌, ◌-ℤ◌, ◌≤ℤ◌, pos, unsigned_abs, length, map, IfOk};
+ghost use Rattle.std.specs.Prelude.{◌≡◌, ◌+◌, ◌-◌, ◌*◌, ◌/◌, ◌%◌, ◌<◌, ◌≤◌, ◌-ℤ◌, ◌≤ℤ◌, pos, unsigned_abs, length, map, replicate, IfOk};
 ghost use Rattle.ring_core.specs.Bounds.{IsWithin};
 ghost use Rattle.radix_pack.specs.Codings.{shifted, rq_digit, rq_length, rq_encode, rq_decode, rounded_radix, rounded_digit, rounded_length, rounded_encode, rounded_decode, AreMultiplesOf3};
 
@@ -13,7 +13,7 @@ use std::alloc::{AllocError as OutOfMemory, Global};
 // q
 fn modulus<S: Params>() -> u16
     ensures small { result < 8192 }
-    ensures modulus { result ≡ S.modulus }
+    ensures modulus { result ≡ S.set.q }
 {
     S::Q as u16
 }
@@ -66,21 +66,22 @@ fn rounded_digits(
     Ok(digits)
 }
 
-/// The coding of an element of R/q (NTRU Prime round 3): 1158 bytes for sntrup761.
+/// The coding of an element of R/q (NTRU Prime round 3, Rq encoding): 1158 bytes for sntrup761, and
+/// 1322 for sntrup857.
 pub fn rq_encode<S: Params>(alloc: Global, a: &Rq<S>) -> Result<ByteList, OutOfMemory>
-    ensures bytes { IfOk result (λ b. b ≡ rq_encode S.modulus S.P a.now) }
-    ensures count { IfOk result (λ b. length b ≡ rq_length S.modulus S.P) }
+    ensures bytes { IfOk result (λ b. b ≡ rq_encode S.set a.now) }
+    ensures count { IfOk result (λ b. length b ≡ rq_length S.set) }
 {
     let mut digits = rq_digits(alloc, a.as_slice(), modulus::<S>())?;
     encoded(alloc, &mut digits)
 }
 
-/// The coding of an element whose coefficients are multiples of 3 (NTRU Prime round 3): 1007 bytes
-/// for sntrup761.
+/// The coding of an element whose coefficients are multiples of 3 (NTRU Prime round 3, Rounded
+/// encoding): 1007 bytes for sntrup761, and 1152 for sntrup857.
 pub fn rounded_encode<S: Params>(alloc: Global, a: &Rq<S>) -> Result<ByteList, OutOfMemory>
     requires { AreMultiplesOf3 a.now }
-    ensures bytes { IfOk result (λ b. b ≡ rounded_encode S.modulus S.P a.now) }
-    ensures count { IfOk result (λ b. length b ≡ rounded_length S.modulus S.P) }
+    ensures bytes { IfOk result (λ b. b ≡ rounded_encode S.set a.now) }
+    ensures count { IfOk result (λ b. length b ≡ rounded_length S.set) }
 {
     let mut digits = rounded_digits(alloc, a.as_slice(), modulus::<S>())?;
     encoded(alloc, &mut digits)
@@ -106,31 +107,38 @@ fn rounded_coefficients(alloc: Global, digits: &[u16], half: u16) -> Result<Vec<
     Ok(coefficients)
 }
 
-/// The element whose coding `bytes` are: 1158 bytes for sntrup761.
+// p times the same radix.
+fn equal_radices<S: Params>(alloc: Global, radix: u16) -> Result<Vec<u16>, OutOfMemory>
+    ensures { IfOk result (λ v. v.items ≡ replicate S.set.p radix) }
+{
+    Ok(vec![in alloc; radix; S::P]?)
+}
+
+/// The element whose coding `bytes` are: 1158 bytes for sntrup761, and 1322 for sntrup857.
 ///
 /// Every byte string of that length decodes, so several may decode to the same element.
 pub fn rq_decode<S: Params>(alloc: Global, bytes: &[u8]) -> Result<Rq<S>, OutOfMemory>
-    requires { length bytes.now ≡ rq_length S.modulus S.P }
-    ensures { IfOk result (λ a. a ≡ rq_decode S.modulus S.P bytes.now) }
+    requires { length bytes.now ≡ rq_length S.set }
+    ensures { IfOk result (λ a. a ≡ rq_decode S.set bytes.now) }
 {
     let modulus = modulus::<S>();
-    let radices = vec![in alloc; modulus; S::P]?;
+    let radices = equal_radices::<S>(alloc, modulus)?;
     let digits = decoded(alloc, bytes, &radices)?;
     let coefficients = rq_coefficients(alloc, &digits, (modulus - 1) / 2)?;
     Rq::from_coefficients(alloc, &coefficients)
 }
 
-/// The element whose rounded coding `bytes` are: 1007 bytes for sntrup761. Its coefficients are
-/// multiples of 3.
+/// The element whose rounded coding `bytes` are: 1007 bytes for sntrup761, and 1152 for sntrup857.
+/// Its coefficients are multiples of 3.
 ///
 /// Every byte string of that length decodes, so several may decode to the same element.
 pub fn rounded_decode<S: Params>(alloc: Global, bytes: &[u8]) -> Result<Rq<S>, OutOfMemory>
-    requires { length bytes.now ≡ rounded_length S.modulus S.P }
-    ensures element { IfOk result (λ a. a ≡ rounded_decode S.modulus S.P bytes.now) }
+    requires { length bytes.now ≡ rounded_length S.set }
+    ensures element { IfOk result (λ a. a ≡ rounded_decode S.set bytes.now) }
     ensures rounded { IfOk result (λ a. AreMultiplesOf3 a) }
 {
     let modulus = modulus::<S>();
-    let radices = vec![in alloc; (modulus + 2) / 3; S::P]?;
+    let radices = equal_radices::<S>(alloc, (modulus + 2) / 3)?;
     let digits = decoded(alloc, bytes, &radices)?;
     let coefficients = rounded_coefficients(alloc, &digits, (modulus - 1) / 2)?;
     Rq::from_coefficients(alloc, &coefficients)

@@ -1,6 +1,7 @@
 //! The laws of the codings, each the contract of a function that does nothing.
 
 ghost use Rattle.std.specs.Prelude.{◌≡◌};
+ghost use Rattle.ring_core.specs.Sets.{sntrup761, sntrup857};
 ghost use Rattle.radix_pack.specs.Codings.{small_length, rq_length, rounded_length};
 ghost use Rattle.radix_pack.specs.Laws.{DecodesWhatWasEncoded, PairsEndInTwoTurns, LastEndsInTwoTurns, SmallDecodesWhatWasEncoded, SmallCodingIsWellFormed, RqDecodesWhatWasEncoded, RoundedDecodesWhatWasEncoded};
 
@@ -32,9 +33,16 @@ pub fn rounded_decodes_what_was_encoded()
     ensures { RoundedDecodesWhatWasEncoded }
 {}
 
-/// The lengths for sntrup761, whose q is 4591 and whose p is 761, in bytes.
+/// The lengths for sntrup761, in bytes.
 pub fn lengths_of_sntrup761()
     ensures small { small_length 761 ≡ 191 }
-    ensures rq { rq_length 4591 761 ≡ 1158 }
-    ensures rounded { rounded_length 4591 761 ≡ 1007 }
+    ensures rq { rq_length sntrup761 ≡ 1158 }
+    ensures rounded { rounded_length sntrup761 ≡ 1007 }
+{}
+
+/// The lengths for sntrup857, in bytes.
+pub fn lengths_of_sntrup857()
+    ensures small { small_length 857 ≡ 215 }
+    ensures rq { rq_length sntrup857 ≡ 1322 }
+    ensures rounded { rounded_length sntrup857 ≡ 1152 }
 {}

@@ -44,10 +44,10 @@ fn small_bytes(alloc: Global, coefficients: &[i8]) -> Result<Vec<u8>, OutOfMemor
     Ok(bytes)
 }
 
-/// The small coding of an element (NTRU Prime round 3): (p + 3) / 4 bytes.
+/// The small coding of an element (NTRU Prime round 3, Small encoding): (p + 3) / 4 bytes.
 pub fn small_encode<S: Params>(alloc: Global, a: &Small<S>) -> Result<ByteList, OutOfMemory>
-    ensures bytes { IfOk result (λ b. b ≡ small_encode S.P a.now) }
-    ensures count { IfOk result (λ b. length b ≡ small_length S.P) }
+    ensures bytes { IfOk result (λ b. b ≡ small_encode S.set.p a.now) }
+    ensures count { IfOk result (λ b. length b ≡ small_length S.set.p) }
 {
     Ok(ByteList::from_vec(small_bytes(alloc, a.as_slice())?))
 }
@@ -97,9 +97,9 @@ fn small_coefficients(alloc: Global, bytes: &[u8], degree: usize) -> Result<Vec<
 /// `None` exactly where no element encodes to them: some two bits are the digit 3, or a spare bit
 /// past the last coefficient is not 0.
 pub fn small_decode<S: Params>(alloc: Global, bytes: &[u8]) -> Result<Option<Small<S>>, OutOfMemory>
-    requires { length bytes.now ≡ small_length S.P }
-    ensures none { IfOk result (λ a. (a ≡ None) ↔ IsMalformed S.P bytes.now) }
-    ensures some { IfOk result (λ a. IfSome a (λ s. s ≡ small_decode S.P bytes.now)) }
+    requires { length bytes.now ≡ small_length S.set.p }
+    ensures none { IfOk result (λ a. (a ≡ None) ↔ IsMalformed S.set.p bytes.now) }
+    ensures some { IfOk result (λ a. IfSome a (λ s. s ≡ small_decode S.set.p bytes.now)) }
 {
     if is_malformed(bytes, S::P) {
         return Ok(None);

@@ -1,17 +1,16 @@
-ghost use Rattle.std.specs.Prelude.{◌≡◌, ◌≤◌, ◌<◌, IsTrue, length, unsigned_abs};
+ghost use Rattle.std.specs.Prelude.{◌≡◌, ◌≤◌, ◌<◌, IsTrue, IfOk, length, unsigned_abs, vec_len};
 ghost use Rattle.ring_core.specs.Bounds.{IsWithin};
 ghost use Rattle.radix_pack.specs.Radix.{AreRadices, AreBelow};
+ghost use Rattle.radix_pack.specs.Codings.{rounded_length, small_length};
 
 use crate::{
     decode, encode, rounded_decode, rounded_encode, rq_decode, rq_encode, small_decode,
     small_encode,
 };
-use ring_core::{Params, Rq, Small, Sntrup761};
+use ring_core::{Params, Rq, Small, Sntrup761, Sntrup857};
 use std::alloc::{AllocError as OutOfMemory, Global};
 use std::process::Abort;
 use std::test::Fail;
-
-const P: usize = 761;
 
 // Equal pieces one after another: how many, and the bytes of one.
 type Runs = &'static [(usize, &'static str)];
@@ -27,7 +26,7 @@ struct RadixCase {
 
 const TOOL: &str = "python3 tools/vectors/radix_encode.py";
 
-const RADIX_CASES: [RadixCase; 15] = [
+const RADIX_CASES: [RadixCase; 16] = [
     RadixCase {
         source: "own, by hand, level by level",
         digits: &[4590],
@@ -50,6 +49,28 @@ const RADIX_CASES: [RadixCase; 15] = [
             (1, "b8"),
             (1, "11dc"),
             (1, "4706"),
+        ],
+    },
+    RadixCase {
+        source: TOOL,
+        digits: &[5166],
+        radices: &[5167],
+        count: 857,
+        bytes: &[
+            (428, "a060"),
+            (214, "3f"),
+            (107, "78"),
+            (53, "3f"),
+            (1, "0790"),
+            (26, "f039"),
+            (1, "0a"),
+            (13, "3f"),
+            (6, "90f8"),
+            (1, "dc36"),
+            (3, "4373"),
+            (1, "37"),
+            (1, "ab"),
+            (1, "5018"),
         ],
     },
     RadixCase {
@@ -248,128 +269,168 @@ fn digits_encode_as_the_standard_says_and_decode(rt: HostRuntime) -> Result<(), 
     Ok(())
 }
 
-// An element with one coefficient throughout, its coding's first bytes and its last.
+// An element with one coefficient throughout: its coding's length, first bytes and last.
 struct RqCase {
     source: &'static str,
     coefficient: i32,
+    length: usize,
     first: [u8; 4],
     last: [u8; 6],
 }
 
-const RQ_CASES: [RqCase; 2] = [
+const RQ_761: [RqCase; 2] = [
     RqCase {
         source: "own, by hand: all digits are 0",
         coefficient: -2295,
+        length: 1158,
         first: [0; 4],
         last: [0; 6],
     },
     RqCase {
         source: "own, by hand: all digits are 4590, the first row of RADIX_CASES",
         coefficient: 2295,
+        length: 1158,
         first: [0x20, 0x9d, 0x20, 0x9d],
         last: [0xe1, 0xb8, 0x11, 0xdc, 0x47, 0x06],
     },
 ];
 
-#[test]
-fn elements_encode_at_both_ends_of_the_range(rt: HostRuntime) -> Result<(), Fail> {
-    for case in &RQ_CASES {
-        let source = case.source;
-        let a: Rq<Sntrup761> = Rq::from_coefficients(rt.alloc(), &[case.coefficient; P])?;
-        let encoded = rq_encode(rt.alloc(), &a)?;
-        let bytes = encoded.as_slice();
-        assert_eq!(rt; bytes.len(), 1158, "{source}");
-        assert!(rt; bytes.starts_with(&case.first), "{source}");
-        assert!(rt; bytes.ends_with(&case.last), "{source}");
-        if case.coefficient < 0 {
-            assert!(rt; bytes.iter().all(|byte| *byte == 0), "{source}");
-        }
-        let decoded: Rq<Sntrup761> = rq_decode(rt.alloc(), bytes)?;
-        assert!(rt; decoded.as_slice() == a.as_slice(), "{source}");
-    }
-    Ok(())
-}
-
-// The bytes of a rounded element of sntrup761, and the pattern of its digits.
-struct RoundedCase {
-    source: &'static str,
-    digits: [i16; 2],
-    bytes: Runs,
-}
-
-const ROUNDED: [RoundedCase; 2] = [
-    RoundedCase {
-        source: TOOL,
-        digits: [765, 766],
-        bytes: &[
-            (380, "07"),
-            (190, "7091"),
-            (95, "80"),
-            (47, "82be"),
-            (1, "82c1"),
-            (23, "f0"),
-            (1, "e2"),
-            (11, "36"),
-            (1, "e8"),
-            (5, "0af5"),
-            (1, "421f"),
-            (2, "a0"),
-            (1, "80"),
-            (1, "36c9"),
-            (1, "ed"),
-            (1, "b706"),
-        ],
+const RQ_857: [RqCase; 2] = [
+    RqCase {
+        source: "own, by hand: all digits are 0",
+        coefficient: -2583,
+        length: 1322,
+        first: [0; 4],
+        last: [0; 6],
     },
-    RoundedCase {
-        source: TOOL,
-        digits: [1, 1529],
-        bytes: &[
-            (380, "24"),
-            (190, "50c8"),
-            (95, "fd"),
-            (47, "f505"),
-            (1, "f531"),
-            (23, "e0"),
-            (1, "70"),
-            (11, "63"),
-            (1, "e1"),
-            (5, "50bf"),
-            (1, "a17f"),
-            (2, "20"),
-            (1, "cc"),
-            (1, "3f9e"),
-            (1, "be"),
-            (1, "2200"),
-        ],
+    RqCase {
+        source: "own, by tool: all digits are 5166, the second row of RADIX_CASES",
+        coefficient: 2583,
+        length: 1322,
+        first: [0xa0, 0x60, 0xa0, 0x60],
+        last: [0x43, 0x73, 0x37, 0xab, 0x50, 0x18],
     },
 ];
 
-fn assert_rounded(rt: &impl Abort, alloc: Global, case: &RoundedCase) -> Result<(), Fail> {
+fn assert_rq<S: Params>(rt: &impl Abort, alloc: Global, case: &RqCase) -> Result<(), Fail> {
     let source = case.source;
-    let bytes = bytes_of(alloc, case.bytes)?;
-    let mut sized = [0; 1007];
-    assert_eq!(rt; bytes.len(), sized.len(), "{source}");
-    sized.copy_from_slice(&bytes);
-    let element: Rq<Sntrup761> = rounded_decode(alloc, &sized)?;
-    for i in 0..P {
-        let want = 3 * i32::from(case.digits[i % 2]) - 2295;
-        assert_eq!(rt; element.coefficient(i), want, "{source}, at {i}");
+    let list = vec![in alloc; case.coefficient; S::P]?;
+    let a: Rq<S> = Rq::from_coefficients(alloc, &list)?;
+    let encoded = rq_encode(alloc, &a)?;
+    let bytes = encoded.as_slice();
+    assert_eq!(rt; bytes.len(), case.length, "{source}");
+    assert!(rt; bytes.starts_with(&case.first), "{source}");
+    assert!(rt; bytes.ends_with(&case.last), "{source}");
+    if case.coefficient < 0 {
+        assert!(rt; bytes.iter().all(|byte| *byte == 0), "{source}");
     }
-    let encoded = rounded_encode(alloc, &element)?;
-    assert!(rt; encoded.as_slice() == &sized[..], "{source}");
+    let decoded: Rq<S> = rq_decode(alloc, bytes)?;
+    assert!(rt; decoded.as_slice() == a.as_slice(), "{source}");
     Ok(())
 }
 
 #[test]
-fn rounded_elements_decode_and_encode(rt: HostRuntime) -> Result<(), Fail> {
-    for case in &ROUNDED {
-        assert_rounded(&rt, rt.alloc(), case)?;
+fn elements_encode_at_both_ends_of_the_range(rt: HostRuntime) -> Result<(), Fail> {
+    for case in &RQ_761 {
+        assert_rq::<Sntrup761>(&rt, rt.alloc(), case)?;
+    }
+    for case in &RQ_857 {
+        assert_rq::<Sntrup857>(&rt, rt.alloc(), case)?;
     }
     Ok(())
 }
 
-// The small coding of sntrup761: the first byte, 189 bytes alike, the last byte; and the
-// coefficients, a pattern of four.
+// The bytes of a rounded element, the pattern of its digits, and (q - 1)/2.
+#[derive(Drop)]
+struct RoundedCase {
+    source: &'static str,
+    digits: [i16; 2],
+    half: i32,
+    bytes: Runs,
+}
+
+const ROUNDED_761: RoundedCase = RoundedCase {
+    source: TOOL,
+    digits: [765, 766],
+    half: 2295,
+    bytes: &[
+        (380, "07"),
+        (190, "7091"),
+        (95, "80"),
+        (47, "82be"),
+        (1, "82c1"),
+        (23, "f0"),
+        (1, "e2"),
+        (11, "36"),
+        (1, "e8"),
+        (5, "0af5"),
+        (1, "421f"),
+        (2, "a0"),
+        (1, "80"),
+        (1, "36c9"),
+        (1, "ed"),
+        (1, "b706"),
+    ],
+};
+
+const ROUNDED_857: RoundedCase = RoundedCase {
+    source: TOOL,
+    digits: [1, 1721],
+    half: 2583,
+    bytes: &[
+        (428, "24"),
+        (214, "32dc"),
+        (107, "0638"),
+        (1, "81"),
+        (26, "0061"),
+        (1, "80"),
+        (13, "20"),
+        (6, "0f"),
+        (1, "63"),
+        (3, "c3"),
+        (1, "8f"),
+        (1, "0f"),
+        (1, "9465"),
+        (1, "00"),
+    ],
+};
+
+fn assert_rounded<S: Params>(
+    rt: &impl Abort,
+    alloc: Global,
+    case: &RoundedCase,
+    bytes: &[u8],
+) -> Result<(), Fail>
+    requires { length bytes.now ≡ rounded_length S.set }
+{
+    let source = case.source;
+    let element: Rq<S> = rounded_decode(alloc, bytes)?;
+    for i in 0..S::P {
+        let want = 3 * i32::from(case.digits[i % 2]);
+        assert_eq!(rt;
+            element.coefficient(i).wrapping_add(case.half),
+            want,
+            "{source}, at {i}"
+        );
+    }
+    let encoded = rounded_encode(alloc, &element)?;
+    assert!(rt; encoded.as_slice() == bytes, "{source}");
+    Ok(())
+}
+
+#[tactic(auto, using(crate::proofs::Lengths::rounded_length_761, crate::proofs::Lengths::rounded_length_857,))]
+#[test]
+fn rounded_elements_decode_and_encode(rt: HostRuntime) -> Result<(), Fail> {
+    let bytes = bytes_of(rt.alloc(), ROUNDED_761.bytes)?;
+    assert!(rt; bytes.len() == 1007);
+    assert_rounded::<Sntrup761>(&rt, rt.alloc(), &ROUNDED_761, &bytes)?;
+    let bytes = bytes_of(rt.alloc(), ROUNDED_857.bytes)?;
+    assert!(rt; bytes.len() == 1152);
+    assert_rounded::<Sntrup857>(&rt, rt.alloc(), &ROUNDED_857, &bytes)
+}
+
+// A small coding, whose last byte has one coefficient in both sets: the first byte, bytes alike, the
+// last byte; and the coefficients, a pattern of four.
 struct SmallCase {
     source: &'static str,
     first: u8,
@@ -416,15 +477,28 @@ const SMALL_CASES: [SmallCase; 5] = [
     },
 ];
 
-fn assert_small(rt: &impl Abort, alloc: Global, case: &SmallCase) -> Result<(), Fail> {
+fn small_case<S: Params>(alloc: Global, case: &SmallCase) -> Result<Vec<u8>, OutOfMemory>
+    ensures { IfOk result (λ v. vec_len v ≡ small_length S.set.p) }
+{
+    let mut bytes = vec![in alloc; case.middle; S::P.div_ceil(4)]?;
+    if let [first, .., last] = &mut bytes[..] {
+        *first = case.first;
+        *last = case.last;
+    }
+    Ok(bytes)
+}
+
+fn assert_small<S: Params>(
+    rt: &impl Abort,
+    alloc: Global,
+    case: &SmallCase,
+) -> Result<(), OutOfMemory> {
     let source = case.source;
-    let mut bytes = [case.middle; 191];
-    bytes[0] = case.first;
-    bytes[190] = case.last;
-    let decoded: Option<Small<Sntrup761>> = small_decode(alloc, &bytes)?;
+    let bytes = small_case::<S>(alloc, case)?;
+    let decoded: Option<Small<S>> = small_decode(alloc, &bytes)?;
     match (&decoded, &case.coefficients) {
         (Some(element), Some(pattern)) => {
-            for i in 0..P {
+            for i in 0..S::P {
                 assert_eq!(rt; element.coefficient(i), pattern[i % 4], "{source}, at {i}");
             }
             let encoded = small_encode(alloc, element)?;
@@ -439,7 +513,8 @@ fn assert_small(rt: &impl Abort, alloc: Global, case: &SmallCase) -> Result<(), 
 #[test]
 fn small_elements_decode_where_they_are_well_formed(rt: HostRuntime) -> Result<(), Fail> {
     for case in &SMALL_CASES {
-        assert_small(&rt, rt.alloc(), case)?;
+        assert_small::<Sntrup761>(&rt, rt.alloc(), case)?;
+        assert_small::<Sntrup857>(&rt, rt.alloc(), case)?;
     }
     Ok(())
 }

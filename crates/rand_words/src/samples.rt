@@ -41,11 +41,11 @@ pub fn small_random<S: Params, R: Words>(
     alloc: Global,
     words: &mut R,
 ) -> Result<Small<S>, OutOfMemory>
-    requires { R.place words.old + S.P ≤ 2 ^ 32 }
+    requires { R.place words.old + S.set.p ≤ 2 ^ 32 }
     ensures sample { IfOk result (λ a. a
-        ≡ small (words_from (R.word words.old) (R.place words.old) S.P)) }
+        ≡ small (words_from (R.word words.old) (R.place words.old) S.set.p)) }
     ensures taken { R.place words.new
-        ≡ (if is_ok result then R.place words.old + S.P else R.place words.old) }
+        ≡ (if is_ok result then R.place words.old + S.set.p else R.place words.old) }
     ensures stays { R.word words.new ≡ R.word words.old }
 {
     let mut drawn = vec![in alloc; 0u32; S::P]?;
@@ -101,12 +101,12 @@ pub fn short_random<S: Params, R: Words>(
     alloc: Global,
     words: &mut R,
 ) -> Result<Small<S>, OutOfMemory>
-    requires { R.place words.old + S.P ≤ 2 ^ 32 }
+    requires { R.place words.old + S.set.p ≤ 2 ^ 32 }
     ensures sample { IfOk result (λ a. a
-        ≡ short S.W (words_from (R.word words.old) (R.place words.old) S.P)) }
-    ensures weight { IfOk result (λ a. weight a ≡ S.W) }
+        ≡ short S.set.w (words_from (R.word words.old) (R.place words.old) S.set.p)) }
+    ensures weight { IfOk result (λ a. weight a ≡ S.set.w) }
     ensures taken { R.place words.new
-        ≡ (if is_ok result then R.place words.old + S.P else R.place words.old) }
+        ≡ (if is_ok result then R.place words.old + S.set.p else R.place words.old) }
     ensures stays { R.word words.new ≡ R.word words.old }
 {
     let mut drawn = vec![in alloc; 0u32; S::P]?;

@@ -12,25 +12,23 @@ use Rattle.radix_pack.proofs.elements.rounded_decode.Goals as goal
 pub decoded-requires-clause-count : goal.decoded-requires-clause-count
 unfolding rounded_length encoded_length
 decoded-requires-clause-count g c =
-    let q = g.S.Params.modulus in
-    let p = g.S.Params.P in
+    let q = g.S.Params.set.q in
+    let p = g.S.Params.set.p in
     let radices : c.deref.result.now ≡ replicate p (rounded_radix q) =
     c.deref.ensures.value
-    ∙ c.in_ok-radices.ensures.items_if_clones_equal (λ y e. e)
-    ∙ ap (λ m. replicate c.P.result (rounded_radix m)) c.modulus-modulus.ensures.modulus
-    ∙ ap (λ n. replicate n (rounded_radix q)) c.P.ensures
+    ∙ c.in_ok-radices.ensures
+    ∙ ap (λ m. replicate p (rounded_radix m)) c.modulus-modulus.ensures.modulus
     in
     (length c.deref.result.now, omega arith, c.requires ∙ ap (λ ms. length_in (length ms) ms) (sym radices))
 
 pub from_coefficients-requires : goal.from_coefficients-requires
 from_coefficients-requires g c =
-    let q = g.S.Params.modulus in
-    let p = g.S.Params.P in
+    let q = g.S.Params.set.q in
+    let p = g.S.Params.set.p in
     let radices : c.deref.result.now ≡ replicate p (rounded_radix q) =
     c.deref.ensures.value
-    ∙ c.in_ok-radices.ensures.items_if_clones_equal (λ y e. e)
-    ∙ ap (λ m. replicate c.P.result (rounded_radix m)) c.modulus-modulus.ensures.modulus
-    ∙ ap (λ n. replicate n (rounded_radix q)) c.P.ensures
+    ∙ c.in_ok-radices.ensures
+    ∙ ap (λ m. replicate p (rounded_radix m)) c.modulus-modulus.ensures.modulus
     in
     ap length (c.deref-3.ensures.value ∙ c.in_ok-coefficients.ensures)
     ∙ length-map c.deref-2.result.now _
@@ -42,14 +40,14 @@ from_coefficients-requires g c =
 pub returns-clause-element : goal.returns-clause-element
 unfolding decode
 returns-clause-element g c =
-    let q = g.S.Params.modulus in
-    let p = g.S.Params.P in
+    let laws = g.S.Params in
+    let q = laws.set.q in
+    let p = laws.set.p in
     let bytes = c.args.bytes.now in
     let radices : c.deref.result.now ≡ replicate p (rounded_radix q) =
     c.deref.ensures.value
-    ∙ c.in_ok-radices.ensures.items_if_clones_equal (λ y e. e)
-    ∙ ap (λ m. replicate c.P.result (rounded_radix m)) c.modulus-modulus.ensures.modulus
-    ∙ ap (λ n. replicate n (rounded_radix q)) c.P.ensures
+    ∙ c.in_ok-radices.ensures
+    ∙ ap (λ m. replicate p (rounded_radix m)) c.modulus-modulus.ensures.modulus
     in
     let digits : c.deref-2.result.now ≡ decode bytes (replicate p (rounded_radix q)) =
     c.deref-2.ensures.value
@@ -63,11 +61,11 @@ returns-clause-element g c =
     ∙ ap (λ ds. map (λ r. pos (3 * r) -ℤ pos ((q - 1) / 2)) ds) digits
     in
     IfOk-weaker c.from_coefficients.result _ _
-    (λ a e. e ∙ ap (λ xs. map (λ z. centred q z) xs) coefficients ∙ rounded_decode_is q p bytes g.S.Params.modulus_odd (omega (arith, g.S.Params.modulus_most)) g.S.Params.half_thirds)
+    (λ a e. e ∙ ap (λ xs. map (λ z. centred q z) xs) coefficients ∙ rounded_decode_is laws.set bytes laws.modulus_odd (omega (arith, laws.modulus_most)) laws.half_thirds)
     c.from_coefficients.ensures
 
 pub returns-clause-rounded : goal.returns-clause-rounded
 returns-clause-rounded g c =
     IfOk-weaker c.from_coefficients.result _ _
-    (λ a e. subst AreMultiplesOf3 (sym e) (AreMultiplesOf3-decode g.S.Params.modulus g.S.Params.P c.args.bytes.now g.S.Params.half_thirds))
+    (λ a e. subst AreMultiplesOf3 (sym e) (AreMultiplesOf3-decode g.S.Params.set c.args.bytes.now g.S.Params.half_thirds))
     (returns-clause-element g c)

@@ -12,25 +12,23 @@ use Rattle.radix_pack.proofs.elements.rq_decode.Goals as goal
 pub decoded-requires-clause-count : goal.decoded-requires-clause-count
 unfolding rq_length encoded_length
 decoded-requires-clause-count g c =
-    let q = g.S.Params.modulus in
-    let p = g.S.Params.P in
+    let q = g.S.Params.set.q in
+    let p = g.S.Params.set.p in
     let radices : c.deref.result.now ≡ replicate p q =
     c.deref.ensures.value
-    ∙ c.in_ok-radices.ensures.items_if_clones_equal (λ y e. e)
-    ∙ ap (λ m. replicate c.P.result m) c.modulus-modulus.ensures.modulus
-    ∙ ap (λ n. replicate n q) c.P.ensures
+    ∙ c.in_ok-radices.ensures
+    ∙ ap (λ m. replicate p m) c.modulus-modulus.ensures.modulus
     in
     (length c.deref.result.now, omega arith, c.requires ∙ ap (λ ms. length_in (length ms) ms) (sym radices))
 
 pub from_coefficients-requires : goal.from_coefficients-requires
 from_coefficients-requires g c =
-    let q = g.S.Params.modulus in
-    let p = g.S.Params.P in
+    let q = g.S.Params.set.q in
+    let p = g.S.Params.set.p in
     let radices : c.deref.result.now ≡ replicate p q =
     c.deref.ensures.value
-    ∙ c.in_ok-radices.ensures.items_if_clones_equal (λ y e. e)
-    ∙ ap (λ m. replicate c.P.result m) c.modulus-modulus.ensures.modulus
-    ∙ ap (λ n. replicate n q) c.P.ensures
+    ∙ c.in_ok-radices.ensures
+    ∙ ap (λ m. replicate p m) c.modulus-modulus.ensures.modulus
     in
     ap length (c.deref-3.ensures.value ∙ c.in_ok-coefficients.ensures)
     ∙ length-map c.deref-2.result.now _
@@ -42,14 +40,14 @@ from_coefficients-requires g c =
 pub returns : goal.returns
 unfolding decode
 returns g c =
-    let q = g.S.Params.modulus in
-    let p = g.S.Params.P in
+    let laws = g.S.Params in
+    let q = laws.set.q in
+    let p = laws.set.p in
     let bytes = c.args.bytes.now in
     let radices : c.deref.result.now ≡ replicate p q =
     c.deref.ensures.value
-    ∙ c.in_ok-radices.ensures.items_if_clones_equal (λ y e. e)
-    ∙ ap (λ m. replicate c.P.result m) c.modulus-modulus.ensures.modulus
-    ∙ ap (λ n. replicate n q) c.P.ensures
+    ∙ c.in_ok-radices.ensures
+    ∙ ap (λ m. replicate p m) c.modulus-modulus.ensures.modulus
     in
     let digits : c.deref-2.result.now ≡ decode bytes (replicate p q) =
     c.deref-2.ensures.value
@@ -63,5 +61,5 @@ returns g c =
     ∙ ap (λ ds. map (λ r. pos r -ℤ pos ((q - 1) / 2)) ds) digits
     in
     IfOk-weaker c.from_coefficients.result _ _
-    (λ a e. e ∙ ap (λ xs. map (λ z. centred q z) xs) coefficients ∙ rq_decode_is q p bytes g.S.Params.modulus_odd (omega (arith, g.S.Params.modulus_most)))
+    (λ a e. e ∙ ap (λ xs. map (λ z. centred q z) xs) coefficients ∙ rq_decode_is laws.set bytes laws.modulus_odd (omega (arith, laws.modulus_most)))
     c.from_coefficients.ensures

@@ -7,7 +7,8 @@ use Rattle.radix_pack.proofs.elements.rq_encode.Goals as goal
 
 pub encoded-requires-clause-digits : goal.encoded-requires-clause-digits
 encoded-requires-clause-digits g c =
-    let q = g.S.Params.modulus in
+    let laws = g.S.Params in
+    let q = laws.set.q in
     let a = c.args.a.now in
     let same : c.deref_mut.result.now ≡ map (rq_digit q) a =
     c.deref_mut.ensures.value
@@ -15,32 +16,24 @@ encoded-requires-clause-digits g c =
     ∙ ap (λ m. map (rq_digit m) c.as_slice.result.now) c.modulus.ensures.modulus
     ∙ ap (λ xs. map (rq_digit q) xs) c.as_slice.ensures.list
     in
-    subst AreDigits (sym same) (AreDigits-rq q g.S.Params.P a g.S.Params.modulus_odd (omega (arith, g.S.Params.modulus_most)) c.as_slice.ensures.centred)
+    subst AreDigits (sym same) (AreDigits-rq q laws.set.p a laws.modulus_odd (omega (arith, laws.modulus_most)) c.as_slice.ensures.centred)
 
-pub returns-clause-bytes : goal.returns-clause-bytes
-returns-clause-bytes g c =
-    let q = g.S.Params.modulus in
+pub returns : goal.returns
+returns g c =
+    let set = g.S.Params.set in
     let a = c.args.a.now in
-    let same : c.deref_mut.result.now ≡ map (rq_digit q) a =
+    let digits = c.deref_mut.result.now in
+    let count : length a ≡ set.p = c.as_slice.ensures.centred.0 in
+    let same : digits ≡ map (rq_digit set.q) a =
     c.deref_mut.ensures.value
     ∙ c.in_ok-digits.ensures
     ∙ ap (λ m. map (rq_digit m) c.as_slice.result.now) c.modulus.ensures.modulus
-    ∙ ap (λ xs. map (rq_digit q) xs) c.as_slice.ensures.list
+    ∙ ap (λ xs. map (rq_digit set.q) xs) c.as_slice.ensures.list
     in
-    IfOk-weaker c.encoded.result _ _
-    (λ b e. e ∙ rq_encode_is q g.S.Params.P a c.deref_mut.result.now c.as_slice.ensures.centred.0 same)
-    c.encoded.ensures
-
-pub returns-clause-count : goal.returns-clause-count
-returns-clause-count g c =
-    let q = g.S.Params.modulus in
-    let a = c.args.a.now in
-    let same : c.deref_mut.result.now ≡ map (rq_digit q) a =
-    c.deref_mut.ensures.value
-    ∙ c.in_ok-digits.ensures
-    ∙ ap (λ m. map (rq_digit m) c.as_slice.result.now) c.modulus.ensures.modulus
-    ∙ ap (λ xs. map (rq_digit q) xs) c.as_slice.ensures.list
-    in
-    IfOk-weaker c.encoded.result _ _
-    (λ b e. ap length (e ∙ rq_encode_is q g.S.Params.P a c.deref_mut.result.now c.as_slice.ensures.centred.0 same) ∙ length-rq_encode q g.S.Params.P a c.as_slice.ensures.centred.0)
-    c.encoded.ensures
+    record {
+      bytes = IfOk-weaker c.encoded.result _ _ (λ b e. e ∙ rq_encode_is set a digits count same) c.encoded.ensures;
+      count =
+          IfOk-weaker c.encoded.result _ _
+          (λ b e. ap length (e ∙ rq_encode_is set a digits count same) ∙ length-rq_encode set a count)
+          c.encoded.ensures;
+    }

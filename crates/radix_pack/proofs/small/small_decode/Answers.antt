@@ -9,6 +9,7 @@ from_coefficients-requires-clause-count g c =
     ap length (c.deref.ensures.value ∙ c.in_ok-coefficients.ensures)
     ∙ length-small_decode c.P-2.result c.args.bytes.now
     ∙ c.P-2.ensures
+    ∙ g.S.Params.degree_is
 
 pub from_coefficients-requires-clause-small : goal.from_coefficients-requires-clause-small
 from_coefficients-requires-clause-small g c =
