@@ -4,8 +4,8 @@ the words of chacha20_words.py, by the reference's masks and shifts.
 
     python3 tools/vectors/samples.py SEED_HEX STREAM P
 
-It prints, for each of the two, the first 8 coefficients and the sum of k times coefficient k, as in
-`SAMPLES` of crates/rand_words/src/tests.rt.
+It prints, for each of the two, the first 8 coefficients, the sum of k times coefficient k, and the
+weight, as in `SAMPLES_761` and `SAMPLES_857` of crates/rand_words/src/tests.rt.
 """
 
 import sys
@@ -38,4 +38,5 @@ if __name__ == "__main__":
     of = SETS[int(sys.argv[3])]
     words = stream_words(bytes.fromhex(sys.argv[1]), int(sys.argv[2]), of.p)
     for name, list_of in (("small", small(words)), ("short", short(words, of.w))):
-        print(name, list_of[:8], sum(k * number for k, number in enumerate(list_of)))
+        weight = sum(1 for number in list_of if number)
+        print(name, list_of[:8], sum(k * number for k, number in enumerate(list_of)), weight)

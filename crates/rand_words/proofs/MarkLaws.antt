@@ -8,7 +8,7 @@ use Rattle.std.proofs.lemmas.List.Elements.{All-append, All-map, All-cons, All-h
 use Rattle.std.proofs.lemmas.List.Sums.{sum_by-cons, sum_by-append}
 use Rattle.std.proofs.lemmas.Int.{ints}
 use Rattle.ring_core.specs.Product.{is_nonzero, weight}
-use Rattle.rand_words.specs.Samples.{marked_nonzero, marked_zero, marked, short_coefficient, short, IsMarked}
+use Rattle.rand_words.specs.Samples.{marked_nonzero, marked_zero, marked, short_coefficient, IsMarked}
 use Rattle.rand_words.specs.Sorted.{sorted, insert_sorted}
 use Rattle.rand_words.proofs.SortedOnce.{count_by-sorted}
 
@@ -64,8 +64,8 @@ count_by-map p f (x ∷ xs) = omega (
   count_by-map p f xs,
 )
 
-pub weight-short : (w : ℕ) (words : List ℕ) → w ≤ length words → weight (short w words) ≡ w
-weight-short w words h =
+pub weight-marked : (w : ℕ) (words : List ℕ) → w ≤ length words → weight (map short_coefficient (sorted (marked w words))) ≡ w
+weight-marked w words h =
     let p : ℕ → Bool = λ u. is_nonzero (short_coefficient u) in
     let ones : List ℕ = map marked_nonzero (take w words) in
     let zeros : List ℕ = map marked_zero (drop w words) in

@@ -8,6 +8,7 @@ use Rattle.std.proofs.lemmas.List.{length-map, length-take, get_or-map, get_or_p
 use Rattle.std.proofs.lemmas.List.FromFn.{length-map-range_with_len}
 use Rattle.ring_core.specs.Product.{IsCentred}
 use Rattle.ring_core.specs.Bounds.{IsWithin}
+use Rattle.ring_core.specs.Sets.{Set}
 use Rattle.ring_core.proofs.ElementLaws.{IsCentred-from_small}
 use Rattle.rand_words.specs.Samples.{small_coefficient, small, marked_nonzero, marked_zero, marked, short_coefficient, short, IsMarked}
 use Rattle.rand_words.specs.Sorted.{sorted, insert_sorted}
@@ -25,9 +26,9 @@ within_map P f h words a k =
       | inr l ↦ omega (arith, ap unsigned_abs (get_or_past (map f words) k (pos 0) (omega (arith, length-map words f))))
     ]
 
-pub IsCentred-small_words : (p : ℕ) (words : List ℕ) → length words ≡ p → IsCentred 3 p (small words)
-IsCentred-small_words p words e =
-    IsCentred-from_small p (small words) (length-map words small_coefficient ∙ e)
+pub IsCentred-small_words : (set : Set) (words : List ℕ) → length words ≡ set.p → IsCentred 3 set.p (small set words)
+IsCentred-small_words set words e =
+    IsCentred-from_small set.p (small set words) (length-map words small_coefficient ∙ e)
     (within_map (λ u. 0 ≤ u) small_coefficient (λ u h. omega (arith, ints)) words (λ k d l. omega arith))
 
 length-insert : (x : ℕ) (xs : List ℕ) → length (insert_sorted x xs) ≡ suc (length xs)
@@ -52,8 +53,9 @@ length-marked w words = omega (
   length-drop w words,
 )
 
-pub IsCentred-short_words : (p w : ℕ) (words : List ℕ) → length words ≡ p → IsCentred 3 p (short w words)
-IsCentred-short_words p w words e =
-    IsCentred-from_small p (short w words)
+pub IsCentred-short_words : (set : Set) (words : List ℕ) → length words ≡ set.p → IsCentred 3 set.p (short set words)
+IsCentred-short_words set words e =
+    let w = set.w in
+    IsCentred-from_small set.p (short set words)
     (length-map (sorted (marked w words)) short_coefficient ∙ length-sorted (marked w words) ∙ length-marked w words ∙ e)
     (within_map IsMarked short_coefficient (λ u h. omega (arith, ints)) (sorted (marked w words)) (AreMarked-sorted w words))

@@ -1,14 +1,16 @@
 -- Random small and short polynomials as functions of p random words (NTRU Prime round 3, Small and
 -- Short). A word is a number below 2^32, and a polynomial the list of its p coefficients, from x^0 on.
 use Rattle.std.specs.Prelude.{ℕ, ◌+◌, ◌*◌, ◌/◌, ◌%◌, ◌^◌, ◌≤◌, ℤ, pos, ◌-ℤ◌, List, ◌++◌, map, take, drop}
+use Rattle.ring_core.specs.Sets.{Set}
 use Rattle.rand_words.specs.Sorted.{sorted}
 
 -- a third of 30 bits, from -1 on (NTRU Prime round 3, Small)
 abbrev pub small_coefficient : ℕ → ℤ
 small_coefficient word = pos ((word % 2 ^ 30) * 3 / 2 ^ 30) -ℤ pos 1
 
-abbrev pub small : List ℕ → List ℤ
-small words = map small_coefficient words
+-- of p words, each alike in every set (NTRU Prime round 3, Small)
+abbrev pub small : Set → List ℕ → List ℤ
+small set words = map small_coefficient words
 
 -- the word with 0 for its low bit: the two low bits are 00 or 10
 abbrev pub marked_nonzero : ℕ → ℕ
@@ -27,8 +29,8 @@ abbrev pub short_coefficient : ℕ → ℤ
 short_coefficient word = pos (word % 4) -ℤ pos 1
 
 -- the sort puts the marks in random order (NTRU Prime round 3, Short)
-abbrev pub short : ℕ → List ℕ → List ℤ
-short w words = map short_coefficient (sorted (marked w words))
+abbrev pub short : Set → List ℕ → List ℤ
+short set words = map short_coefficient (sorted (marked set.w words))
 
 -- ---- for the proofs
 

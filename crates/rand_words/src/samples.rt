@@ -4,7 +4,7 @@ ghost use Rattle.std.specs.Prelude.{◌≡◌, ◌+◌, ◌^◌, ◌<◌, ◌≤
 ghost use Rattle.std.specs.List.{All};
 ghost use Rattle.ring_core.specs.Bounds.{IsWithin};
 ghost use Rattle.ring_core.specs.Product.{weight};
-ghost use Rattle.rand_words.specs.Samples.{small_coefficient, small, short_coefficient, short, IsMarked};
+ghost use Rattle.rand_words.specs.Samples.{small_coefficient, small, marked, short_coefficient, short, IsMarked};
 ghost use Rattle.rand_words.specs.Sorted.{sorted};
 ghost use Rattle.rand_words.specs.Words.{words_from};
 
@@ -27,7 +27,7 @@ fn small_coefficient_of(word: u32) -> i8
 fn write_small(words: &[u32], list: &mut [i8])
     requires { length list.old ≡ length words.now }
     ensures small { IsWithin 1 list.new }
-    ensures value { list.new ≡ small words.now }
+    ensures value { list.new ≡ map small_coefficient words.now }
 {
     for i in 0..words.len() {
         list[i] = small_coefficient_of(words[i]);
@@ -43,7 +43,7 @@ pub fn small_random<S: Params, R: Words>(
 ) -> Result<Small<S>, OutOfMemory>
     requires { R.place words.old + S.set.p ≤ 2 ^ 32 }
     ensures sample { IfOk result (λ a. a
-        ≡ small (words_from (R.word words.old) (R.place words.old) S.set.p)) }
+        ≡ small S.set (words_from (R.word words.old) (R.place words.old) S.set.p)) }
     ensures taken { R.place words.new
         ≡ (if is_ok result then R.place words.old + S.set.p else R.place words.old) }
     ensures stays { R.word words.new ≡ R.word words.old }
@@ -86,7 +86,7 @@ fn write_short(words: &mut [u32], w: usize, list: &mut [i8])
     requires count { length list.old ≡ length words.old }
     requires weight { w ≤ length words.old }
     ensures small { IsWithin 1 list.new }
-    ensures value { list.new ≡ short w words.old }
+    ensures value { list.new ≡ map short_coefficient (sorted (marked w words.old)) }
     ensures weight { weight list.new ≡ w }
 {
     mark(words, w);
@@ -103,7 +103,7 @@ pub fn short_random<S: Params, R: Words>(
 ) -> Result<Small<S>, OutOfMemory>
     requires { R.place words.old + S.set.p ≤ 2 ^ 32 }
     ensures sample { IfOk result (λ a. a
-        ≡ short S.set.w (words_from (R.word words.old) (R.place words.old) S.set.p)) }
+        ≡ short S.set (words_from (R.word words.old) (R.place words.old) S.set.p)) }
     ensures weight { IfOk result (λ a. weight a ≡ S.set.w) }
     ensures taken { R.place words.new
         ≡ (if is_ok result then R.place words.old + S.set.p else R.place words.old) }

@@ -1,7 +1,8 @@
 //! Streams of words from a seed.
 
-ghost use Rattle.std.specs.Prelude.{◌≡◌};
+ghost use Rattle.std.specs.Prelude.{◌≡◌, ℕ};
 ghost use Rattle.rand_chacha.specs.ChaCha.{key_of};
+ghost use Rattle.rand_words.specs.Words.{stream_word};
 
 use crate::words::Words;
 use rand_chacha::ChaCha20Rng;
@@ -27,7 +28,9 @@ impl Model for SeedStream {
 impl SeedStream {
     /// The stream with this number, whose key is the seed, from its word 0 on.
     pub fn new(seed: &[u8; 32], stream: u64) -> SeedStream
-        ensures { result ≡ record { key = key_of seed.now; stream = stream; word_pos = 0 } }
+        ensures start { result ≡ record { key = key_of seed.now; stream = stream; word_pos = 0 } }
+        ensures words { (i : ℕ)
+            → ⟦<SeedStream as Words>⟧.word result i ≡ stream_word seed.now stream i }
     {
         let mut rng = ChaCha20Rng::from_seed(*seed);
         rng.set_stream(stream);

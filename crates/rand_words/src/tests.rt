@@ -1,6 +1,8 @@
 use crate::words::draw;
 use crate::{SeedStream, Words, short_random, small_random};
-use ring_core::{Small, Sntrup761};
+use ring_core::{Params, Small, Sntrup761, Sntrup857};
+use std::alloc::{AllocError as OutOfMemory, Global};
+use std::process::Abort;
 use std::test::Fail;
 
 const ZERO_SEED: [u8; 32] = [0; 32];
@@ -59,48 +61,95 @@ impl Words for Always {
     }
 }
 
-#[test]
-fn the_middle_third_gives_zeros(rt: HostRuntime) -> Result<(), Fail> {
+fn assert_zeros<S: Params>(rt: &impl Abort, alloc: Global) -> Result<(), OutOfMemory> {
     let mut words = Always {
         word: 536_870_912,
         place: 0,
     };
-    let zeros: Small<Sntrup761> = small_random(rt.alloc(), &mut words)?;
-    assert_eq!(rt; zeros.as_slice().len(), 761);
+    let zeros: Small<S> = small_random(alloc, &mut words)?;
+    assert_eq!(rt; zeros.as_slice().len(), S::P);
     assert_eq!(rt; zeros.weight(), 0);
     Ok(())
 }
 
-fn first_of(sample: &Small<Sntrup761>) -> [i8; 8] {
-    let mut first = [0i8; 8];
-    for k in 0..8 {
-        first[k] = sample.coefficient(k);
-    }
-    first
+#[test]
+fn the_middle_third_gives_zeros(rt: HostRuntime) -> Result<(), Fail> {
+    assert_zeros::<Sntrup761>(&rt, rt.alloc())?;
+    assert_zeros::<Sntrup857>(&rt, rt.alloc())?;
+    Ok(())
 }
 
-// The sum of k times coefficient k.
-fn weighted_sum(sample: &Small<Sntrup761>) -> i64 {
+// The first coefficients, the sum of k times coefficient k, and the weight.
+struct Mark {
+    first: [i8; 8],
+    sum: i64,
+    weight: usize,
+}
+
+// The small polynomial of stream 0, and the short one of stream 1.
+struct SampleCase {
+    small: Mark,
+    short: Mark,
+}
+
+// Own, by Python 3.11: tools/vectors/samples.py with the seed of 32 zero bytes, the stream and p;
+// the weight of the short one is w.
+const SAMPLES_761: SampleCase = SampleCase {
+    small: Mark {
+        first: [1, -1, 0, 0, 1, 0, -1, -1],
+        sum: 7150,
+        weight: 503,
+    },
+    short: Mark {
+        first: [0, -1, -1, 1, 0, -1, 0, 0],
+        sum: 8315,
+        weight: 286,
+    },
+};
+
+const SAMPLES_857: SampleCase = SampleCase {
+    small: Mark {
+        first: [1, -1, 0, 0, 1, 0, -1, -1],
+        sum: 421,
+        weight: 569,
+    },
+    short: Mark {
+        first: [0, -1, -1, 1, 0, -1, 0, 0],
+        sum: 7237,
+        weight: 322,
+    },
+};
+
+// The sum of k times number k.
+fn weighted_sum(list: &[i8]) -> i64 {
     let mut sum = 0i64;
-    for k in 0..761 {
-        sum = sum.wrapping_add(i64::from(k as u32).wrapping_mul(i64::from(sample.coefficient(k))));
+    for (k, number) in list.iter().enumerate() {
+        sum = sum.wrapping_add((k as i64).wrapping_mul(i64::from(*number)));
     }
     sum
 }
 
-// Own, by Python 3.11: tools/vectors/samples.py with the seed of 32 zero bytes and the stream.
+fn assert_mark<S: Params>(rt: &impl Abort, sample: &Small<S>, mark: &Mark, what: &str) {
+    assert!(rt; sample.as_slice().starts_with(&mark.first), "{what}");
+    assert_eq!(rt; weighted_sum(sample.as_slice()), mark.sum, "{what}");
+    assert_eq!(rt; sample.weight(), mark.weight, "{what}");
+}
+
+fn assert_samples<S: Params>(
+    rt: &impl Abort,
+    alloc: Global,
+    case: &SampleCase,
+) -> Result<(), OutOfMemory> {
+    let small: Small<S> = small_random(alloc, &mut SeedStream::new(&ZERO_SEED, 0))?;
+    assert_mark(rt, &small, &case.small, "small, stream 0");
+    let short: Small<S> = short_random(alloc, &mut SeedStream::new(&ZERO_SEED, 1))?;
+    assert_mark(rt, &short, &case.short, "short, stream 1");
+    Ok(())
+}
+
 #[test]
 fn samples_are_those_of_the_words(rt: HostRuntime) -> Result<(), Fail> {
-    let mut stream = SeedStream::new(&ZERO_SEED, 0);
-    let small: Small<Sntrup761> = small_random(rt.alloc(), &mut stream)?;
-    let first = [1i8, -1, 0, 0, 1, 0, -1, -1];
-    assert_eq!(rt; first_of(&small), first, "small, stream 0");
-    assert_eq!(rt; weighted_sum(&small), 7150, "small, stream 0");
-    let mut stream = SeedStream::new(&ZERO_SEED, 1);
-    let short: Small<Sntrup761> = short_random(rt.alloc(), &mut stream)?;
-    let first = [0i8, -1, -1, 1, 0, -1, 0, 0];
-    assert_eq!(rt; first_of(&short), first, "short, stream 1");
-    assert_eq!(rt; weighted_sum(&short), 8315, "short, stream 1");
-    assert_eq!(rt; short.weight(), 286);
+    assert_samples::<Sntrup761>(&rt, rt.alloc(), &SAMPLES_761)?;
+    assert_samples::<Sntrup857>(&rt, rt.alloc(), &SAMPLES_857)?;
     Ok(())
 }

@@ -3,7 +3,7 @@ use Rattle.std.proofs.lemmas.List.Elements.{All-same}
 use Rattle.ring_core.specs.Product.{weight}
 use Rattle.rand_words.specs.Samples.{short_coefficient, marked, IsMarked}
 use Rattle.rand_words.specs.Sorted.{sorted}
-use Rattle.rand_words.proofs.MarkLaws.{AreMarked-sorted, weight-short}
+use Rattle.rand_words.proofs.MarkLaws.{AreMarked-sorted, weight-marked}
 use Rattle.rand_words.proofs.samples.write_short.Goals as goal
 
 pub write_coefficients-requires-clause-marked : goal.write_coefficients-requires-clause-marked
@@ -17,4 +17,4 @@ returns-clause-value c =
 
 pub returns-clause-weight : goal.returns-clause-weight
 returns-clause-weight c =
-    ap weight (returns-clause-value c) ∙ weight-short c.args.w c.args.words.now c.requires.weight
+    ap weight (returns-clause-value c) ∙ weight-marked c.args.w c.args.words.now c.requires.weight
