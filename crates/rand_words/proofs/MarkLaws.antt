@@ -8,7 +8,8 @@ use Rattle.std.proofs.lemmas.List.Elements.{All-append, All-map, All-cons, All-h
 use Rattle.std.proofs.lemmas.List.Sums.{sum_by-cons, sum_by-append}
 use Rattle.std.proofs.lemmas.Int.{ints}
 use Rattle.ring_core.specs.Product.{is_nonzero, weight}
-use Rattle.rand_words.specs.Samples.{marked_nonzero, marked_zero, marked, short_coefficient, IsMarked}
+use Rattle.ring_core.specs.Sets.{Set}
+use Rattle.rand_words.specs.Samples.{marked_nonzero, marked_zero, marked, short_coefficient, short, IsMarked}
 use Rattle.rand_words.specs.Sorted.{sorted, insert_sorted}
 use Rattle.rand_words.proofs.SortedOnce.{count_by-sorted}
 
@@ -78,3 +79,6 @@ weight-marked w words h =
       all_pass p marked_zero false gives_zero (drop w words),
       length-take w words,
     )
+
+pub weight-short : (set : Set) (words : List ℕ) → set.w ≤ length words → weight (short set words) ≡ set.w
+weight-short set words h = weight-marked set.w words h

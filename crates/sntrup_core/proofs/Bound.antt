@@ -14,6 +14,7 @@ use Rattle.ring_core.proofs.SeriesLaws.{conv_comm}
 use Rattle.ring_core.proofs.ElementLaws.{IsCentred-small}
 use Rattle.ring_inverse.proofs.CongruenceLaws.{wrapped_scale}
 use Rattle.ring_inverse.proofs.ReciprocalLaws.{wrapped_none}
+use Rattle.ring_core.specs.Sets.{Set}
 use Rattle.sntrup_core.specs.Laws.{IsShort, SumsAreBounded}
 
 -- the absolute values of the first n coefficients, added up
@@ -113,20 +114,22 @@ magnitude_is (x ∷ xs) h =
     magnitude-first (length xs) (coefficients (x ∷ xs))
     ∙ omega (arith, counted_once x (h 0), magnitude_is xs (λ k. h (suc k)), sum_by-cons (λ y. cond (is_nonzero y) 1 0) x xs)
 
-short_magnitude : (p w : ℕ) (a : List ℤ) → IsShort p w a → magnitude p (coefficients a) ≤ w
-short_magnitude p w a s =
+short_magnitude : (set : Set) (a : List ℤ) → IsShort set a → magnitude set.p (coefficients a) ≤ set.w
+short_magnitude set a s =
     omega (
       arith,
       ap {B = ℕ} (λ n. magnitude n (coefficients a)) s.0.0,
-      magnitude_is a (IsCentred-small p a s.0),
+      magnitude_is a (IsCentred-small set.p a s.0),
       s.1,
     )
 
 pub sums_bounded : SumsAreBounded
-sums_bounded p w g r f m sg sr sf sm k l =
+sums_bounded set g r f m sg sr sf sm k l =
+    let p = set.p in
+    let w = set.w in
     let turned : conv (coefficients g) (coefficients r) ≡ conv (coefficients r) (coefficients g) =
     same_series (conv (coefficients g) (coefficients r)) (conv (coefficients r) (coefficients g)) (conv_comm (coefficients g) (coefficients r))
     in
-    let bound = lattice_small p k w (coefficients f) (coefficients g) (coefficients r) (coefficients m) l (list_ends p f sf.0.0) (list_ends p g sg.0) (list_ends p r sr.0.0) (list_ends p m sm.0) (short_magnitude p w f sf) (short_magnitude p w r sr) (IsCentred-small p g sg) (IsCentred-small p m sm) in
+    let bound = lattice_small p k w (coefficients f) (coefficients g) (coefficients r) (coefficients m) l (list_ends p f sf.0.0) (list_ends p g sg.0) (list_ends p r sr.0.0) (list_ends p m sm.0) (short_magnitude set f sf) (short_magnitude set r sr) (IsCentred-small p g sg) (IsCentred-small p m sm) in
     let P : Series → Type 0 = λ u. unsigned_abs (wrapped p u k +ℤ pos 3 *ℤ wrapped p (conv (coefficients f) (coefficients m)) k) ≤ 8 * w in
     subst P (sym turned) bound

@@ -1,10 +1,10 @@
 //! Encryption and decryption.
 
-ghost use Rattle.std.specs.Prelude.{◌≡◌, pos, ◌*ℤ◌, ◌≤◌, map, vec_len, IfOk};
+ghost use Rattle.std.specs.Prelude.{◌≡◌, pos, ◌-◌, ◌*ℤ◌, ◌≤◌, ◌++◌, map, replicate, vec_len, IfOk};
 ghost use Rattle.ring_core.specs.Bounds.{IsWithin};
 ghost use Rattle.ring_core.specs.Product.{centred, product};
 ghost use Rattle.ring_inverse.specs.Reciprocals.{triple};
-ghost use Rattle.sntrup_core.specs.Encryption.{rounded, encrypted, decrypted, ones};
+ghost use Rattle.sntrup_core.specs.Encryption.{rounded, encrypted, decrypted};
 
 use crate::keys::{PublicPoly, SecretPolys};
 use ring_core::{Multiplier, Params, Rq, Small};
@@ -73,7 +73,7 @@ pub fn encrypt<S: Params, M: Multiplier>(
     r: &Small<S>,
     public: &PublicPoly<S>,
 ) -> Result<Rq<S>, OutOfMemory>
-    ensures { IfOk result (λ c. c ≡ encrypted S.P S.modulus r.now public.now.h) }
+    ensures { IfOk result (λ c. c ≡ encrypted S.set r.now public.now.h) }
 {
     let product = mult.mul_q_small(alloc, &public.h, r)?;
     let numbers = round_all(alloc, product.as_slice())?;
@@ -87,7 +87,7 @@ fn times_3f<S: Params, M: Multiplier>(
     c: &Rq<S>,
     f: &Small<S>,
 ) -> Result<Rq<S>, OutOfMemory>
-    ensures { IfOk result (λ e. e ≡ product S.modulus S.P (triple f.now) c.now) }
+    ensures { IfOk result (λ e. e ≡ product S.set.q S.set.p (triple f.now) c.now) }
 {
     let product = mult.mul_q_small(alloc, c, f)?;
     let numbers = triple_all(alloc, product.as_slice())?;
@@ -99,7 +99,8 @@ fn ones_and_zeros(alloc: Global, p: usize, w: usize) -> Result<Vec<i8>, OutOfMem
     requires { w ≤ p }
     ensures count { IfOk result (λ v. vec_len v ≡ p) }
     ensures small { IfOk result (λ v. IsWithin 1 v.items) }
-    ensures list { IfOk result (λ v. v.items ≡ ones p w) }
+    ensures list { IfOk result (λ v. v.items
+        ≡ replicate w (pos 1) ++ replicate (p - w) (pos 0)) }
 {
     let mut list = vec![in alloc; 1i8; w]?;
     let zeros = vec![in alloc; 0i8; p - w]?;
@@ -116,11 +117,10 @@ pub fn decrypt<S: Params, M: Multiplier>(
     c: &Rq<S>,
     secret: &SecretPolys<S>,
 ) -> Result<Small<S>, OutOfMemory>
-    ensures { IfOk result (λ r. r
-        ≡ decrypted S.P S.modulus S.W c.now secret.now.f secret.now.ginv) }
+    ensures { IfOk result (λ r. r ≡ decrypted S.set c.now secret.now.f secret.now.ginv) }
 {
-    let masked = times_3f(alloc, mult, c, &secret.f)?;
-    let e = Small::from_vec(residues_3(alloc, masked.as_slice())?);
+    let tripled = times_3f(alloc, mult, c, &secret.f)?;
+    let e = Small::from_vec(residues_3(alloc, tripled.as_slice())?);
     let r = mult.mul_3(alloc, &e, &secret.ginv)?;
     if r.weight() == S::W {
         Ok(r)

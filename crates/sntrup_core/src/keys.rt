@@ -3,7 +3,7 @@
 ghost use Rattle.std.specs.Prelude.{◌≡◌, ◌≢◌, ◌↔◌, ℕ, ◌+◌, ◌*◌, ◌^◌, ◌≤◌, IfOk, IfSome, IfNone, OnOk, Some};
 ghost use Rattle.ring_inverse.specs.Reciprocals.{HasInverse};
 ghost use Rattle.rand_words.specs.Samples.{small};
-ghost use Rattle.rand_words.specs.Words.{words_from};
+ghost use Rattle.rand_words.specs.Words.{words_from, TakesAtMost};
 ghost use Rattle.sntrup_core.specs.declared.keys.KeyFault.TheVariants.{OutOfMemory};
 ghost use Rattle.sntrup_core.specs.Faults.{fault_text};
 ghost use Rattle.sntrup_core.specs.Keys.{FindsG, IsExhausted, FindsNoInverse, IsKey, IsInvertible, IsFoundWith};
@@ -38,6 +38,12 @@ pub enum KeyFault {
     /// Memory ran out.
     OutOfMemory = 3,
 }
+
+const _: () = prove!(KeyFault::Exhausted as u8 == 1);
+
+const _: () = prove!(KeyFault::NoInverse as u8 == 2);
+
+const _: () = prove!(KeyFault::OutOfMemory as u8 == 3);
 
 impl fmt::Display for KeyFault {
     ghost output = { λ fault. Some (fault_text fault) };
@@ -76,12 +82,13 @@ fn draw_invertible<S: Params, R: Words, M: Multiplier>(
     words: &mut R,
     mult: &M,
 ) -> Result<Option<Invertible<S>>, AllocError>
-    requires { R.place words.old + S.P ≤ 2 ^ 32 }
+    requires { R.place words.old + S.set.p ≤ 2 ^ 32 }
     ensures some { IfOk result (λ drawn. IfSome drawn (λ a.
-        IsInvertible S.P (R.word words.old) (R.place words.old) a.g a.ginv)) }
-    ensures none { IfOk result (λ drawn. IfNone drawn
-        (¬ HasInverse 3 S.P (small (words_from (R.word words.old) (R.place words.old) S.P)))) }
-    ensures taken { OnOk result (R.place words.new ≡ R.place words.old + S.P) }
+        IsInvertible S.set (R.word words.old) (R.place words.old) a.g a.ginv)) }
+    ensures none { IfOk result (λ drawn. IfNone drawn (¬ HasInverse 3 S.set.p
+        (small S.set (words_from (R.word words.old) (R.place words.old) S.set.p)))) }
+    ensures taken { OnOk result (R.place words.new ≡ R.place words.old + S.set.p) }
+    ensures at_most { TakesAtMost S.set.p (R.place words.old) (R.place words.new) }
     ensures stays { R.word words.new ≡ R.word words.old }
 {
     let g = small_random::<S, R>(alloc, words)?;
@@ -98,12 +105,13 @@ fn find_invertible<S: Params, R: Words, M: Multiplier>(
     words: &mut R,
     mult: &M,
 ) -> Result<Option<Invertible<S>>, AllocError>
-    requires { R.place words.old + 64 * S.P ≤ 2 ^ 32 }
-    ensures some { IfOk result (λ drawn. IfSome drawn (λ a. IsFoundWith S.P (R.word words.old)
+    requires { R.place words.old + 64 * S.set.p ≤ 2 ^ 32 }
+    ensures some { IfOk result (λ drawn. IfSome drawn (λ a. IsFoundWith S.set (R.word words.old)
         (R.place words.old) (R.place words.new) a.g a.ginv)) }
     ensures none { IfOk result (λ drawn. IfNone drawn
-        (IsExhausted S.P (R.word words.old) (R.place words.old)
-        × (R.place words.new ≡ R.place words.old + 64 * S.P))) }
+        (IsExhausted S.set (R.word words.old) (R.place words.old)
+        × (R.place words.new ≡ R.place words.old + 64 * S.set.p))) }
+    ensures at_most { TakesAtMost (64 * S.set.p) (R.place words.old) (R.place words.new) }
     ensures stays { R.word words.new ≡ R.word words.old }
 {
     for _draw in 0..MOST_DRAWS {
@@ -119,26 +127,27 @@ fn find_invertible<S: Params, R: Words, M: Multiplier>(
 /// KeyGen (NTRU Prime round 3): a key from random words.
 ///
 /// Draws g until it has an inverse in R/3, at most 64 times; then f; then h is g/(3f). Takes
-/// 64 p words where there is no g, and else p for each draw of g and p for f: at most 65 p. After
-/// `OutOfMemory` some words may have been taken.
+/// 64 p words where there is no g, and else p for each draw of g and p for f. After `OutOfMemory`
+/// some of them may have been taken, and never more.
 pub fn keygen<S: Params, R: Words, M: Multiplier>(
     alloc: Global,
     words: &mut R,
     mult: &M,
 ) -> Result<(PublicPoly<S>, SecretPolys<S>), KeyFault>
-    requires { R.place words.old + 65 * S.P ≤ 2 ^ 32 }
-    ensures key { IfOk result (λ k. (j : ℕ) × FindsG S.P (R.word words.old) (R.place words.old) j
-        × IsKey S.P S.modulus S.W (R.word words.old) (R.place words.old) j
+    requires { R.place words.old + 65 * S.set.p ≤ 2 ^ 32 }
+    ensures key { IfOk result (λ k. (j : ℕ) × FindsG S.set (R.word words.old) (R.place words.old) j
+        × IsKey S.set (R.word words.old) (R.place words.old) j
         k.0.h k.1.f k.1.ginv) }
     ensures exhausted { result ≢ Err KeyFault.OutOfMemory → ((result ≡ Err KeyFault.Exhausted)
-        ↔ IsExhausted S.P (R.word words.old) (R.place words.old)) }
+        ↔ IsExhausted S.set (R.word words.old) (R.place words.old)) }
     ensures no_inverse { result ≢ Err KeyFault.OutOfMemory → ((result ≡ Err KeyFault.NoInverse)
-        ↔ FindsNoInverse S.P S.modulus S.W (R.word words.old) (R.place words.old)) }
+        ↔ FindsNoInverse S.set (R.word words.old) (R.place words.old)) }
     ensures taken { result ≢ Err KeyFault.OutOfMemory
-        → (j : ℕ) → FindsG S.P (R.word words.old) (R.place words.old) j
-        → R.place words.new ≡ R.place words.old + (j + 2) * S.P }
+        → (j : ℕ) → FindsG S.set (R.word words.old) (R.place words.old) j
+        → R.place words.new ≡ R.place words.old + (j + 2) * S.set.p }
     ensures exhausted_taken { result ≡ Err KeyFault.Exhausted
-        → R.place words.new ≡ R.place words.old + 64 * S.P }
+        → R.place words.new ≡ R.place words.old + 64 * S.set.p }
+    ensures at_most { TakesAtMost (65 * S.set.p) (R.place words.old) (R.place words.new) }
     ensures stays { R.word words.new ≡ R.word words.old }
 {
     let drawn = find_invertible::<S, R, M>(alloc, words, mult)?;
@@ -147,17 +156,10 @@ pub fn keygen<S: Params, R: Words, M: Multiplier>(
     };
     let f = short_random::<S, R>(alloc, words)?;
     let reciprocal = reciprocal_3f(alloc, mult, &f)?;
-    match reciprocal {
-        Reciprocal::Inverse(v) => {
-            let h = mult.mul_q_small(alloc, &v, &found.g)?;
-            Ok((
-                PublicPoly { h },
-                SecretPolys {
-                    f,
-                    ginv: found.ginv,
-                },
-            ))
-        }
-        Reciprocal::Annihilator(_) => Err(KeyFault::NoInverse),
-    }
+    let Reciprocal::Inverse(v) = reciprocal else {
+        return Err(KeyFault::NoInverse);
+    };
+    let h = mult.mul_q_small(alloc, &v, &found.g)?;
+    let ginv = found.ginv;
+    Ok((PublicPoly { h }, SecretPolys { f, ginv }))
 }

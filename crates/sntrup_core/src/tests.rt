@@ -1,12 +1,14 @@
-ghost use Rattle.std.specs.Prelude.{◌≡◌, ◌-◌};
+ghost use Rattle.std.specs.Prelude.{◌≡◌, ◌-◌, ◌≤◌};
 
 use crate::{KeyFault, PublicPoly, SecretPolys, decrypt, encrypt, keygen};
 use rand_words::{SeedStream, Words, short_random};
-use ring_core::{Plain, Rq, Small, Sntrup761};
+use ring_core::{Params, Plain, Small, Sntrup761, Sntrup857};
 use std::alloc::{AllocError as OutOfMemory, Global};
 use std::process::Abort;
 use std::test::Fail;
 
+// The key of stream 0 of 32 times the seed's byte, and c, to which the short r of stream 1 is
+// encrypted: the first four coefficients, and the sum of k times coefficient k.
 struct KeyCase {
     seed: u8,
     h: [i64; 5],
@@ -16,11 +18,9 @@ struct KeyCase {
     c: [i64; 5],
 }
 
-// The keys of stream 0 of 32 times the seed's byte, and c, to which the short r of stream 1 is
-// encrypted: the first four coefficients, and the sum of k times coefficient k. By Python 3.11:
-// tools/vectors/sntrup761.py, which compares the bytes of these keys and ciphertexts with those of
-// the C implementation of OpenSSH 9.2p1.
-const KEYS: [KeyCase; 3] = [
+// By Python 3.11: tools/vectors/sntrup.py, which compares the bytes of these keys and ciphertexts
+// with those of the C implementation of OpenSSH 9.2p1.
+const KEYS_761: [KeyCase; 3] = [
     KeyCase {
         seed: 0,
         h: [542, 1558, 795, 1211, 12292550],
@@ -47,90 +47,119 @@ const KEYS: [KeyCase; 3] = [
     },
 ];
 
-// The sum of k times coefficient k.
-fn sum_of_rq(element: &Rq<Sntrup761>) -> i64 {
-    let mut sum = 0i64;
-    for k in 0..761 {
-        sum = sum.wrapping_add(i64::from(k as u32).wrapping_mul(i64::from(element.coefficient(k))));
-    }
-    sum
-}
+// By the same tool, which compares their bytes with those of libntruprime 20241021.
+const KEYS_857: [KeyCase; 3] = [
+    KeyCase {
+        seed: 0,
+        h: [-1154, 1688, 675, -314, -38152363],
+        f: [0, 0, 1, 1, -3876],
+        ginv: [-1, 1, 0, 1, 1870],
+        r: [0, -1, -1, 1, 7237],
+        c: [-105, -1815, 1014, 363, -30239613],
+    },
+    KeyCase {
+        seed: 1,
+        h: [-1436, -1939, -735, 1609, 30461944],
+        f: [1, 0, -1, 0, -22085],
+        ginv: [1, 0, 1, 0, 13222],
+        r: [0, 1, -1, 1, -2440],
+        c: [1986, -1830, -429, -537, 10627452],
+    },
+    KeyCase {
+        seed: 2,
+        h: [-1193, -585, -742, -1518, 28900665],
+        f: [0, -1, 0, 0, 5233],
+        ginv: [-1, 0, 1, 1, -4762],
+        r: [-1, 0, 0, -1, 16734],
+        c: [2331, -822, -330, 789, 3359259],
+    },
+];
 
-fn sum_of_small(element: &Small<Sntrup761>) -> i64 {
-    let mut sum = 0i64;
-    for k in 0..761 {
-        sum = sum.wrapping_add(i64::from(k as u32).wrapping_mul(i64::from(element.coefficient(k))));
-    }
-    sum
-}
-
-fn mark_of_rq(element: &Rq<Sntrup761>) -> [i64; 5] {
+// The first four numbers, and the sum of k times number k.
+fn mark_of(list: &[i16]) -> [i64; 5] {
     let mut mark = [0i64; 5];
-    for k in 0..4 {
-        mark[k] = i64::from(element.coefficient(k));
+    for (k, number) in list.iter().enumerate() {
+        let number = i64::from(*number);
+        if k < 4 {
+            mark[k] = number;
+        }
+        mark[4] = mark[4].wrapping_add((k as i64).wrapping_mul(number));
     }
-    mark[4] = sum_of_rq(element);
     mark
 }
 
-fn mark_of_small(element: &Small<Sntrup761>) -> [i64; 5] {
+fn mark_of_small(list: &[i8]) -> [i64; 5] {
     let mut mark = [0i64; 5];
-    for k in 0..4 {
-        mark[k] = i64::from(element.coefficient(k));
+    for (k, number) in list.iter().enumerate() {
+        let number = i64::from(*number);
+        if k < 4 {
+            mark[k] = number;
+        }
+        mark[4] = mark[4].wrapping_add((k as i64).wrapping_mul(number));
     }
-    mark[4] = sum_of_small(element);
     mark
 }
 
-fn key_of(
-    alloc: Global,
-    seed: u8,
-) -> Result<(PublicPoly<Sntrup761>, SecretPolys<Sntrup761>), KeyFault> {
-    let mut words = SeedStream::new(&[seed; 32], 0);
-    keygen::<Sntrup761, SeedStream, Plain>(alloc, &mut words, &Plain)
+fn key_of<S: Params>(alloc: Global, seed: u8) -> Result<(PublicPoly<S>, SecretPolys<S>), KeyFault> {
+    keygen(alloc, &mut SeedStream::new(&[seed; 32], 0), &Plain)
 }
 
-fn short_of(alloc: Global, seed: u8) -> Result<Small<Sntrup761>, OutOfMemory> {
-    let mut words = SeedStream::new(&[seed; 32], 1);
-    short_random::<Sntrup761, SeedStream>(alloc, &mut words)
+fn short_of<S: Params>(alloc: Global, seed: u8) -> Result<Small<S>, OutOfMemory> {
+    short_random(alloc, &mut SeedStream::new(&[seed; 32], 1))
 }
 
-fn assert_key(
+fn assert_key<S: Params>(
     rt: &impl Abort,
     case: &KeyCase,
-    public: &PublicPoly<Sntrup761>,
-    secret: &SecretPolys<Sntrup761>,
+    public: &PublicPoly<S>,
+    secret: &SecretPolys<S>,
 ) {
     let seed = case.seed;
-    assert_eq!(rt; mark_of_rq(&public.h), case.h, "h, seed {seed}");
-    assert_eq!(rt; mark_of_small(&secret.f), case.f, "f, seed {seed}");
-    assert_eq!(rt; mark_of_small(&secret.ginv), case.ginv, "1/g, seed {seed}");
+    assert_eq!(rt; mark_of(public.h.as_slice()), case.h, "h, seed {seed}");
+    assert_eq!(rt;
+        mark_of_small(secret.f.as_slice()),
+        case.f,
+        "f, seed {seed}"
+    );
+    assert_eq!(rt;
+        mark_of_small(secret.ginv.as_slice()),
+        case.ginv,
+        "1/g, seed {seed}"
+    );
 }
 
 // Encrypts the short r of the case, and decrypts it.
-fn assert_round_trip(
+fn assert_round_trip<S: Params>(
     rt: &impl Abort,
     alloc: Global,
     case: &KeyCase,
-    public: &PublicPoly<Sntrup761>,
-    secret: &SecretPolys<Sntrup761>,
+    public: &PublicPoly<S>,
+    secret: &SecretPolys<S>,
 ) -> Result<(), OutOfMemory> {
     let seed = case.seed;
-    let r = short_of(alloc, seed)?;
-    assert_eq!(rt; mark_of_small(&r), case.r, "r, seed {seed}");
+    let r = short_of::<S>(alloc, seed)?;
+    assert_eq!(rt; mark_of_small(r.as_slice()), case.r, "r, seed {seed}");
     let c = encrypt(alloc, &Plain, &r, public)?;
-    assert_eq!(rt; mark_of_rq(&c), case.c, "c, seed {seed}");
+    assert_eq!(rt; mark_of(c.as_slice()), case.c, "c, seed {seed}");
     let decrypted = decrypt(alloc, &Plain, &c, secret)?;
     assert_eq!(rt; decrypted.as_slice(), r.as_slice(), "seed {seed}");
     Ok(())
 }
 
+fn assert_case<S: Params>(rt: &impl Abort, alloc: Global, case: &KeyCase) -> Result<(), KeyFault> {
+    let (public, secret) = key_of::<S>(alloc, case.seed)?;
+    assert_key(rt, case, &public, &secret);
+    assert_round_trip(rt, alloc, case, &public, &secret)?;
+    Ok(())
+}
+
 #[test]
 fn keys_are_those_of_the_standard_and_decrypt_exactly(rt: HostRuntime) -> Result<(), Fail> {
-    for case in &KEYS {
-        let (public, secret) = key_of(rt.alloc(), case.seed)?;
-        assert_key(&rt, case, &public, &secret);
-        assert_round_trip(&rt, rt.alloc(), case, &public, &secret)?;
+    for case in &KEYS_761 {
+        assert_case::<Sntrup761>(&rt, rt.alloc(), case)?;
+    }
+    for case in &KEYS_857 {
+        assert_case::<Sntrup857>(&rt, rt.alloc(), case)?;
     }
     Ok(())
 }
@@ -178,23 +207,50 @@ fn middle_then_stream(middle: u64) -> Late
     }
 }
 
+// `count` is 64 p.
+fn assert_exhausted<S: Params>(rt: &impl Abort, alloc: Global, count: u64) {
+    let mut words = middle_then_stream(count);
+    let made = keygen::<S, Late, Plain>(alloc, &mut words, &Plain);
+    assert_eq!(rt; made.err(), Some(KeyFault::Exhausted), "{count} words");
+    assert_eq!(rt; words.given, count);
+}
+
 #[test]
 fn no_g_in_64_draws_is_exhausted(rt: HostRuntime) {
-    let mut words = middle_then_stream(64 * 761);
-    let result = keygen::<Sntrup761, Late, Plain>(rt.alloc(), &mut words, &Plain);
-    let fault = match result {
-        Ok(_) => None,
-        Err(fault) => Some(fault),
-    };
-    assert_eq!(rt; fault, Some(KeyFault::Exhausted));
-    assert_eq!(rt; words.given, 48_704);
+    assert_exhausted::<Sntrup761>(&rt, rt.alloc(), 48_704);
+    assert_exhausted::<Sntrup857>(&rt, rt.alloc(), 54_848);
+}
+
+fn assert_drawn_again<S: Params>(
+    rt: &impl Abort,
+    alloc: Global,
+    case: &KeyCase,
+) -> Result<(), KeyFault> {
+    let mut words = middle_then_stream(S::P as u64);
+    let (public, secret) = keygen::<S, Late, Plain>(alloc, &mut words, &Plain)?;
+    assert_key(rt, case, &public, &secret);
+    Ok(())
 }
 
 #[test]
 fn a_zero_g_is_drawn_again(rt: HostRuntime) -> Result<(), Fail> {
-    let mut words = middle_then_stream(761);
-    let (public, secret) = keygen::<Sntrup761, Late, Plain>(rt.alloc(), &mut words, &Plain)?;
-    let [case, ..] = &KEYS;
-    assert_key(&rt, case, &public, &secret);
+    assert_drawn_again::<Sntrup761>(&rt, rt.alloc(), &KEYS_761[0])?;
+    assert_drawn_again::<Sntrup857>(&rt, rt.alloc(), &KEYS_857[0])?;
+    Ok(())
+}
+
+#[test]
+fn each_fault_is_printed(rt: HostRuntime) -> Result<(), Fail> {
+    for (fault, text) in [
+        (
+            KeyFault::Exhausted,
+            "no polynomial drawn for g has an inverse",
+        ),
+        (KeyFault::NoInverse, "3f has no inverse"),
+        (KeyFault::OutOfMemory, "out of memory"),
+    ] {
+        let printed = format!(in rt.alloc(); "{fault}")?;
+        assert_eq!(rt; printed.as_str(), text);
+    }
     Ok(())
 }

@@ -16,7 +16,7 @@ draw_invertible-requires g c =
     omega (
       arith,
       c.loop-draw.invariant.place,
-      room_for_draw g.S.Params.P (g.R.Words.place c.args.words.now) c.loop-draw._draw (omega arith) c.requires,
+      room_for_draw g.S.Params.set.p (g.R.Words.place c.args.words.now) c.loop-draw._draw (omega arith) c.requires,
     )
 
 pub loop-draw-preserved : goal.loop-draw-preserved
@@ -26,13 +26,13 @@ loop-draw-preserved g c =
       place = omega (arith, c.in_ok-drawn.ensures.taken, c.loop-draw.invariant.place);
       stays = c.in_ok-drawn.ensures.stays ∙ c.loop-draw.invariant.stays;
       none =
-          FindsNone-more g.S.Params.P (g.R.Words.word c.args.words.now) (g.R.Words.word c.loop-draw.words) (g.R.Words.place c.args.words.now) (g.R.Words.place c.loop-draw.words) c.loop-draw._draw c.loop-draw.invariant.stays c.loop-draw.invariant.place c.loop-draw.invariant.none here;
+          FindsNone-more g.S.Params.set (g.R.Words.word c.args.words.now) (g.R.Words.word c.loop-draw.words) (g.R.Words.place c.args.words.now) (g.R.Words.place c.loop-draw.words) c.loop-draw._draw c.loop-draw.invariant.stays c.loop-draw.invariant.place c.loop-draw.invariant.none here;
     }
 
 pub returns-in-Some-clause-some : goal.returns-in-Some-clause-some
 returns-in-Some-clause-some g c =
     let here = rw c.in-Some.is at c.in_ok-drawn.ensures.some in
-    found_with g.S.Params.P (g.R.Words.word c.args.words.now) (g.R.Words.word c.loop-draw.words) (g.R.Words.place c.args.words.now) (g.R.Words.place c.loop-draw.words) (g.R.Words.place c.draw_invertible.new.words) c.loop-draw._draw c.in-Some.found.g c.in-Some.found.ginv c.loop-draw.invariant.stays c.loop-draw.invariant.place (omega arith) c.loop-draw.invariant.none here c.in_ok-drawn.ensures.taken
+    found_with g.S.Params.set (g.R.Words.word c.args.words.now) (g.R.Words.word c.loop-draw.words) (g.R.Words.place c.args.words.now) (g.R.Words.place c.loop-draw.words) (g.R.Words.place c.draw_invertible.new.words) c.loop-draw._draw c.in-Some.found.g c.in-Some.found.ginv c.loop-draw.invariant.stays c.loop-draw.invariant.place (omega arith) c.loop-draw.invariant.none here c.in_ok-drawn.ensures.taken
 
 pub returns-in-Some-clause-stays : goal.returns-in-Some-clause-stays
 returns-in-Some-clause-stays g c = c.in_ok-drawn.ensures.stays ∙ c.loop-draw.invariant.stays
@@ -42,5 +42,5 @@ unfolding IsExhausted FindsNone
 returns-clause-none g c =
     let end : c.loop-draw._draw ≡ 64 = omega arith in (
       λ i l. c.loop-draw.invariant.none i (omega arith),
-      omega (arith, c.loop-draw.invariant.place, ap {B = ℕ} (λ t. t * g.S.Params.P) end),
+      omega (arith, c.loop-draw.invariant.place, ap {B = ℕ} (λ t. t * g.S.Params.set.p) end),
     )
