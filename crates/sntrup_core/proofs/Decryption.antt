@@ -11,7 +11,7 @@ use Rattle.ring_core.proofs.QuotientLaws.{same_series}
 use Rattle.ring_core.proofs.SeriesLaws.{conv_add}
 use Rattle.ring_core.proofs.ResidueLaws.{SameModulo, modulo_same, modulo_trans, modulo_add, modulo_refl, centred_same}
 use Rattle.ring_core.proofs.Reduce.{centred_three}
-use Rattle.ring_core.proofs.ElementLaws.{IsCentred-from_small}
+use Rattle.ring_core.proofs.ElementLaws.{IsCentred-from_small, map_at}
 use Rattle.ring_core.proofs.ProductLaws.{made_at, wrapped_add, product_comm, product_assoc, product_one}
 use Rattle.ring_inverse.specs.Reciprocals.{triple, IsInverse}
 use Rattle.ring_inverse.proofs.CongruenceLaws.{modulo_from_centred}
@@ -21,8 +21,8 @@ use Rattle.rand_words.proofs.SampleLaws.{IsCentred-small_words, IsCentred-short_
 use Rattle.sntrup_core.specs.Keys.{drawn_g, drawn_f}
 use Rattle.sntrup_core.specs.Encryption.{rounded, encrypted, e_of, shortened, decrypted, ones}
 use Rattle.sntrup_core.specs.Laws.{IsSmall, IsShort, whole_sum, DecryptsExactly}
-use Rattle.sntrup_core.proofs.Residues.{centred_own, map_at}
-use Rattle.sntrup_core.proofs.Triple.{times_comm, triple_times}
+use Rattle.ring_inverse.proofs.TripleLaws.{times_comm, triple_times}
+use Rattle.sntrup_core.proofs.Residues.{centred_own}
 use Rattle.sntrup_core.proofs.Bound.{sums_bounded}
 
 -- what rounding adds

@@ -10,7 +10,7 @@ use Rattle.rand_words.specs.Words.{words_from}
 use Rattle.rand_words.proofs.SampleLaws.{IsCentred-small_words, IsCentred-short_words, length-words_from}
 use Rattle.sntrup_core.specs.Keys.{drawn_g, drawn_f, FindsNone, FindsG, IsExhausted, FindsNoInverse, IsKey, IsInvertible, IsFoundWith}
 use Rattle.sntrup_core.proofs.Residues.{IsCentred-from_3}
-use Rattle.sntrup_core.proofs.Triple.{quotient_is}
+use Rattle.sntrup_core.proofs.Quotient.{quotient_is}
 
 pub room_for_draw : (p place j : ℕ) → j < 64 → place + 64 * p ≤ 2 ^ 32 → place + j * p + p ≤ 2 ^ 32
 room_for_draw p place j l h = omega (arith, mul-le (j + 1) p 64 p (omega arith) (omega arith))

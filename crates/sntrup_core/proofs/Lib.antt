@@ -1,5 +1,5 @@
 pub mod Residues
-pub mod Triple
+pub mod Quotient
 pub mod Draws
 pub mod Bound
 pub mod Decryption

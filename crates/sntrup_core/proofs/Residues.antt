@@ -8,7 +8,7 @@ use Rattle.ring_core.specs.Product.{coefficients, centred, IsCentred}
 use Rattle.ring_core.specs.Bounds.{IsWithin}
 use Rattle.ring_core.proofs.ResidueLaws.{SameModulo, remainder_of, one_remainder, modulo_centred}
 use Rattle.ring_core.proofs.Reduce.{centred_three}
-use Rattle.ring_core.proofs.ElementLaws.{IsCentred-small}
+use Rattle.ring_core.proofs.ElementLaws.{IsCentred-small, map_at}
 use Rattle.ring_inverse.proofs.AnswerLaws.{map-centred}
 use Rattle.sntrup_core.specs.Encryption.{rounded}
 
@@ -29,14 +29,6 @@ rounded_within : (z : ℤ) (n : ℕ) → n % 3 ≡ 0 → unsigned_abs z ≤ n �
 rounded_within z n thirds l =
     let s : SameModulo 3 (centred 3 z) z = modulo_centred 3 z (omega arith) in
     omega (arith, ints, s.is, centred_three z)
-
-pub map_at : (f : ℤ → ℤ) (xs : List ℤ) → f (pos 0) ≡ pos 0 → (k : ℕ) → coefficients (map f xs) k ≡ f (coefficients xs k)
-map_at f xs z k =
-    elim (cases_lt k (length xs)) [
-      | inl l ↦ get_or-map f xs k (pos 0) (pos 0) l
-      | inr l ↦ get_or_past (map f xs) k (pos 0) (omega (arith, length-map xs f))
-          ∙ sym (ap f (get_or_past xs k (pos 0) l) ∙ z)
-    ]
 
 pub IsCentred-rounded : (q p : ℕ) (xs : List ℤ) → 0 < q → q % 2 ≡ 1 → (q - 1) / 2 % 3 ≡ 0 → IsCentred q p xs → IsCentred q p (map rounded xs)
 IsCentred-rounded q p xs h odd thirds c = (

@@ -1,13 +1,13 @@
 //! Encryption and decryption.
 
-ghost use Rattle.std.specs.Prelude.{◌≡◌, pos, ◌-◌, ◌*ℤ◌, ◌≤◌, ◌++◌, map, replicate, vec_len, IfOk};
+ghost use Rattle.std.specs.Prelude.{◌≡◌, pos, ◌-◌, ◌≤◌, ◌++◌, map, replicate, vec_len, IfOk};
 ghost use Rattle.ring_core.specs.Bounds.{IsWithin};
-ghost use Rattle.ring_core.specs.Product.{centred, product};
-ghost use Rattle.ring_inverse.specs.Reciprocals.{triple};
+ghost use Rattle.ring_core.specs.Product.{centred};
 ghost use Rattle.sntrup_core.specs.Encryption.{rounded, encrypted, decrypted};
 
 use crate::keys::{PublicPoly, SecretPolys};
 use ring_core::{Multiplier, Params, Rq, Small};
+use ring_inverse::times_3f;
 use std::alloc::{AllocError as OutOfMemory, Global};
 
 // The centred residue modulo 3.
@@ -31,24 +31,6 @@ fn round_all(alloc: Global, list: &[i16]) -> Result<Vec<i32>, OutOfMemory>
     let mut numbers = Vec::with_capacity(alloc, list.len())?;
     for number in list {
         numbers.push(round(*number))?;
-    }
-    Ok(numbers)
-}
-
-// Three times the number.
-fn triple_of(number: i16) -> i32
-    ensures { result ≡ pos 3 *ℤ number }
-{
-    3 * i32::from(number)
-}
-
-// The numbers of the list, times 3.
-fn triple_all(alloc: Global, list: &[i16]) -> Result<Vec<i32>, OutOfMemory>
-    ensures { IfOk result (λ v. v.items ≡ map (λ z. pos 3 *ℤ z) list.now) }
-{
-    let mut numbers = Vec::with_capacity(alloc, list.len())?;
-    for number in list {
-        numbers.push(triple_of(*number))?;
     }
     Ok(numbers)
 }
@@ -77,20 +59,6 @@ pub fn encrypt<S: Params, M: Multiplier>(
 {
     let product = mult.mul_q_small(alloc, &public.h, r)?;
     let numbers = round_all(alloc, product.as_slice())?;
-    Rq::from_coefficients(alloc, &numbers)
-}
-
-// 3 f c in R/q.
-fn times_3f<S: Params, M: Multiplier>(
-    alloc: Global,
-    mult: &M,
-    c: &Rq<S>,
-    f: &Small<S>,
-) -> Result<Rq<S>, OutOfMemory>
-    ensures { IfOk result (λ e. e ≡ product S.set.q S.set.p (triple f.now) c.now) }
-{
-    let product = mult.mul_q_small(alloc, c, f)?;
-    let numbers = triple_all(alloc, product.as_slice())?;
     Rq::from_coefficients(alloc, &numbers)
 }
 
