@@ -1,78 +1,79 @@
--- Both ends get the same session key.
-use Rattle.std.proofs.Common.{◌≡◌, ℕ, ◌+◌, ◌*◌, ℤ, List, length, take, arith, ap, ◌∙◌, refl}
-use Rattle.std.specs.Prelude.{bytes_eq}
+-- Both ends get the same session key, and other ciphertexts the rejection key.
+use Rattle.std.proofs.Common.{◌≡◌, ℕ, ◌+◌, ◌*◌, ℤ, List, length, take, arith, ap, sym, ◌∙◌, bytes_eq}
 use Rattle.std.proofs.lemmas.Bool.{cond-true, cond-false, false_from_ne_true}
 use Rattle.std.proofs.lemmas.List.{take_at}
 use Rattle.std.proofs.lemmas.Slice.Eq.{bytes_eq-Decides}
+use Rattle.ring_core.specs.Sets.{Set}
 use Rattle.radix_pack.specs.Codings.{small_encode}
-use Rattle.radix_pack.specs.Lengths.{rq_length_761, rounded_length_761}
 use Rattle.radix_pack.proofs.ElementLaws.{length-rq_encode}
 use Rattle.radix_pack.proofs.SmallLaws.{length-small_encode}
 use Rattle.sntrup_core.specs.Laws.{IsShort}
-use Rattle.sntrup_kem.specs.Sizes.{degree, modulus, weight, rho_words}
+use Rattle.sntrup_kem.specs.Sizes.{small_size, rounded_size, rho_words}
 use Rattle.sntrup_kem.specs.Hashes.{hash_confirm, hash_session, key_hash}
-use Rattle.sntrup_kem.specs.Kem.{IsGenerated, word_bytes, drawn_rho, ginv_part, rho_part, hash_part, ciphertext, hidden, enc_of, opened, opened_r, hidden_again}
-use Rattle.sntrup_kem.specs.Laws.{DrawsShort, BothEndsAgree, AgreesToSession, RejectsOthers}
+use Rattle.sntrup_kem.specs.Kem.{IsGenerated, word_bytes, drawn_rho, drawn_r, ginv_part, rho_part, cache_part, ciphertext, hidden, enc_of, session_of, plaintext, decrypted_r, hidden_again, decapsulated}
+use Rattle.sntrup_kem.specs.Laws.{DrawsShort, BothEndsAgree, HoldsItsPublicKey, AgreesToSession, RejectsOthers}
 use Rattle.sntrup_kem.proofs.Parts.{Parts, parts_of}
-use Rattle.sntrup_kem.proofs.Rounds.{IsSet, opened_back, length-ciphertext, IsShort-drawn_r}
+use Rattle.sntrup_kem.proofs.Rounds.{IsSet, plaintext_back, length-ciphertext, IsShort-drawn_r}
 use Rattle.sntrup_kem.proofs.Drawing.{length-word_bytes, length-front}
 
-pub is_set : IsSet degree modulus weight
-is_set = record {
-  degree = omega arith;
-  least = omega arith;
-  most = omega arith;
-  odd = refl;
-  thirds = refl;
-  weight = omega arith;
-  bound = omega arith;
-}
+pub length-drawn_rho : (set : Set) (word : ℕ → ℕ) (place : ℕ) → length (drawn_rho set word place) ≡ small_size set
+length-drawn_rho set word place =
+    length-front (word_bytes word place (rho_words set)) (small_size set) (omega (arith, length-word_bytes word place (rho_words set)))
 
-pub length-drawn_rho : (word : ℕ → ℕ) (place : ℕ) → length (drawn_rho word place) ≡ 191
-length-drawn_rho word place =
-    length-front (word_bytes word place rho_words) 191 (omega (arith, length-word_bytes word place rho_words))
+pub agrees_to_session : (set : Set) → AgreesToSession set
+agrees_to_session set sk enc e =
+    cond-true (bytes_eq (hidden_again set sk enc) enc) (hash_session 1 (small_encode set.p (decrypted_r set sk enc)) enc) (hash_session 0 (rho_part set sk) enc) ((bytes_eq-Decides (hidden_again set sk enc) enc).1 e)
 
-pub length-ciphertext_761 : (pk : List ℕ) (r : List ℤ) → length (ciphertext degree modulus pk r) ≡ 1007
-length-ciphertext_761 pk r =
-    length-ciphertext degree modulus pk r is_set.least is_set.odd is_set.thirds ∙ rounded_length_761
-
-pub agrees_to_session : AgreesToSession
-agrees_to_session sk enc e =
-    cond-true (bytes_eq (hidden_again sk enc) enc) (hash_session 1 (small_encode degree (opened_r sk enc)) enc) (hash_session 0 (rho_part sk) enc) ((bytes_eq-Decides (hidden_again sk enc) enc).1 e)
-
-pub rejects_others : RejectsOthers
-rejects_others sk enc n =
-    cond-false (bytes_eq (hidden_again sk enc) enc) (hash_session 1 (small_encode degree (opened_r sk enc)) enc) (hash_session 0 (rho_part sk) enc)
-    (false_from_ne_true (bytes_eq (hidden_again sk enc) enc) (λ t. n ((bytes_eq-Decides (hidden_again sk enc) enc).0 t)))
+pub rejects_others : (set : Set) → RejectsOthers set
+rejects_others set sk enc n =
+    cond-false (bytes_eq (hidden_again set sk enc) enc) (hash_session 1 (small_encode set.p (decrypted_r set sk enc)) enc) (hash_session 0 (rho_part set sk) enc)
+    (false_from_ne_true (bytes_eq (hidden_again set sk enc) enc) (λ t. n ((bytes_eq-Decides (hidden_again set sk enc) enc).0 t)))
 
 -- the parts of a secret key that was generated
-parts_generated : (word : ℕ → ℕ) (place j : ℕ) (pk sk : List ℕ) → (g : IsGenerated word place j pk sk) → Parts sk (small_encode degree g.f) (small_encode degree g.ginv) pk (key_hash pk)
-parts_generated word place j pk sk g =
-    parts_of sk (small_encode degree g.f) (small_encode degree g.ginv) pk (drawn_rho word (place + (j + 2) * degree)) (key_hash pk) g.secret
-    (length-small_encode degree g.f)
-    (length-small_encode degree g.ginv)
-    (ap length g.public ∙ length-rq_encode modulus degree g.h g.h_centred.0 ∙ rq_length_761)
-    (length-drawn_rho word (place + (j + 2) * degree))
+parts_generated : (set : Set) (word : ℕ → ℕ) (place j : ℕ) (pk sk : List ℕ) → (g : IsGenerated set word place j pk sk) → Parts set sk (small_encode set.p g.f) (small_encode set.p g.ginv) pk (key_hash pk)
+parts_generated set word place j pk sk g =
+    parts_of set sk (small_encode set.p g.f) (small_encode set.p g.ginv) pk (drawn_rho set word (place + (j + 2) * set.p)) (key_hash pk) (record {
+      is = g.secret;
+      f_count = length-small_encode set.p g.f;
+      ginv_count = length-small_encode set.p g.ginv;
+      public_count = ap length g.public ∙ length-rq_encode set g.h g.h_centred.0;
+      rho_count = length-drawn_rho set word (place + (j + 2) * set.p);
+    })
 
-opened_is : (word : ℕ → ℕ) (place j : ℕ) (pk sk : List ℕ) (r : List ℤ) → IsGenerated word place j pk sk → IsShort degree weight r → opened_r sk (enc_of pk r) ≡ r
-opened_is word place j pk sk r g s =
-    let parts = parts_generated word place j pk sk g in
-    let enc : List ℕ = enc_of pk r in
-    ap (λ (t : List ℕ). opened degree modulus weight t (ginv_part sk) (take 1007 enc)) parts.f_is
-    ∙ ap (λ (t : List ℕ). opened degree modulus weight (small_encode degree g.f) t (take 1007 enc)) parts.ginv_is
-    ∙ ap (λ (t : List ℕ). opened degree modulus weight (small_encode degree g.f) (small_encode degree g.ginv) t) (take_at (ciphertext degree modulus pk r) (hash_confirm (small_encode degree r) (key_hash pk)) 1007 (length-ciphertext_761 pk r))
-    ∙ opened_back degree modulus weight word place j g.h g.f g.ginv r pk is_set g.key g.h_centred g.ginv_small g.public s
+pub holds_public : (set : Set) → HoldsItsPublicKey set
+holds_public set word place j pk sk g = (parts_generated set word place j pk sk g).public_is
 
-pub both_ends : BothEndsAgree
-both_ends word place j pk sk r g s =
-    let parts = parts_generated word place j pk sk g in
-    let enc : List ℕ = enc_of pk r in
-    let back : opened_r sk enc ≡ r = opened_is word place j pk sk r g s in
-    agrees_to_session sk enc
-    (ap (λ (t : List ℕ). hidden degree modulus t (hash_part sk) (opened_r sk enc)) parts.public_is
-    ∙ ap (λ (t : List ℕ). hidden degree modulus pk t (opened_r sk enc)) parts.hash_is
-    ∙ ap (λ (t : List ℤ). hidden degree modulus pk (key_hash pk) t) back)
-    ∙ ap (λ (t : List ℤ). hash_session 1 (small_encode degree t) enc) back
+decrypted_is : (set : Set) (word : ℕ → ℕ) (place j : ℕ) (pk sk : List ℕ) (r : List ℤ) → IsSet set → IsGenerated set word place j pk sk → IsShort set r → decrypted_r set sk (enc_of set pk r) ≡ r
+decrypted_is set word place j pk sk r s g short =
+    let parts = parts_generated set word place j pk sk g in
+    let enc : List ℕ = enc_of set pk r in
+    let f_enc : List ℕ = small_encode set.p g.f in
+    let ginv_enc : List ℕ = small_encode set.p g.ginv in
+    let first : List ℕ = take (rounded_size set) enc in
+    ap (λ (t : List ℕ). plaintext set t (ginv_part set sk) first) parts.f_is
+    ∙ ap (λ (t : List ℕ). plaintext set f_enc t first) parts.ginv_is
+    ∙ ap (λ (t : List ℕ). plaintext set f_enc ginv_enc t) (take_at (ciphertext set pk r) (hash_confirm (small_encode set.p r) (key_hash pk)) (rounded_size set) (length-ciphertext set pk r s.least s.odd s.thirds))
+    ∙ plaintext_back set word place j g.h g.f g.ginv r pk s g.key g.h_centred g.ginv_small g.public short
 
-pub draws_short : DrawsShort
-draws_short word place = IsShort-drawn_r degree weight word place is_set.weight
+pub both_ends : (set : Set) → IsSet set → BothEndsAgree set
+both_ends set s word place j pk sk r g short =
+    let parts = parts_generated set word place j pk sk g in
+    let enc : List ℕ = enc_of set pk r in
+    let back : decrypted_r set sk enc ≡ r = decrypted_is set word place j pk sk r s g short in
+    agrees_to_session set sk enc
+    (ap (λ (t : List ℕ). hidden set t (cache_part set sk) (decrypted_r set sk enc)) parts.public_is
+    ∙ ap (λ (t : List ℕ). hidden set pk t (decrypted_r set sk enc)) parts.cache_is
+    ∙ ap (λ (t : List ℤ). hidden set pk (key_hash pk) t) back)
+    ∙ ap (λ (t : List ℤ). hash_session 1 (small_encode set.p t) enc) back
+
+pub draws_short : (set : Set) → IsSet set → DrawsShort set
+draws_short set s word place = IsShort-drawn_r set word place s.weight
+
+-- what the two ends of an exchange compute, from what the three calls ensure
+pub exchange_agrees : (set : Set) (word word' : ℕ → ℕ) (place place' j : ℕ) (pk sk enc sent received : List ℕ) → IsSet set → IsGenerated set word place j pk sk → enc ≡ enc_of set pk (drawn_r set word' place') → sent ≡ session_of set pk (drawn_r set word' place') → received ≡ decapsulated set sk enc → received ≡ sent
+exchange_agrees set word word' place place' j pk sk enc sent received s g ee es er =
+    let r : List ℤ = drawn_r set word' place' in
+    er
+    ∙ ap (λ (t : List ℕ). decapsulated set sk t) ee
+    ∙ both_ends set s word place j pk sk r g (draws_short set s word' place')
+    ∙ sym es

@@ -1,26 +1,28 @@
 -- A decapsulation step by step.
 use Rattle.std.proofs.Common.{◌≡◌, ℕ, ℤ, List, take, ap, ◌∙◌}
+use Rattle.ring_core.specs.Sets.{Set}
 use Rattle.radix_pack.specs.Codings.{small_encode}
-use Rattle.sntrup_kem.specs.Sizes.{degree, modulus, weight}
-use Rattle.sntrup_kem.specs.Kem.{f_part, ginv_part, public_part, rho_part, hash_part, hidden, opened, opened_r, hidden_again, chosen, decapsulated}
+use Rattle.sntrup_kem.specs.Sizes.{rounded_size}
+use Rattle.sntrup_kem.specs.Kem.{f_part, ginv_part, public_part, rho_part, cache_part, hidden, plaintext, decrypted_r, hidden_again, chosen, decapsulated}
 
 -- r is the decryption, by the codings that are in the secret key
-pub opened_from : (sk enc f_enc ginv_enc : List ℕ) (r : List ℤ) → f_enc ≡ f_part sk → ginv_enc ≡ ginv_part sk → r ≡ opened degree modulus weight f_enc ginv_enc (take 1007 enc) → r ≡ opened_r sk enc
-opened_from sk enc f_enc ginv_enc r ef eg er =
+pub decrypted_from : (set : Set) (sk enc c_enc f_enc ginv_enc : List ℕ) (r : List ℤ) → c_enc ≡ take (rounded_size set) enc → f_enc ≡ f_part set sk → ginv_enc ≡ ginv_part set sk → r ≡ plaintext set f_enc ginv_enc c_enc → r ≡ decrypted_r set sk enc
+decrypted_from set sk enc c_enc f_enc ginv_enc r ec ef eg er =
     er
-    ∙ ap (λ (t : List ℕ). opened degree modulus weight t ginv_enc (take 1007 enc)) ef
-    ∙ ap (λ (t : List ℕ). opened degree modulus weight (f_part sk) t (take 1007 enc)) eg
+    ∙ ap (λ (t : List ℕ). plaintext set f_enc ginv_enc t) ec
+    ∙ ap (λ (t : List ℕ). plaintext set t ginv_enc (take (rounded_size set) enc)) ef
+    ∙ ap (λ (t : List ℕ). plaintext set (f_part set sk) t (take (rounded_size set) enc)) eg
 
-pub hidden_from : (sk enc pk kept again : List ℕ) (r : List ℤ) → r ≡ opened_r sk enc → pk ≡ public_part sk → kept ≡ hash_part sk → again ≡ hidden degree modulus pk kept r → again ≡ hidden_again sk enc
-hidden_from sk enc pk kept again r er ep ek ea =
+pub hidden_from : (set : Set) (sk enc pk cache again : List ℕ) (r : List ℤ) → r ≡ decrypted_r set sk enc → pk ≡ public_part set sk → cache ≡ cache_part set sk → again ≡ hidden set pk cache r → again ≡ hidden_again set sk enc
+hidden_from set sk enc pk cache again r er ep ek ea =
     ea
-    ∙ ap (λ (t : List ℕ). hidden degree modulus t kept r) ep
-    ∙ ap (λ (t : List ℕ). hidden degree modulus (public_part sk) t r) ek
-    ∙ ap (λ (t : List ℤ). hidden degree modulus (public_part sk) (hash_part sk) t) er
+    ∙ ap (λ (t : List ℕ). hidden set t cache r) ep
+    ∙ ap (λ (t : List ℕ). hidden set (public_part set sk) t r) ek
+    ∙ ap (λ (t : List ℤ). hidden set (public_part set sk) (cache_part set sk) t) er
 
-pub chosen_from : (sk enc again r_enc rho key : List ℕ) (r : List ℤ) → r ≡ opened_r sk enc → again ≡ hidden_again sk enc → r_enc ≡ small_encode degree r → rho ≡ rho_part sk → key ≡ chosen again r_enc rho enc → key ≡ decapsulated sk enc
-chosen_from sk enc again r_enc rho key r er ea ec eh ek =
+pub chosen_from : (set : Set) (sk enc again r_enc rho key : List ℕ) (r : List ℤ) → r ≡ decrypted_r set sk enc → again ≡ hidden_again set sk enc → r_enc ≡ small_encode set.p r → rho ≡ rho_part set sk → key ≡ chosen again r_enc rho enc → key ≡ decapsulated set sk enc
+chosen_from set sk enc again r_enc rho key r er ea ec eh ek =
     ek
     ∙ ap (λ (t : List ℕ). chosen t r_enc rho enc) ea
-    ∙ ap (λ (t : List ℕ). chosen (hidden_again sk enc) t rho enc) (ec ∙ ap (λ (t : List ℤ). small_encode degree t) er)
-    ∙ ap (λ (t : List ℕ). chosen (hidden_again sk enc) (small_encode degree (opened_r sk enc)) t enc) eh
+    ∙ ap (λ (t : List ℕ). chosen (hidden_again set sk enc) t rho enc) (ec ∙ ap (λ (t : List ℤ). small_encode set.p t) er)
+    ∙ ap (λ (t : List ℕ). chosen (hidden_again set sk enc) (small_encode set.p (decrypted_r set sk enc)) t enc) eh

@@ -1,40 +1,32 @@
--- The parameter set sntrup761 and its sizes in bytes (NTRU Prime round 3, parameter sets).
-use Rattle.std.specs.Prelude.{ℕ, ◌+◌}
-
--- p, q and w
-abbrev pub degree : ℕ
-degree = 761
-
-abbrev pub modulus : ℕ
-modulus = 4591
-
-abbrev pub weight : ℕ
-weight = 286
+-- The sizes of the byte strings of a parameter set, in bytes (NTRU Prime round 3, parameter sets).
+use Rattle.std.specs.Prelude.{ℕ, ◌+◌, ◌*◌, ◌/◌}
+use Rattle.ring_core.specs.Sets.{Set}
+use Rattle.radix_pack.specs.Codings.{small_length, rq_length, rounded_length}
 
 -- the coding of a small polynomial; rho has this size too
-abbrev pub small_size : ℕ
-small_size = 191
+abbrev pub small_size : Set → ℕ
+small_size set = small_length set.p
 
--- a public key: the coding of h
-abbrev pub public_size : ℕ
-public_size = 1158
+-- a public key: the coding of h, which is Encode of p digits below q
+abbrev pub public_size : Set → ℕ
+public_size set = rq_length set
 
 -- a hash, and a session key
 abbrev pub hash_size : ℕ
 hash_size = 32
 
--- the coding of a rounded element
-abbrev pub rounded_size : ℕ
-rounded_size = 1007
+-- the coding of a rounded element, which is Encode of p digits below (q - 1) / 3 + 1
+abbrev pub rounded_size : Set → ℕ
+rounded_size set = rounded_length set
 
 -- an encapsulation: the coding of a rounded element and a hash
-abbrev pub enc_size : ℕ
-enc_size = rounded_size + hash_size
+abbrev pub enc_size : Set → ℕ
+enc_size set = rounded_size set + hash_size
 
 -- a secret key: the codings of f and 1/g, the public key, rho, and the hash of the public key
-abbrev pub secret_size : ℕ
-secret_size = small_size + small_size + public_size + small_size + hash_size
+abbrev pub secret_size : Set → ℕ
+secret_size set = 3 * small_size set + public_size set + hash_size
 
--- how many words rho is made of
-abbrev pub rho_words : ℕ
-rho_words = 48
+-- how many words rho is made of, each 4 bytes
+abbrev pub rho_words : Set → ℕ
+rho_words set = (small_size set + 3) / 4

@@ -2,43 +2,45 @@
 
 ghost use Rattle.std.specs.Prelude.{◌≡◌, ◌+◌, ◌++◌, ◌^◌, ◌≤◌, length, IfOk, OnOk};
 ghost use Rattle.radix_pack.specs.Codings.{small_length, small_encode, small_decode, rq_length, rounded_length, IsMalformed};
-ghost use Rattle.sntrup_kem.specs.Sizes.{degree, modulus, weight, enc_size};
-ghost use Rattle.sntrup_kem.specs.Kem.{drawn_r, hidden, opened, enc_of, session_of, chosen, decapsulated};
+ghost use Rattle.rand_words.specs.Words.{TakesAtMost};
+ghost use Rattle.sntrup_kem.specs.Sizes.{hash_size};
+ghost use Rattle.sntrup_kem.specs.Kem.{drawn_r, hidden, plaintext, enc_of, session_of, chosen, decapsulated};
 
 use crate::hashes::{hash_confirm, hash_session, key_hash};
 use crate::keys::{PublicKey, SecretKey};
+use crate::params::KemParams;
 use radix_pack::{ByteList, rounded_decode, rounded_encode, rq_decode, small_decode, small_encode};
 use rand_words::{Words, short_random};
-use ring_core::{Multiplier, Params, Small, Sntrup761};
+use ring_core::{Multiplier, Params, Small};
 use sntrup_core::{PublicPoly, SecretPolys, decrypt, encrypt};
 use std::alloc::{AllocError as OutOfMemory, Global};
-use std::marker::Model;
+use std::marker::{Model, PhantomData};
 
-const ROUNDED_SIZE: usize = 1007;
+const HASH_SIZE: usize = 32;
 
-/// An encapsulation: the coding of a rounded element, 1007 bytes, and a hash of 32 bytes that
-/// confirms it (NTRU Prime round 3, Hide). Contracts see the 1039 bytes.
+/// An encapsulation: the coding of a rounded element, and a hash of 32 bytes that confirms it (NTRU
+/// Prime round 3, Hide), together `S::ENC` bytes. Contracts see the bytes.
 #[derive(Drop)]
-pub struct Enc {
+pub struct Enc<S: KemParams> {
     bytes: ByteList,
+    set: PhantomData<S>,
 }
 
-impl Model for Enc {
+impl<S: KemParams> Model for Enc<S> {
     ghost use Rattle.std.specs.Prelude.{ℕ, List, ◌≡◌, length};
-    ghost use Rattle.sntrup_kem.specs.Sizes.{enc_size};
 
     ghost Value = { List ℕ };
 
     ghost view = { λ e. e.bytes };
 
-    ghost invariant = { λ e. length e.bytes ≡ enc_size };
+    ghost invariant = { λ e. length e.bytes ≡ S.ENC };
 }
 
-impl Enc {
-    /// The 1039 bytes.
+impl<S: KemParams> Enc<S> {
+    /// The `S::ENC` bytes.
     pub fn as_slice(&self) -> &[u8]
         ensures bytes { result.now ≡ self.now }
-        ensures count { length result.now ≡ enc_size }
+        ensures count { length result.now ≡ S.ENC }
     {
         self.bytes.as_slice()
     }
@@ -61,24 +63,24 @@ fn joined(alloc: Global, first: &[u8], second: &[u8]) -> Result<ByteList, OutOfM
     Ok(ByteList::from_vec(bytes))
 }
 
-// Hide (NTRU Prime round 3), with the hash of the public key as it is given.
+// Hide (NTRU Prime round 3), with the cache, which is the hash of the public key, as it is given.
 pub(crate) fn hide<S: Params, M: Multiplier>(
     alloc: Global,
     mult: &M,
     public: &[u8],
-    kept: &[u8],
+    cache: &[u8],
     r: &Small<S>,
 ) -> Result<Hidden, OutOfMemory>
-    requires { length public.now ≡ rq_length S.modulus S.P }
-    ensures enc { IfOk result (λ h. h.enc ≡ hidden S.P S.modulus public.now kept.now r.now) }
-    ensures count { IfOk result (λ h. length h.enc ≡ rounded_length S.modulus S.P + 32) }
-    ensures r_enc { IfOk result (λ h. h.r_enc ≡ small_encode S.P r.now) }
+    requires { length public.now ≡ rq_length S.set }
+    ensures enc { IfOk result (λ h. h.enc ≡ hidden S.set public.now cache.now r.now) }
+    ensures count { IfOk result (λ h. length h.enc ≡ rounded_length S.set + hash_size) }
+    ensures r_enc { IfOk result (λ h. h.r_enc ≡ small_encode S.set.p r.now) }
 {
     let h = rq_decode(alloc, public)?;
     let c = encrypt(alloc, mult, r, &PublicPoly { h })?;
     let c_enc = rounded_encode(alloc, &c)?;
     let r_enc = small_encode(alloc, r)?;
-    let confirm = hash_confirm(r_enc.as_slice(), kept);
+    let confirm = hash_confirm(r_enc.as_slice(), cache);
     Ok(Hidden {
         enc: joined(alloc, c_enc.as_slice(), &confirm)?,
         r_enc,
@@ -88,44 +90,50 @@ pub(crate) fn hide<S: Params, M: Multiplier>(
 // r, from the next p words.
 #[tactic(auto, unfolding(crate::specs::Kem::drawn_r))]
 fn draw_r<S: Params, R: Words>(alloc: Global, words: &mut R) -> Result<Small<S>, OutOfMemory>
-    requires { R.place words.old + S.P ≤ 2 ^ 32 }
-    ensures r { IfOk result (λ r. r ≡ drawn_r S.P S.W (R.word words.old) (R.place words.old)) }
-    ensures taken { OnOk result (R.place words.new ≡ R.place words.old + S.P) }
+    requires { R.place words.old + S.set.p ≤ 2 ^ 32 }
+    ensures r { IfOk result (λ r. r ≡ drawn_r S.set (R.word words.old) (R.place words.old)) }
+    ensures taken { OnOk result (R.place words.new ≡ R.place words.old + S.set.p) }
+    ensures at_most { TakesAtMost S.set.p (R.place words.old) (R.place words.new) }
     ensures stays { R.word words.new ≡ R.word words.old }
 {
     short_random(alloc, words)
 }
 
-/// Encap (NTRU Prime round 3): a session key from p random words, and the encapsulation that carries
-/// it to the holder of the secret key.
+/// Encap (NTRU Prime round 3): a session key from p random words, and the encapsulation that
+/// carries it to the holder of the secret key.
 ///
-/// After `OutOfMemory` some words may have been taken.
-pub fn encap<R: Words, M: Multiplier>(
+/// After `OutOfMemory` some of them may have been taken, and never more.
+pub fn encap<S: KemParams, R: Words, M: Multiplier>(
     alloc: Global,
     words: &mut R,
     mult: &M,
-    public: &PublicKey,
-) -> Result<(Enc, [u8; 32]), OutOfMemory>
-    requires { R.place words.old + degree ≤ 2 ^ 32 }
+    public: &PublicKey<S>,
+) -> Result<(Enc<S>, [u8; 32]), OutOfMemory>
+    requires { R.place words.old + S.set.p ≤ 2 ^ 32 }
     ensures enc { IfOk result (λ e. e.0
-        ≡ enc_of public.now (drawn_r degree weight (R.word words.old) (R.place words.old))) }
+        ≡ enc_of S.set public.now (drawn_r S.set (R.word words.old) (R.place words.old))) }
     ensures key { IfOk result (λ e. e.1
-        ≡ session_of public.now (drawn_r degree weight (R.word words.old) (R.place words.old))) }
-    ensures taken { OnOk result (R.place words.new ≡ R.place words.old + degree) }
+        ≡ session_of S.set public.now (drawn_r S.set (R.word words.old) (R.place words.old))) }
+    ensures taken { OnOk result (R.place words.new ≡ R.place words.old + S.set.p) }
+    ensures at_most { TakesAtMost S.set.p (R.place words.old) (R.place words.new) }
     ensures stays { R.word words.new ≡ R.word words.old }
 {
-    let r = draw_r::<Sntrup761, R>(alloc, words)?;
-    let kept = key_hash(public.as_slice());
-    let hidden = hide(alloc, mult, public.as_slice(), &kept, &r)?;
+    let r = draw_r::<S, R>(alloc, words)?;
+    let cache = key_hash(public.as_slice());
+    let hidden = hide(alloc, mult, public.as_slice(), &cache, &r)?;
     let key = hash_session(1, hidden.r_enc.as_slice(), hidden.enc.as_slice());
-    Ok((Enc { bytes: hidden.enc }, key))
+    let enc = Enc {
+        bytes: hidden.enc,
+        set: PhantomData,
+    };
+    Ok((enc, key))
 }
 
 // The small polynomial of a coding.
-fn decoded<S: Params>(alloc: Global, bytes: &[u8]) -> Result<Small<S>, OutOfMemory>
-    requires count { length bytes.now ≡ small_length S.P }
-    requires form { ¬ IsMalformed S.P bytes.now }
-    ensures { IfOk result (λ a. a ≡ small_decode S.P bytes.now) }
+fn small_decoded<S: Params>(alloc: Global, bytes: &[u8]) -> Result<Small<S>, OutOfMemory>
+    requires count { length bytes.now ≡ small_length S.set.p }
+    requires form { ¬ IsMalformed S.set.p bytes.now }
+    ensures { IfOk result (λ a. a ≡ small_decode S.set.p bytes.now) }
 {
     match small_decode(alloc, bytes)? {
         Some(a) => Ok(a),
@@ -134,25 +142,24 @@ fn decoded<S: Params>(alloc: Global, bytes: &[u8]) -> Result<Small<S>, OutOfMemo
 }
 
 // r, decrypted with the codings of f and 1/g.
-#[tactic(auto, unfolding(crate::specs::Kem::opened))]
-fn recover<S: Params, M: Multiplier>(
+#[tactic(auto, unfolding(crate::specs::Kem::plaintext))]
+fn decrypted<S: Params, M: Multiplier>(
     alloc: Global,
     mult: &M,
     c_enc: &[u8],
     f_enc: &[u8],
     ginv_enc: &[u8],
 ) -> Result<Small<S>, OutOfMemory>
-    requires c_count { length c_enc.now ≡ rounded_length S.modulus S.P }
-    requires f_count { length f_enc.now ≡ small_length S.P }
-    requires f_form { ¬ IsMalformed S.P f_enc.now }
-    requires ginv_count { length ginv_enc.now ≡ small_length S.P }
-    requires ginv_form { ¬ IsMalformed S.P ginv_enc.now }
-    ensures { IfOk result (λ r. r
-        ≡ opened S.P S.modulus S.W f_enc.now ginv_enc.now c_enc.now) }
+    requires c_count { length c_enc.now ≡ rounded_length S.set }
+    requires f_count { length f_enc.now ≡ small_length S.set.p }
+    requires f_form { ¬ IsMalformed S.set.p f_enc.now }
+    requires ginv_count { length ginv_enc.now ≡ small_length S.set.p }
+    requires ginv_form { ¬ IsMalformed S.set.p ginv_enc.now }
+    ensures { IfOk result (λ r. r ≡ plaintext S.set f_enc.now ginv_enc.now c_enc.now) }
 {
     let c = rounded_decode(alloc, c_enc)?;
-    let f = decoded(alloc, f_enc)?;
-    let ginv = decoded(alloc, ginv_enc)?;
+    let f = small_decoded(alloc, f_enc)?;
+    let ginv = small_decoded(alloc, ginv_enc)?;
     decrypt(alloc, mult, &c, &SecretPolys { f, ginv })
 }
 
@@ -170,19 +177,19 @@ fn chosen_key(again: &Hidden, enc: &[u8], rho: &[u8]) -> [u8; 32]
 /// Decap (NTRU Prime round 3): the session key that the encapsulation carries, or a rejection key
 /// that is made from it and rho, where it is not what [`encap`] makes of its r.
 ///
-/// Every string of 1039 bytes gets a key, and the key does not show which of the two it is. The kept
-/// hash is not computed again: a secret key's last 32 bytes are taken as they are.
-pub fn decap<M: Multiplier>(
+/// Every string of `S::ENC` bytes gets a key. The hash of the public key is not computed again: a
+/// secret key's last 32 bytes, its cache, are taken as they are.
+pub fn decap<S: KemParams, M: Multiplier>(
     alloc: Global,
     mult: &M,
     enc: &[u8],
-    secret: &SecretKey,
+    secret: &SecretKey<S>,
 ) -> Result<[u8; 32], OutOfMemory>
-    requires { length enc.now ≡ enc_size }
-    ensures { IfOk result (λ k. k ≡ decapsulated secret.now enc.now) }
+    requires { length enc.now ≡ S.ENC }
+    ensures { IfOk result (λ k. k ≡ decapsulated S.set secret.now enc.now) }
 {
-    let c_enc = &enc[..ROUNDED_SIZE];
-    let r = recover::<Sntrup761, M>(alloc, mult, c_enc, secret.f_bytes(), secret.ginv_bytes())?;
-    let again = hide(alloc, mult, secret.public_bytes(), secret.kept_hash(), &r)?;
+    let c_enc = &enc[..S::ENC - HASH_SIZE];
+    let r = decrypted::<S, M>(alloc, mult, c_enc, secret.f_bytes(), secret.ginv_bytes())?;
+    let again = hide(alloc, mult, secret.public_bytes(), secret.cache(), &r)?;
     Ok(chosen_key(&again, enc, secret.rho()))
 }

@@ -2,25 +2,20 @@
 
 ghost use Rattle.std.specs.Prelude.{◌≡◌, ◌≢◌, ◌↔◌, ℕ, ◌+◌, ◌*◌, ◌^◌, ◌<◌, ◌≤◌, length, take, ◌++◌, IfOk, OnOk, vec_len};
 ghost use Rattle.radix_pack.specs.Codings.{small_length, rq_length, IsMalformed};
+ghost use Rattle.rand_words.specs.Words.{TakesAtMost};
 ghost use Rattle.sntrup_core.specs.Keys.{FindsG, IsExhausted, FindsNoInverse};
-ghost use Rattle.sntrup_kem.specs.Sizes.{degree, modulus, weight, rho_words, secret_size};
+ghost use Rattle.sntrup_kem.specs.Sizes.{small_size, rho_words};
 ghost use Rattle.sntrup_kem.specs.Hashes.{key_hash};
 ghost use Rattle.sntrup_kem.specs.Kem.{word_bytes, drawn_rho, IsCodedKey, IsGenerated};
 
 use crate::hashes::key_hash;
-use crate::keys::{PublicKey, SecretKey};
+use crate::keys::{PublicKey, SecretKey, small_size};
+use crate::params::KemParams;
 use radix_pack::{ByteList, rq_encode, small_encode};
 use rand_words::Words;
-use ring_core::{Multiplier, Params, Sntrup761};
+use ring_core::{Multiplier, Params};
 use sntrup_core::{KeyFault, keygen};
 use std::alloc::{AllocError, Global};
-
-// How many words rho is made of, and how many of their bytes it has.
-const RHO_WORDS: usize = 48;
-
-const RHO_SIZE: usize = 191;
-
-const SECRET_SIZE: usize = 1763;
 
 // The codings of a key.
 #[derive(Drop)]
@@ -36,27 +31,27 @@ fn coded_key<S: Params, R: Words, M: Multiplier>(
     words: &mut R,
     mult: &M,
 ) -> Result<CodedKey, KeyFault>
-    requires { R.place words.old + 65 * S.P ≤ 2 ^ 32 }
+    requires { R.place words.old + 65 * S.set.p ≤ 2 ^ 32 }
     ensures key { IfOk result (λ k. (j : ℕ)
-        × FindsG S.P (R.word words.old) (R.place words.old) j
+        × FindsG S.set (R.word words.old) (R.place words.old) j
         × (j < 64)
-        × (R.place words.new ≡ R.place words.old + (j + 2) * S.P)
-        × IsCodedKey S.P S.modulus S.W (R.word words.old) (R.place words.old) j
-        k.public k.f k.ginv) }
-    ensures public_count { IfOk result (λ k. length k.public ≡ rq_length S.modulus S.P) }
-    ensures f_count { IfOk result (λ k. length k.f ≡ small_length S.P) }
-    ensures ginv_count { IfOk result (λ k. length k.ginv ≡ small_length S.P) }
-    ensures f_form { IfOk result (λ k. ¬ IsMalformed S.P k.f) }
-    ensures ginv_form { IfOk result (λ k. ¬ IsMalformed S.P k.ginv) }
+        × (R.place words.new ≡ R.place words.old + (j + 2) * S.set.p)
+        × IsCodedKey S.set (R.word words.old) (R.place words.old) j k.public k.f k.ginv) }
+    ensures public_count { IfOk result (λ k. length k.public ≡ rq_length S.set) }
+    ensures f_count { IfOk result (λ k. length k.f ≡ small_length S.set.p) }
+    ensures ginv_count { IfOk result (λ k. length k.ginv ≡ small_length S.set.p) }
+    ensures f_form { IfOk result (λ k. ¬ IsMalformed S.set.p k.f) }
+    ensures ginv_form { IfOk result (λ k. ¬ IsMalformed S.set.p k.ginv) }
     ensures exhausted { result ≢ Err KeyFault.OutOfMemory → ((result ≡ Err KeyFault.Exhausted)
-        ↔ IsExhausted S.P (R.word words.old) (R.place words.old)) }
+        ↔ IsExhausted S.set (R.word words.old) (R.place words.old)) }
     ensures no_inverse { result ≢ Err KeyFault.OutOfMemory → ((result ≡ Err KeyFault.NoInverse)
-        ↔ FindsNoInverse S.P S.modulus S.W (R.word words.old) (R.place words.old)) }
+        ↔ FindsNoInverse S.set (R.word words.old) (R.place words.old)) }
     ensures taken { result ≢ Err KeyFault.OutOfMemory
-        → (j : ℕ) → FindsG S.P (R.word words.old) (R.place words.old) j
-        → R.place words.new ≡ R.place words.old + (j + 2) * S.P }
+        → (j : ℕ) → FindsG S.set (R.word words.old) (R.place words.old) j
+        → R.place words.new ≡ R.place words.old + (j + 2) * S.set.p }
     ensures exhausted_taken { result ≡ Err KeyFault.Exhausted
-        → R.place words.new ≡ R.place words.old + 64 * S.P }
+        → R.place words.new ≡ R.place words.old + 64 * S.set.p }
+    ensures at_most { TakesAtMost (65 * S.set.p) (R.place words.old) (R.place words.new) }
     ensures stays { R.word words.new ≡ R.word words.old }
 {
     let (public, secret) = keygen::<S, R, M>(alloc, words, mult)?;
@@ -73,6 +68,7 @@ fn draw_bytes<R: Words>(alloc: Global, words: &mut R, count: usize) -> Result<Ve
     ensures bytes { IfOk result (λ v. v.items
         ≡ word_bytes (R.word words.old) (R.place words.old) count) }
     ensures taken { OnOk result (R.place words.new ≡ R.place words.old + count) }
+    ensures at_most { TakesAtMost count (R.place words.old) (R.place words.new) }
     ensures stays { R.word words.new ≡ R.word words.old }
 {
     let mut bytes = Vec::new(alloc);
@@ -82,16 +78,18 @@ fn draw_bytes<R: Words>(alloc: Global, words: &mut R, count: usize) -> Result<Ve
     Ok(bytes)
 }
 
-// rho, from the next 48 words.
-fn draw_rho<R: Words>(alloc: Global, words: &mut R) -> Result<ByteList, AllocError>
-    requires { R.place words.old + rho_words ≤ 2 ^ 32 }
-    ensures bytes { IfOk result (λ b. b ≡ drawn_rho (R.word words.old) (R.place words.old)) }
-    ensures count { IfOk result (λ b. length b ≡ 191) }
-    ensures taken { OnOk result (R.place words.new ≡ R.place words.old + rho_words) }
+// rho, from the next words.
+fn draw_rho<S: Params, R: Words>(alloc: Global, words: &mut R) -> Result<ByteList, AllocError>
+    requires { R.place words.old + rho_words S.set ≤ 2 ^ 32 }
+    ensures bytes { IfOk result (λ b. b ≡ drawn_rho S.set (R.word words.old) (R.place words.old)) }
+    ensures count { IfOk result (λ b. length b ≡ small_size S.set) }
+    ensures taken { OnOk result (R.place words.new ≡ R.place words.old + rho_words S.set) }
+    ensures at_most { TakesAtMost (rho_words S.set) (R.place words.old) (R.place words.new) }
     ensures stays { R.word words.new ≡ R.word words.old }
 {
-    let mut bytes = draw_bytes(alloc, words, RHO_WORDS)?;
-    bytes.truncate(RHO_SIZE);
+    let size = small_size::<S>();
+    let mut bytes = draw_bytes(alloc, words, size.div_ceil(4))?;
+    bytes.truncate(size);
     Ok(ByteList::from_vec(bytes))
 }
 
@@ -102,7 +100,7 @@ fn secret_bytes(alloc: Global, key: &CodedKey, rho: &ByteList) -> Result<ByteLis
     ensures count { IfOk result (λ b. length b ≡ length key.now.f + length key.now.ginv
         + length key.now.public + length rho.now + 32) }
 {
-    let mut bytes = Vec::with_capacity(alloc, SECRET_SIZE)?;
+    let mut bytes = Vec::new(alloc);
     bytes.extend_from_slice(key.f.as_slice())?;
     bytes.extend_from_slice(key.ginv.as_slice())?;
     bytes.extend_from_slice(key.public.as_slice())?;
@@ -113,34 +111,33 @@ fn secret_bytes(alloc: Global, key: &CodedKey, rho: &ByteList) -> Result<ByteLis
 
 /// KeyGen with rho (NTRU Prime round 3): a pair of keys from random words.
 ///
-/// Takes the words of [`keygen`], and where these give a key 48 more. After `OutOfMemory` some words
-/// may have been taken.
-pub fn generate<R: Words, M: Multiplier>(
+/// Takes the words of [`keygen`], and where these give a key those of rho: 48 more for sntrup761,
+/// and 54 for sntrup857. After `OutOfMemory` some of them may have been taken, and never more.
+pub fn generate<S: KemParams, R: Words, M: Multiplier>(
     alloc: Global,
     words: &mut R,
     mult: &M,
-) -> Result<(PublicKey, SecretKey), KeyFault>
-    requires { R.place words.old + 65 * degree + rho_words ≤ 2 ^ 32 }
+) -> Result<(PublicKey<S>, SecretKey<S>), KeyFault>
+    requires { R.place words.old + 65 * S.set.p + rho_words S.set ≤ 2 ^ 32 }
     ensures keys { IfOk result (λ k. (j : ℕ)
-        × FindsG degree (R.word words.old) (R.place words.old) j
-        × IsGenerated (R.word words.old) (R.place words.old) j k.0 k.1
-        × (R.place words.new ≡ R.place words.old + (j + 2) * degree + rho_words)) }
+        × FindsG S.set (R.word words.old) (R.place words.old) j
+        × IsGenerated S.set (R.word words.old) (R.place words.old) j k.0 k.1
+        × (R.place words.new ≡ R.place words.old + (j + 2) * S.set.p + rho_words S.set)) }
     ensures exhausted { result ≢ Err KeyFault.OutOfMemory → ((result ≡ Err KeyFault.Exhausted)
-        ↔ IsExhausted degree (R.word words.old) (R.place words.old)) }
+        ↔ IsExhausted S.set (R.word words.old) (R.place words.old)) }
     ensures no_inverse { result ≢ Err KeyFault.OutOfMemory → ((result ≡ Err KeyFault.NoInverse)
-        ↔ FindsNoInverse degree modulus weight (R.word words.old) (R.place words.old)) }
+        ↔ FindsNoInverse S.set (R.word words.old) (R.place words.old)) }
     ensures exhausted_taken { result ≡ Err KeyFault.Exhausted
-        → R.place words.new ≡ R.place words.old + 64 * degree }
+        → R.place words.new ≡ R.place words.old + 64 * S.set.p }
     ensures no_inverse_taken { result ≡ Err KeyFault.NoInverse
-        → (j : ℕ) → FindsG degree (R.word words.old) (R.place words.old) j
-        → R.place words.new ≡ R.place words.old + (j + 2) * degree }
+        → (j : ℕ) → FindsG S.set (R.word words.old) (R.place words.old) j
+        → R.place words.new ≡ R.place words.old + (j + 2) * S.set.p }
+    ensures at_most { TakesAtMost (65 * S.set.p + rho_words S.set)
+        (R.place words.old) (R.place words.new) }
     ensures stays { R.word words.new ≡ R.word words.old }
 {
-    let key = coded_key::<Sntrup761, R, M>(alloc, words, mult)?;
-    let rho = draw_rho(alloc, words)?;
-    let secret = secret_bytes(alloc, &key, &rho)?;
-    Ok((
-        PublicKey::from_list(key.public),
-        SecretKey::from_list(secret),
-    ))
+    let key = coded_key::<S, R, M>(alloc, words, mult)?;
+    let rho = draw_rho::<S, R>(alloc, words)?;
+    let secret = SecretKey::from_list(secret_bytes(alloc, &key, &rho)?);
+    Ok((PublicKey::from_list(key.public), secret))
 }

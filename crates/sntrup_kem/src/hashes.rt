@@ -33,18 +33,18 @@ fn hash(b: u8, bytes: &[u8]) -> [u8; 32]
     hash_joined(b, bytes, &[])
 }
 
-// The hash of a public key, which its secret key keeps.
+// The hash of a public key, which its secret key has as its cache.
 pub(crate) fn key_hash(public: &[u8]) -> [u8; 32]
     ensures { result ≡ key_hash public.now }
 {
     hash(4, public)
 }
 
-// HashConfirm (NTRU Prime round 3), of the coding of r and the hash of the public key.
-pub(crate) fn hash_confirm(r_enc: &[u8], kept: &[u8]) -> [u8; 32]
-    ensures { result ≡ hash_confirm r_enc.now kept.now }
+// HashConfirm (NTRU Prime round 3), of the coding of r and the cache.
+pub(crate) fn hash_confirm(r_enc: &[u8], cache: &[u8]) -> [u8; 32]
+    ensures { result ≡ hash_confirm r_enc.now cache.now }
 {
-    hash_joined(2, &hash(3, r_enc), kept)
+    hash_joined(2, &hash(3, r_enc), cache)
 }
 
 // HashSession (NTRU Prime round 3): `b` is 1 with the coding of r, and 0 with rho.

@@ -1,23 +1,18 @@
 //! Keys as bytes.
 
-ghost use Rattle.std.specs.Prelude.{◌≡◌, ◌≢◌, ◌↔◌, IsTrue, length, IfOk, Some};
+ghost use Rattle.std.specs.Prelude.{◌≡◌, ◌≢◌, ◌↔◌, ◌+◌, ◌≤◌, take, drop, IsTrue, length, IfOk, Some};
 ghost use Rattle.radix_pack.specs.Codings.{IsMalformed};
-ghost use Rattle.sntrup_kem.specs.Sizes.{degree, small_size, public_size, hash_size, secret_size};
+ghost use Rattle.sntrup_kem.specs.Sizes.{small_size};
 ghost use Rattle.sntrup_kem.specs.Faults.{fault_text};
-ghost use Rattle.sntrup_kem.specs.Kem.{f_part, ginv_part, public_part, rho_part, hash_part, HasMalformedPart};
+ghost use Rattle.sntrup_kem.specs.Kem.{f_part, ginv_part, public_part, rho_part, cache_part, HasMalformedPart};
 
+use crate::params::KemParams;
 use radix_pack::{ByteList, small_decode};
-use ring_core::Sntrup761;
+use ring_core::Params;
 use std::alloc::{AllocError as OutOfMemory, Global};
 use std::error::Error;
 use std::fmt;
-use std::marker::Model;
-
-const SMALL_SIZE: usize = 191;
-
-const PUBLIC_SIZE: usize = 1158;
-
-const SECRET_SIZE: usize = 1763;
+use std::marker::{Model, PhantomData};
 
 /// Why bytes are no key, in the order in which it is tested.
 #[derive(Clone, Copy, Debug, PartialEq, Eq)]
@@ -29,6 +24,12 @@ pub enum KeyBytesFault {
     /// Memory ran out.
     OutOfMemory = 3,
 }
+
+const _: () = prove!(KeyBytesFault::Length as u8 == 1);
+
+const _: () = prove!(KeyBytesFault::Form as u8 == 2);
+
+const _: () = prove!(KeyBytesFault::OutOfMemory as u8 == 3);
 
 impl fmt::Display for KeyBytesFault {
     ghost output = { λ fault. Some (fault_text fault) };
@@ -63,175 +64,202 @@ fn copied(alloc: Global, bytes: &[u8]) -> Result<ByteList, OutOfMemory>
     Ok(ByteList::from_vec(copy))
 }
 
-/// A public key: the coding of h (NTRU Prime round 3, KeyGen), 1158 bytes. Contracts see the bytes.
+/// A public key: the coding of h (NTRU Prime round 3, KeyGen), of `S::PUBLIC` bytes. Contracts see
+/// the bytes.
 ///
-/// Every string of 1158 bytes is a public key.
+/// Every string of so many bytes is a public key.
 #[derive(Drop)]
-pub struct PublicKey {
+pub struct PublicKey<S: KemParams> {
     bytes: ByteList,
+    set: PhantomData<S>,
 }
 
-impl Model for PublicKey {
+impl<S: KemParams> Model for PublicKey<S> {
     ghost use Rattle.std.specs.Prelude.{ℕ, List, ◌≡◌, length};
-    ghost use Rattle.sntrup_kem.specs.Sizes.{public_size};
 
     ghost Value = { List ℕ };
 
     ghost view = { λ k. k.bytes };
 
-    ghost invariant = { λ k. length k.bytes ≡ public_size };
+    ghost invariant = { λ k. length k.bytes ≡ S.PUBLIC };
 }
 
-impl PublicKey {
+impl<S: KemParams> PublicKey<S> {
     /// The public key of these bytes.
-    pub fn from_bytes(alloc: Global, bytes: &[u8]) -> Result<PublicKey, KeyBytesFault>
+    pub fn from_bytes(alloc: Global, bytes: &[u8]) -> Result<PublicKey<S>, KeyBytesFault>
         ensures key { IfOk result (λ k. k ≡ bytes.now) }
-        ensures length { (result ≡ Err KeyBytesFault.Length) ↔ (length bytes.now ≢ public_size) }
+        ensures length { (result ≡ Err KeyBytesFault.Length) ↔ (length bytes.now ≢ S.PUBLIC) }
         ensures form { result ≢ Err KeyBytesFault.Form }
     {
-        if bytes.len() != PUBLIC_SIZE {
+        if bytes.len() != S::PUBLIC {
             return Err(KeyBytesFault::Length);
         }
         Ok(PublicKey::from_list(copied(alloc, bytes)?))
     }
 
     // The public key of these bytes, which it keeps.
-    pub(crate) fn from_list(bytes: ByteList) -> PublicKey
-        requires { length bytes ≡ public_size }
+    pub(crate) fn from_list(bytes: ByteList) -> PublicKey<S>
+        requires { length bytes ≡ S.PUBLIC }
         ensures { result ≡ bytes }
     {
-        PublicKey { bytes }
+        PublicKey {
+            bytes,
+            set: PhantomData,
+        }
     }
 
-    /// The 1158 bytes.
+    /// The `S::PUBLIC` bytes.
     pub fn as_slice(&self) -> &[u8]
         ensures bytes { result.now ≡ self.now }
-        ensures count { length result.now ≡ public_size }
+        ensures count { length result.now ≡ S.PUBLIC }
     {
         self.bytes.as_slice()
     }
 }
 
-/// A secret key (NTRU Prime round 3, KeyGen): the small codings of f and of 1/g, the public key, rho
-/// and the hash of the public key: 191, 191, 1158, 191 and 32 bytes, together 1763. Contracts see
-/// the bytes.
+/// A secret key (NTRU Prime round 3, KeyGen), of `S::SECRET` bytes: the small codings of f and of
+/// 1/g, the public key, rho, which is as long as a small coding, and 32 bytes of the public key's
+/// hash, the cache. Contracts see the bytes.
 #[derive(Drop)]
-pub struct SecretKey {
+pub struct SecretKey<S: KemParams> {
     bytes: ByteList,
+    set: PhantomData<S>,
 }
 
-impl Model for SecretKey {
+impl<S: KemParams> Model for SecretKey<S> {
     ghost use Rattle.std.specs.Prelude.{ℕ, List, ◌≡◌, length};
-    ghost use Rattle.sntrup_kem.specs.Sizes.{secret_size};
     ghost use Rattle.sntrup_kem.specs.Kem.{HasMalformedPart};
 
     ghost Value = { List ℕ };
 
     ghost view = { λ k. k.bytes };
 
-    ghost invariant = { λ k. (length k.bytes ≡ secret_size) × (¬ HasMalformedPart k.bytes) };
+    ghost invariant = { λ k. (length k.bytes ≡ S.SECRET) × (¬ HasMalformedPart S.set k.bytes) };
 }
 
-// Whether these 191 bytes are the small coding of no polynomial.
-fn is_malformed(alloc: Global, bytes: &[u8]) -> Result<bool, OutOfMemory>
-    requires { length bytes.now ≡ small_size }
-    ensures { IfOk result (λ malformed. IsTrue malformed ↔ IsMalformed degree bytes.now) }
+// The size of a small coding.
+pub(crate) fn small_size<S: Params>() -> usize
+    ensures few { result ≤ 256 }
+    ensures size { result ≡ small_size S.set }
 {
-    Ok(small_decode::<Sntrup761>(alloc, bytes)?.is_none())
+    S::P.div_ceil(4)
+}
+
+// So many bytes from a place on.
+fn part(bytes: &[u8], from: usize, count: usize) -> &[u8]
+    requires { from + count ≤ length bytes.now }
+    ensures part { result.now ≡ take count (drop from bytes.now) }
+    ensures count { length result.now ≡ count }
+{
+    &bytes[from..from + count]
+}
+
+// Whether these bytes are the small coding of no polynomial.
+fn is_malformed<S: Params>(alloc: Global, bytes: &[u8]) -> Result<bool, OutOfMemory>
+    requires { length bytes.now ≡ small_size S.set }
+    ensures { IfOk result (λ malformed. IsTrue malformed ↔ IsMalformed S.set.p bytes.now) }
+{
+    Ok(small_decode::<S>(alloc, bytes)?.is_none())
 }
 
 // Whether one of the two small codings in a secret key's bytes is that of no polynomial.
-fn has_malformed_part(alloc: Global, bytes: &[u8]) -> Result<bool, OutOfMemory>
-    requires { length bytes.now ≡ secret_size }
-    ensures { IfOk result (λ malformed. IsTrue malformed ↔ HasMalformedPart bytes.now) }
+fn has_malformed_part<S: KemParams>(alloc: Global, bytes: &[u8]) -> Result<bool, OutOfMemory>
+    requires { length bytes.now ≡ S.SECRET }
+    ensures { IfOk result (λ malformed. IsTrue malformed ↔ HasMalformedPart S.set bytes.now) }
 {
-    if is_malformed(alloc, &bytes[..SMALL_SIZE])? {
+    let size = small_size::<S>();
+    if is_malformed::<S>(alloc, part(bytes, 0, size))? {
         return Ok(true);
     }
-    is_malformed(alloc, &bytes[SMALL_SIZE..2 * SMALL_SIZE])
+    is_malformed::<S>(alloc, part(bytes, size, size))
 }
 
-impl SecretKey {
+impl<S: KemParams> SecretKey<S> {
     /// The secret key of these bytes.
     ///
-    /// The public key in it, rho and the kept hash are taken as they are: that they belong to f and
-    /// 1/g is not tested.
-    pub fn from_bytes(alloc: Global, bytes: &[u8]) -> Result<SecretKey, KeyBytesFault>
+    /// The public key in it, rho and the cache are taken as they are: that they belong to f and 1/g
+    /// is not tested.
+    pub fn from_bytes(alloc: Global, bytes: &[u8]) -> Result<SecretKey<S>, KeyBytesFault>
         ensures key { IfOk result (λ k. k ≡ bytes.now) }
-        ensures length { (result ≡ Err KeyBytesFault.Length) ↔ (length bytes.now ≢ secret_size) }
+        ensures length { (result ≡ Err KeyBytesFault.Length) ↔ (length bytes.now ≢ S.SECRET) }
         ensures form { result ≢ Err KeyBytesFault.OutOfMemory → ((result ≡ Err KeyBytesFault.Form)
-            ↔ ((length bytes.now ≡ secret_size) × HasMalformedPart bytes.now)) }
+            ↔ ((length bytes.now ≡ S.SECRET) × HasMalformedPart S.set bytes.now)) }
     {
-        if bytes.len() != SECRET_SIZE {
+        if bytes.len() != S::SECRET {
             return Err(KeyBytesFault::Length);
         }
-        if has_malformed_part(alloc, bytes)? {
+        if has_malformed_part::<S>(alloc, bytes)? {
             return Err(KeyBytesFault::Form);
         }
         Ok(SecretKey::from_list(copied(alloc, bytes)?))
     }
 
     // The secret key of these bytes, which it keeps.
-    pub(crate) fn from_list(bytes: ByteList) -> SecretKey
-        requires count { length bytes ≡ secret_size }
-        requires form { ¬ HasMalformedPart bytes }
+    pub(crate) fn from_list(bytes: ByteList) -> SecretKey<S>
+        requires count { length bytes ≡ S.SECRET }
+        requires form { ¬ HasMalformedPart S.set bytes }
         ensures { result ≡ bytes }
     {
-        SecretKey { bytes }
+        SecretKey {
+            bytes,
+            set: PhantomData,
+        }
     }
 
-    /// The 1763 bytes.
+    /// The `S::SECRET` bytes.
     pub fn as_slice(&self) -> &[u8]
         ensures bytes { result.now ≡ self.now }
-        ensures count { length result.now ≡ secret_size }
+        ensures count { length result.now ≡ S.SECRET }
     {
         self.bytes.as_slice()
     }
 
     /// The public key in it.
-    pub fn public(&self, alloc: Global) -> Result<PublicKey, OutOfMemory>
-        ensures { IfOk result (λ k. k ≡ public_part self.now) }
+    pub fn public(&self, alloc: Global) -> Result<PublicKey<S>, OutOfMemory>
+        ensures { IfOk result (λ k. k ≡ public_part S.set self.now) }
     {
         Ok(PublicKey::from_list(copied(alloc, self.public_bytes())?))
     }
 
     // The coding of f.
     pub(crate) fn f_bytes(&self) -> &[u8]
-        ensures bytes { result.now ≡ f_part self.now }
-        ensures count { length result.now ≡ small_size }
-        ensures form { ¬ IsMalformed degree result.now }
+        ensures bytes { result.now ≡ f_part S.set self.now }
+        ensures count { length result.now ≡ small_size S.set }
+        ensures form { ¬ IsMalformed S.set.p result.now }
     {
-        &self.bytes.as_slice()[..SMALL_SIZE]
+        part(self.bytes.as_slice(), 0, small_size::<S>())
     }
 
     // The coding of 1/g.
     pub(crate) fn ginv_bytes(&self) -> &[u8]
-        ensures bytes { result.now ≡ ginv_part self.now }
-        ensures count { length result.now ≡ small_size }
-        ensures form { ¬ IsMalformed degree result.now }
+        ensures bytes { result.now ≡ ginv_part S.set self.now }
+        ensures count { length result.now ≡ small_size S.set }
+        ensures form { ¬ IsMalformed S.set.p result.now }
     {
-        &self.bytes.as_slice()[SMALL_SIZE..2 * SMALL_SIZE]
+        let size = small_size::<S>();
+        part(self.bytes.as_slice(), size, size)
     }
 
     // The public key.
     pub(crate) fn public_bytes(&self) -> &[u8]
-        ensures bytes { result.now ≡ public_part self.now }
-        ensures count { length result.now ≡ public_size }
+        ensures bytes { result.now ≡ public_part S.set self.now }
+        ensures count { length result.now ≡ S.PUBLIC }
     {
-        &self.bytes.as_slice()[2 * SMALL_SIZE..2 * SMALL_SIZE + PUBLIC_SIZE]
+        part(self.bytes.as_slice(), 2 * small_size::<S>(), S::PUBLIC)
     }
 
     // What the rejection key is made of.
     pub(crate) fn rho(&self) -> &[u8]
-        ensures { result.now ≡ rho_part self.now }
+        ensures { result.now ≡ rho_part S.set self.now }
     {
-        &self.bytes.as_slice()[2 * SMALL_SIZE + PUBLIC_SIZE..3 * SMALL_SIZE + PUBLIC_SIZE]
+        let size = small_size::<S>();
+        part(self.bytes.as_slice(), 2 * size + S::PUBLIC, size)
     }
 
     // The hash of the public key, as it was given.
-    pub(crate) fn kept_hash(&self) -> &[u8]
-        ensures { result.now ≡ hash_part self.now }
+    pub(crate) fn cache(&self) -> &[u8]
+        ensures { result.now ≡ cache_part S.set self.now }
     {
-        &self.bytes.as_slice()[3 * SMALL_SIZE + PUBLIC_SIZE..]
+        &self.bytes.as_slice()[3 * small_size::<S>() + S::PUBLIC..]
     }
 }

@@ -1,15 +1,16 @@
-//! The KEM of Streamlined NTRU Prime with the set sntrup761 (NTRU Prime round 3, KeyGen, Encap and
-//! Decap): a session key of 32 bytes for two ends, of which one knows the other's public key.
+//! The KEM of Streamlined NTRU Prime (NTRU Prime round 3, KeyGen, Encap and Decap) with the sets
+//! sntrup761 and sntrup857: a session key of 32 bytes for two ends, of which one knows the other's
+//! public key.
 //!
-//! A contract sees a [`PublicKey`] as its 1158 bytes, a [`SecretKey`] as its 1763 bytes and an
-//! [`Enc`] as its 1039 bytes. Each call is a function of these and of the random words that it is
-//! given, by the definitions of `specs/Kem.antt`, with each
-//! [`Multiplier`](ring_core::Multiplier). [`decap`] refuses no ciphertext: other bytes than those of
-//! an encapsulation get a key that is made from them and a secret of the key. [`laws`] says that both
-//! ends get the same key, with every pair of keys that [`generate`] gives.
+//! A contract sees a [`PublicKey`], a [`SecretKey`] and an [`Enc`] as their bytes, of which there
+//! are as many as [`KemParams`] says of the set. Each call is a function of these and of the random
+//! words that it is given, by the definitions of `specs/Kem.antt`, with each
+//! [`Multiplier`](ring_core::Multiplier). [`decap`] refuses no ciphertext: other bytes than those
+//! of an encapsulation get a key that is made from them and a secret of the key. [`laws`] says that
+//! both ends get the same key, with every pair of keys that [`generate`] gives.
 //!
-//! Not here: other parameter sets. Nothing is claimed of secrecy, and nothing is constant time or
-//! wiped; the comparison in [`decap`] may end early.
+//! Nothing is claimed of secrecy, and nothing is constant time or wiped; the comparison in
+//! [`decap`] may end early.
 #![tactic(auto)]
 
 mod encapsulation;
@@ -17,10 +18,12 @@ mod generation;
 mod hashes;
 mod keys;
 pub mod laws;
+mod params;
 
 pub use encapsulation::{Enc, decap, encap};
 pub use generation::generate;
 pub use keys::{KeyBytesFault, PublicKey, SecretKey};
+pub use params::KemParams;
 pub use sntrup_core::KeyFault;
 
 #[cfg(test)]

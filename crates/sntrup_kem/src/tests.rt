@@ -1,63 +1,48 @@
-ghost use Rattle.std.specs.Prelude.{◌≡◌, length};
+ghost use Rattle.std.specs.Prelude.{◌≡◌, length, IfOk, vec_len};
+ghost use Rattle.radix_pack.specs.Codings.{small_length};
 
 use crate::encapsulation::hide;
 use crate::hashes::key_hash;
-use crate::{Enc, KeyBytesFault, PublicKey, SecretKey, decap, encap, generate};
+use crate::laws::exchanged_keys;
+use crate::{Enc, KemParams, KeyBytesFault, PublicKey, SecretKey, decap, encap, generate};
 use hex::FromHex;
 use radix_pack::small_decode;
 use rand_words::SeedStream;
-use ring_core::{Plain, Sntrup761};
+use ring_core::{Plain, Sntrup761, Sntrup857};
 use sha2::{Digest, Sha256};
-use std::alloc::Global;
+use std::alloc::{AllocError as OutOfMemory, Global};
 use std::process::Abort;
-
-// The calls of the crate stand in small functions that promise nothing: what their contracts say at
-// p = 761 is long, and no test needs it.
+use std::test::Fail;
 
 // The keys of stream 0 of a seed.
-fn keys_of(rt: &impl Abort, alloc: Global, seed: &[u8; 32]) -> (PublicKey, SecretKey) {
+fn keys_of<S: KemParams>(
+    rt: &impl Abort,
+    alloc: Global,
+    seed: &[u8; 32],
+) -> (PublicKey<S>, SecretKey<S>) {
     generate(alloc, &mut SeedStream::new(seed, 0), &Plain).expect(rt, "keys")
 }
 
 // The encapsulation of stream 1 of a seed, and its session key.
-fn encapsulated(
+fn encapsulated<S: KemParams>(
     rt: &impl Abort,
     alloc: Global,
     seed: &[u8; 32],
-    public: &PublicKey,
-) -> (Enc, [u8; 32]) {
+    public: &PublicKey<S>,
+) -> (Enc<S>, [u8; 32]) {
     let made = encap(alloc, &mut SeedStream::new(seed, 1), &Plain, public);
     made.expect(rt, "an encapsulation")
 }
 
-fn decapsulated(rt: &impl Abort, alloc: Global, enc: &[u8], secret: &SecretKey) -> [u8; 32]
-    requires { length enc.now ≡ 1039 }
+fn decapsulated<S: KemParams>(
+    rt: &impl Abort,
+    alloc: Global,
+    enc: &[u8],
+    secret: &SecretKey<S>,
+) -> [u8; 32]
+    requires { length enc.now ≡ S.ENC }
 {
     decap(alloc, &Plain, enc, secret).expect(rt, "a session key")
-}
-
-fn public_of(rt: &impl Abort, alloc: Global, bytes: &[u8]) -> PublicKey {
-    PublicKey::from_bytes(alloc, bytes).expect(rt, "a public key")
-}
-
-fn secret_of(rt: &impl Abort, alloc: Global, bytes: &[u8]) -> SecretKey {
-    SecretKey::from_bytes(alloc, bytes).expect(rt, "a secret key")
-}
-
-fn public_in(rt: &impl Abort, alloc: Global, secret: &SecretKey) -> PublicKey {
-    secret.public(alloc).expect(rt, "a public key")
-}
-
-fn fault_of_public(alloc: Global, bytes: &[u8]) -> Option<KeyBytesFault> {
-    PublicKey::from_bytes(alloc, bytes).err()
-}
-
-fn fault_of_secret(alloc: Global, bytes: &[u8]) -> Option<KeyBytesFault> {
-    SecretKey::from_bytes(alloc, bytes).err()
-}
-
-fn digest_of(bytes: &[u8]) -> [u8; 32] {
-    Sha256::digest(bytes)
 }
 
 fn bytes_of(rt: &impl Abort, digits: &str) -> [u8; 32] {
@@ -80,7 +65,7 @@ struct KemCase {
 // The C implementation of sntrup761 that OpenSSH 9.2p1 ships, fed with words of ChaCha20: the key
 // from stream 0 of the seed, the encapsulation from stream 1, each from word 0. libntruprime
 // 20241021 gives the same.
-const KEM_CASES: [KemCase; 3] = [
+const KEM_761: [KemCase; 4] = [
     KemCase {
         seed: "0000000000000000000000000000000000000000000000000000000000000000",
         sha256_pk: "e9cfcf9d46e1480b876470c04bff9bd008c180b2e95373cc6d4af86ac566589f",
@@ -96,6 +81,13 @@ const KEM_CASES: [KemCase; 3] = [
         shared_secret: "25f2c03f076e28252b2a045ed54d59caf6dd230d92151be16f1dbc2b317d78ea",
     },
     KemCase {
+        seed: "0202020202020202020202020202020202020202020202020202020202020202",
+        sha256_pk: "8387862d8ecbde5042388ea9116b55bb5ff726d5468230b6070322cd996683c5",
+        sha256_sk: "9585ffb27b5f20ea8c6fa882e3a1fcbff5ff2152eab0b32b257ad2ff8e2a4fc4",
+        sha256_enc: "4c9d5324cdfb4636a20f412352eba0071fa3cd0730330ef91c134c324d6fe475",
+        shared_secret: "169fedffdeaa0483377ac8fc72cc4edca3b55d28258d3fbeda0d3f28815ae037",
+    },
+    KemCase {
         seed: "1f652f8be0a9a27e90c666edfe8f23b48da450235c75eef0a59ba6e15919bce1",
         sha256_pk: "c9d59776cb4f6b28f70fb9566fe3be5a1cb7750f3a4f9968004a9e7dbace05f5",
         sha256_sk: "ac4a459506c4fc6d4dc63cb7067b83e73395ccc191ea2cb9bf9704cb98cadd3a",
@@ -104,190 +96,288 @@ const KEM_CASES: [KemCase; 3] = [
     },
 ];
 
-fn assert_keys(rt: &impl Abort, case: &KemCase, public: &PublicKey, secret: &SecretKey) {
-    let digest = digest_of(public.as_slice());
+// sntrup857 of libntruprime 20241021, fed with the same words.
+const KEM_857: [KemCase; 4] = [
+    KemCase {
+        seed: "0000000000000000000000000000000000000000000000000000000000000000",
+        sha256_pk: "5802250fb3ad00451bcf7333cf40e823d08c67ce687b56f150907e9452429f51",
+        sha256_sk: "9b33a3956ee0536794b3a1e4a7b71528df39d0f5a6a0bef852958bd74f71cc2a",
+        sha256_enc: "f9220c2c4edd31b35b67e808f91a156e93f5568fca7c4818ea48985c8b09c3d6",
+        shared_secret: "bef4a6513a405179b943b4565b72fa6a2ce9f29760c4fd788240e223a845a693",
+    },
+    KemCase {
+        seed: "0101010101010101010101010101010101010101010101010101010101010101",
+        sha256_pk: "ae1f805d3c94652e1d52353d4fcd62cf7d2aa5c4fc439ab3b9e241a79b7e49f1",
+        sha256_sk: "4c8aa3dc09b177bc1c40510c90d554e8d8d2b82be7c7e21bc1817c769f07a0ce",
+        sha256_enc: "5864abee9bb60c0996edd9089de475c0ab778336deeff5a46ef7f06901f568fc",
+        shared_secret: "baad0992875dead35e2e5a090d6382cb0d3454c9c7c023fa406d0a8de4f3077d",
+    },
+    KemCase {
+        seed: "0202020202020202020202020202020202020202020202020202020202020202",
+        sha256_pk: "6dd7dd9bd8c8ff8395838eb4f12274ee9969c3ddbc3dc314c90a445b03efb131",
+        sha256_sk: "b3698c612af6636ad798a007e90367809f86a8ada294b514d453146edd4c3f20",
+        sha256_enc: "bb9f9efd353d6f8c37373bb64478a81698db527c1fa18467c75a140682937cca",
+        shared_secret: "79cffce5ad8c70f2a6c64cc18d5241f6cb24fb94605440a346e56b27aa8f7881",
+    },
+    KemCase {
+        seed: "1f652f8be0a9a27e90c666edfe8f23b48da450235c75eef0a59ba6e15919bce1",
+        sha256_pk: "1cb01140e69b78193746905cb9791f10979ea192f3abf6762cd60d036f25c07b",
+        sha256_sk: "b0b650bd4904850152b923594e366c094eacbb6f3a87aae1ecfa1f5aa82affc6",
+        sha256_enc: "ee38c74c75cba16b459e601af7d089fa6ada0fbe299b64bc903003a6b20b5de9",
+        shared_secret: "be686f83d8f59b45b5b3b9e2e309e000730f423ff2593a58d7961b8b25809de4",
+    },
+];
+
+fn assert_keys<S: KemParams>(
+    rt: &impl Abort,
+    case: &KemCase,
+    public: &PublicKey<S>,
+    secret: &SecretKey<S>,
+) {
+    let digest = Sha256::digest(public.as_slice());
     assert_bytes(rt, &digest, case.sha256_pk, "public key", case.seed);
-    let digest = digest_of(secret.as_slice());
+    let digest = Sha256::digest(secret.as_slice());
     assert_bytes(rt, &digest, case.sha256_sk, "secret key", case.seed);
 }
 
 // Encapsulates for the public key, and decapsulates with the secret key.
-fn assert_session(
+fn assert_session<S: KemParams>(
     rt: &impl Abort,
     alloc: Global,
     case: &KemCase,
-    public: &PublicKey,
-    secret: &SecretKey,
+    public: &PublicKey<S>,
+    secret: &SecretKey<S>,
 ) {
     let (enc, key) = encapsulated(rt, alloc, &bytes_of(rt, case.seed), public);
-    let digest = digest_of(enc.as_slice());
+    let digest = Sha256::digest(enc.as_slice());
     assert_bytes(rt, &digest, case.sha256_enc, "encapsulation", case.seed);
     assert_bytes(rt, &key, case.shared_secret, "session key", case.seed);
-    let opened = decapsulated(rt, alloc, enc.as_slice(), secret);
-    assert_bytes(rt, &opened, case.shared_secret, "decapsulated", case.seed);
+    let key = decapsulated(rt, alloc, enc.as_slice(), secret);
+    assert_bytes(rt, &key, case.shared_secret, "decapsulated", case.seed);
 }
 
-fn assert_held(rt: &impl Abort, case: &KemCase, held: &PublicKey, public: &PublicKey) {
-    let seed = case.seed;
-    assert_eq!(rt;
-        held.as_slice(),
-        public.as_slice(),
-        "held public key, {seed}"
-    );
-}
-
-fn assert_case(rt: &impl Abort, alloc: Global, case: &KemCase) {
-    let (public, secret) = keys_of(rt, alloc, &bytes_of(rt, case.seed));
-    assert_keys(rt, case, &public, &secret);
-    let read = secret_of(rt, alloc, secret.as_slice());
-    assert_session(rt, alloc, case, &public, &read);
-    assert_held(rt, case, &public_in(rt, alloc, &read), &public);
+// The keys are read again from their bytes, and the public key from the secret one.
+fn assert_case<S: KemParams>(rt: &impl Abort, alloc: Global, case: &KemCase) {
+    let (public, made) = keys_of::<S>(rt, alloc, &bytes_of(rt, case.seed));
+    assert_keys(rt, case, &public, &made);
+    let secret = SecretKey::<S>::from_bytes(alloc, made.as_slice()).expect(rt, "a secret key");
+    let held = secret.public(alloc).expect(rt, "a public key");
+    assert!(rt; held.as_slice() == public.as_slice());
+    assert_session(rt, alloc, case, &held, &secret);
 }
 
 #[test]
 fn keys_and_session_keys_are_those_of_other_implementations(rt: HostRuntime) {
-    for case in &KEM_CASES {
-        assert_case(&rt, rt.alloc(), case);
+    for case in &KEM_761 {
+        assert_case::<Sntrup761>(&rt, rt.alloc(), case);
+    }
+    for case in &KEM_857 {
+        assert_case::<Sntrup857>(&rt, rt.alloc(), case);
     }
 }
 
+fn assert_exchange<S: KemParams>(rt: &impl Abort, alloc: Global) {
+    let mut words = SeedStream::new(&[0; 32], 2);
+    let made = exchanged_keys::<S, SeedStream, Plain, Plain, Plain>(
+        alloc, &mut words, &Plain, &Plain, &Plain,
+    );
+    let (sent, received) = made.expect(rt, "an exchange");
+    assert_eq!(rt; sent, received);
+}
+
+#[test]
+fn both_ends_of_an_exchange_get_the_same_key(rt: HostRuntime) {
+    assert_exchange::<Sntrup761>(&rt, rt.alloc());
+    assert_exchange::<Sntrup857>(&rt, rt.alloc());
+}
+
+// Rejection keys: with bit 0 of the byte at a place flipped, of the rounded part or of the hash;
+// and of what Hide makes of an r of weight w - 1, which is decrypted to that r. Its coding begins
+// with so many bytes of four ones.
 struct RejectedCase {
-    place: usize,
-    key: &'static str,
+    spoilt: [(usize, &'static str); 4],
+    whole_bytes: usize,
+    light: &'static str,
 }
 
-// Own, by Python 3.11: tools/vectors/sntrup_reject.py. The key of stream 0 of the zero seed, and the
-// encapsulation of stream 1 with bit 0 of one byte flipped: of the rounded part, or of the hash.
-const REJECTED: [RejectedCase; 4] = [
-    RejectedCase {
-        place: 0,
-        key: "bd892edc23a801796ba640041e4832fb5fbd17fbda8899afd61a27ff72ca22d6",
-    },
-    RejectedCase {
-        place: 1006,
-        key: "faaadbf0daa9ed31f6a21aff9efbfe249c4cb75cdf8adba15f899bf2870af968",
-    },
-    RejectedCase {
-        place: 1007,
-        key: "23a35eba929c21866627422191d304469b55f63b385a0f801460f17db6a1d9da",
-    },
-    RejectedCase {
-        place: 1038,
-        key: "57a1e830fc3c0691ee85920bbd35fda1f8e352fc1b4ce7be671495615cbed00a",
-    },
-];
+// Own, by Python 3.11: tools/vectors/sntrup_reject.py, with the key of stream 0 of the zero seed
+// and the encapsulation of stream 1.
+const REJECTED_761: RejectedCase = RejectedCase {
+    spoilt: [
+        (
+            0,
+            "bd892edc23a801796ba640041e4832fb5fbd17fbda8899afd61a27ff72ca22d6",
+        ),
+        (
+            1006,
+            "faaadbf0daa9ed31f6a21aff9efbfe249c4cb75cdf8adba15f899bf2870af968",
+        ),
+        (
+            1007,
+            "23a35eba929c21866627422191d304469b55f63b385a0f801460f17db6a1d9da",
+        ),
+        (
+            1038,
+            "57a1e830fc3c0691ee85920bbd35fda1f8e352fc1b4ce7be671495615cbed00a",
+        ),
+    ],
+    whole_bytes: 71,
+    light: "07f92fc7bf87edd155f9d1038e161f00ead1c62d9472afa8f44339dee5aa8754",
+};
 
-// What Hide makes of 285 ones followed by zeros, which is decrypted to them: a row of the same tool.
-const WEIGHT_285: &str = "07f92fc7bf87edd155f9d1038e161f00ead1c62d9472afa8f44339dee5aa8754";
+const REJECTED_857: RejectedCase = RejectedCase {
+    spoilt: [
+        (
+            0,
+            "1e9b0ab17f1133a44332236af90e1b274592941b9736e240edbd94090ec82096",
+        ),
+        (
+            1151,
+            "6694ff8674ca7c875b1caebbe4a73d61e56f579dec833b45f90dab45f5af1ba6",
+        ),
+        (
+            1152,
+            "60f05045adfa5be9b1c45ea8f03c47603c25535bf05e0bad0df3c4a90538a5ea",
+        ),
+        (
+            1183,
+            "e1a8a36d21ddcb0acbe24da52598b58b11b0441ff2ad5e50c2206861f3b9d579",
+        ),
+    ],
+    whole_bytes: 80,
+    light: "fa3512bf3b93fd140dc54671abfbe0b6f787e67243f99ad3212a50b73fe0fb67",
+};
 
-fn spoilt(enc: &[u8], place: usize) -> [u8; 1039]
-    requires { length enc.now ≡ 1039 }
+// The bytes with bit 0 of one flipped.
+fn spoilt(alloc: Global, enc: &[u8], place: usize) -> Result<Vec<u8>, OutOfMemory>
+    ensures { IfOk result (λ v. vec_len v ≡ length enc.now) }
 {
-    let mut bytes = [0u8; 1039];
-    bytes.copy_from_slice(enc);
-    if place < 1039 {
-        bytes[place] ^= 1;
+    let mut bytes = Vec::from_slice(alloc, enc)?;
+    if let Some(byte) = bytes.get_mut(place) {
+        *byte ^= 1;
     }
-    bytes
+    Ok(bytes)
 }
 
-// The small coding of 285 ones followed by zeros.
-fn light_coding() -> [u8; 191] {
-    let mut coding = [0x55u8; 191];
-    coding[..71].fill(0xaa);
-    coding[71] = 0x56;
-    coding[190] = 0x01;
-    coding
+// Makes the small coding of w - 1 ones followed by zeros of bytes 0x55: w - 1 is one more than a
+// multiple of 4 in both sets, and so is p.
+fn write_light(coding: &mut [u8], whole_bytes: usize) {
+    for (k, byte) in coding.iter_mut().enumerate() {
+        if k < whole_bytes {
+            *byte = 0xaa;
+        } else if k == whole_bytes {
+            *byte = 0x56;
+        }
+    }
+    if let Some(last) = coding.last_mut() {
+        *last = 0x01;
+    }
 }
 
-// What Hide makes of 285 ones followed by zeros, decapsulated.
-#[tactic(auto, using(radix_pack::specs::Lengths::rq_length_761, radix_pack::specs::Lengths::rounded_length_761,))]
-fn light_key(alloc: Global, public: &PublicKey, secret: &SecretKey) -> Option<[u8; 32]> {
-    let light = small_decode::<Sntrup761>(alloc, &light_coding()).ok()??;
-    let kept = key_hash(public.as_slice());
-    let hidden = hide(alloc, &Plain, public.as_slice(), &kept, &light).ok()?;
+// Its encapsulation, which has the right hash, decapsulated.
+fn light_key<S: KemParams>(
+    alloc: Global,
+    whole_bytes: usize,
+    public: &PublicKey<S>,
+    secret: &SecretKey<S>,
+) -> Option<[u8; 32]> {
+    let mut coding = vec![in alloc; 0x55u8; S::P.div_ceil(4)].ok()?;
+    write_light(&mut coding, whole_bytes);
+    let light = small_decode::<S>(alloc, &coding).ok()??;
+    let cache = key_hash(public.as_slice());
+    let hidden = hide(alloc, &Plain, public.as_slice(), &cache, &light).ok()?;
     decap(alloc, &Plain, hidden.enc.as_slice(), secret).ok()
 }
 
-fn assert_light_rejected(rt: &impl Abort, alloc: Global, public: &PublicKey, secret: &SecretKey) {
-    let key = light_key(alloc, public, secret);
-    assert_eq!(rt; key, Some(bytes_of(rt, WEIGHT_285)), "weight 285");
-}
-
-// Decapsulates the encapsulation with one byte of it spoilt.
-fn assert_rejected(
+fn assert_rejected<S: KemParams>(
     rt: &impl Abort,
     alloc: Global,
     case: &RejectedCase,
-    enc: &Enc,
-    secret: &SecretKey,
-) {
-    let place = case.place;
-    let key = decapsulated(rt, alloc, &spoilt(enc.as_slice(), place), secret);
-    assert_eq!(rt; key, bytes_of(rt, case.key), "byte {place}");
+) -> Result<(), OutOfMemory> {
+    let (public, secret) = keys_of::<S>(rt, alloc, &[0; 32]);
+    let (enc, _) = encapsulated(rt, alloc, &[0; 32], &public);
+    for (place, digits) in &case.spoilt {
+        let other = spoilt(alloc, enc.as_slice(), *place)?;
+        let key = decapsulated(rt, alloc, &other, &secret);
+        assert_eq!(rt; key, bytes_of(rt, digits), "byte {place}");
+    }
+    let key = light_key(alloc, case.whole_bytes, &public, &secret);
+    assert_eq!(rt; key, Some(bytes_of(rt, case.light)), "weight");
+    Ok(())
 }
 
 #[test]
-fn other_ciphertexts_get_the_rejection_key(rt: HostRuntime) {
-    let (public, secret) = keys_of(&rt, rt.alloc(), &[0; 32]);
-    let (enc, _) = encapsulated(&rt, rt.alloc(), &[0; 32], &public);
-    for case in &REJECTED {
-        assert_rejected(&rt, rt.alloc(), case, &enc, &secret);
+fn other_ciphertexts_get_the_rejection_key(rt: HostRuntime) -> Result<(), Fail> {
+    assert_rejected::<Sntrup761>(&rt, rt.alloc(), &REJECTED_761)?;
+    assert_rejected::<Sntrup857>(&rt, rt.alloc(), &REJECTED_857)?;
+    Ok(())
+}
+
+fn secret_fault<S: KemParams>(alloc: Global, bytes: &[u8]) -> Option<KeyBytesFault> {
+    SecretKey::<S>::from_bytes(alloc, bytes).err()
+}
+
+fn public_fault<S: KemParams>(alloc: Global, bytes: &[u8]) -> Option<KeyBytesFault> {
+    PublicKey::<S>::from_bytes(alloc, bytes).err()
+}
+
+// The secret key's bytes with all polynomials -1, and the byte ff at a place.
+fn secret_with<S: KemParams>(alloc: Global, place: usize) -> Result<Vec<u8>, OutOfMemory> {
+    let mut bytes = vec![in alloc; 0u8; S::SECRET]?;
+    if let Some(byte) = bytes.get_mut(place) {
+        *byte = 0xff;
     }
-    assert_light_rejected(&rt, rt.alloc(), &public, &secret);
+    Ok(bytes)
 }
 
-// The secret key's bytes with all polynomials -1, and one byte in its place.
-fn secret_with(place: usize, byte: u8) -> [u8; 1763] {
-    let mut bytes = [0u8; 1763];
-    if place < 1763 {
-        bytes[place] = byte;
+// `small` is the size of a small coding.
+fn assert_refused<S: KemParams>(
+    rt: &impl Abort,
+    alloc: Global,
+    small: usize,
+) -> Result<(), OutOfMemory> {
+    for place in [
+        0,
+        small.wrapping_sub(1),
+        small,
+        small.wrapping_mul(2).wrapping_sub(1),
+    ] {
+        let fault = secret_fault::<S>(alloc, &secret_with::<S>(alloc, place)?);
+        assert_eq!(rt; fault, Some(KeyBytesFault::Form), "ff at {place}");
     }
-    bytes
-}
-
-fn short_secret() -> [u8; 1762] {
-    [0; 1762]
-}
-
-fn short_public() -> [u8; 1157] {
-    [0xff; 1157]
-}
-
-fn high_public() -> [u8; 1158] {
-    [0xff; 1158]
-}
-
-fn assert_malformed(rt: &impl Abort, alloc: Global, place: usize) {
-    let fault = fault_of_secret(alloc, &secret_with(place, 0xff));
-    assert_eq!(rt; fault, Some(KeyBytesFault::Form), "ff at {place}");
-}
-
-fn assert_secret(rt: &impl Abort, alloc: Global, bytes: &[u8; 1763]) {
-    let whole = secret_of(rt, alloc, bytes);
-    assert_eq!(rt; whole.as_slice(), &bytes[..], "zeros");
+    let whole = secret_with::<S>(alloc, small.wrapping_mul(2))?;
+    assert_eq!(rt; secret_fault::<S>(alloc, &whole), None);
+    for count in [S::SECRET.wrapping_sub(1), S::SECRET.wrapping_add(1)] {
+        let fault = secret_fault::<S>(alloc, &vec![in alloc; 0u8; count]?);
+        assert_eq!(rt; fault, Some(KeyBytesFault::Length), "{count} bytes");
+    }
+    for (count, want) in [
+        (S::PUBLIC.wrapping_sub(1), Some(KeyBytesFault::Length)),
+        (S::PUBLIC, None),
+        (S::PUBLIC.wrapping_add(1), Some(KeyBytesFault::Length)),
+    ] {
+        let fault = public_fault::<S>(alloc, &vec![in alloc; 0xffu8; count]?);
+        assert_eq!(rt; fault, want, "{count} bytes");
+    }
+    Ok(())
 }
 
 #[test]
-fn bytes_of_no_key_are_refused(rt: HostRuntime) {
-    let short = fault_of_secret(rt.alloc(), &short_secret());
-    assert_eq!(rt; short, Some(KeyBytesFault::Length), "1762 bytes");
-    assert_secret(&rt, rt.alloc(), &secret_with(0, 0));
-    for place in [0, 190, 191, 381] {
-        assert_malformed(&rt, rt.alloc(), place);
-    }
-}
-
-// The bytes are a key, and an encapsulation to it is made.
-fn assert_public(rt: &impl Abort, alloc: Global, bytes: &[u8; 1158]) {
-    let public = public_of(rt, alloc, bytes);
-    assert_eq!(rt; public.as_slice(), &bytes[..], "1158 bytes ff");
-    encapsulated(rt, alloc, &[0; 32], &public);
+fn bytes_of_no_key_are_refused(rt: HostRuntime) -> Result<(), Fail> {
+    assert_refused::<Sntrup761>(&rt, rt.alloc(), 191)?;
+    assert_refused::<Sntrup857>(&rt, rt.alloc(), 215)?;
+    Ok(())
 }
 
 #[test]
-fn every_1158_bytes_are_a_public_key(rt: HostRuntime) {
-    let short = fault_of_public(rt.alloc(), &short_public());
-    assert_eq!(rt; short, Some(KeyBytesFault::Length), "1157 bytes");
-    assert_public(&rt, rt.alloc(), &high_public());
+fn each_fault_is_printed(rt: HostRuntime) -> Result<(), Fail> {
+    for (fault, text) in [
+        (KeyBytesFault::Length, "the key has another length"),
+        (KeyBytesFault::Form, "the bytes encode no key"),
+        (KeyBytesFault::OutOfMemory, "out of memory"),
+    ] {
+        let printed = format!(in rt.alloc(); "{fault}")?;
+        assert_eq!(rt; printed.as_str(), text);
+    }
+    Ok(())
 }
