@@ -1,6 +1,6 @@
 -- Sixteen sums at a time. A lane holds a number by its bits; `bits` and `number` go there and back.
 use Rattle.std.proofs.Common.{◌≡◌, ℕ, ◌+◌, ◌-◌, ◌^◌, ◌<◌, ◌≤◌, ℤ, pos, List, [], ◌∷◌, length, map, arith, ap, sym, ◌∙◌, refl, inl, inr}
-use Rattle.std.specs.Prelude.{◌+ℤ◌, ◌*ℤ◌, unsigned_abs}
+use Rattle.std.specs.Prelude.{◌+ℤ◌, unsigned_abs}
 use Rattle.std.specs.Int.{cast_signed, cast_unsigned, w16, w32}
 use Rattle.std.specs.Int.RustNames.{FitsSigned}
 use Rattle.std.proofs.lemmas.Bool.{cases_lt}

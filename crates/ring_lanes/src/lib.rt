@@ -16,3 +16,6 @@ mod narrow;
 mod wide;
 
 pub use multiplier::Lanes;
+
+#[cfg(test)]
+mod tests;

@@ -1,4 +1,7 @@
 //! The convolution in lanes of 16 bits, for R/3.
+//!
+//! It goes as that of `wide` does. Both factors are small, so that a sum is at most the number of
+//! rows, which fits half the lane.
 
 ghost use Rattle.std.specs.Prelude.{◌≡◌, ℕ, pos, ◌*◌, ◌%◌, ◌^◌, ◌<◌, ◌≤◌, unsigned_abs, length, vec_len, IfOk};
 ghost use Rattle.ring_core.specs.Bounds.{IsWithin};

@@ -1,4 +1,9 @@
 //! The convolution in lanes of 32 bits, for R/q.
+//!
+//! Each coefficient of the small factor is -1, 0 or 1, so its row is the long factor itself, its
+//! negative, or nothing. The negatives are made once, so there is one kernel, which adds: 16 sums at
+//! a time, and those past the last whole block one by one. At most 1023 rows of coefficients up to
+//! 4096 leave a lane far from its ends, so none wraps (`Convolved` of the proofs of `ring_core`).
 
 ghost use Rattle.std.specs.Prelude.{◌≡◌, ℕ, pos, ◌*◌, ◌%◌, ◌^◌, ◌<◌, ◌≤◌, unsigned_abs, length, vec_len, IfOk};
 ghost use Rattle.ring_core.specs.Bounds.{IsWithin};

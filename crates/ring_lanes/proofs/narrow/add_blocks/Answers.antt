@@ -1,11 +1,10 @@
-use Rattle.std.proofs.Common.{◌≡◌, ◌+◌, ◌*◌, ◌/◌, ◌≤◌, ◌^◌, ℕ, length, arith, ap, ◌∙◌}
+use Rattle.std.proofs.Common.{◌+◌, ◌*◌, ◌≤◌, ◌^◌, ℕ, arith, ap}
 use Rattle.std.specs.Prelude.{unsigned_abs}
 use Rattle.std.specs.Int.{cast_signed, cast_unsigned, w16}
 use borrow.Rule.Simd.Lanes.{Asks2, act2}
 use borrow.Table.Row.{s_int}
 use mir.Syntax.{add, signed}
 use Rattle.ring_core.specs.Product.{coefficients}
-use Rattle.ring_core.proofs.Row.{RowDone}
 use Rattle.ring_lanes.proofs.Blocks.{asks_16, sum_16, Each2-blocks, RowDone-lanes}
 use Rattle.ring_lanes.proofs.narrow.add_blocks.Goals as goal
 

@@ -1,5 +1,5 @@
 use Rattle.std.proofs.Common.{arith}
-use Rattle.std.proofs.lemmas.Int.{to_z-of_z, ints}
+use Rattle.std.proofs.lemmas.Int.{ints}
 use Rattle.ring_core.proofs.Row.{RowDone-more}
 use Rattle.ring_lanes.proofs.wide.add_rest.Goals as goal
 

@@ -1,4 +1,4 @@
-use Rattle.std.proofs.Common.{◌≡◌, ◌∙◌, ℕ, List, ap, length}
+use Rattle.std.proofs.Common.{◌≡◌, ◌∙◌, ℕ, ap, length}
 use Rattle.std.proofs.lemmas.Result.{IfOk-weaker}
 use Rattle.ring_core.specs.Product.{coefficients, wrapped_residues}
 use Rattle.ring_core.proofs.Reduce.{product_from_sums, product_same}
