@@ -9,9 +9,9 @@ use Rattle.std.proofs.lemmas.List.Sorted.{IsPermutation-refl, IsPermutation-cons
 use Rattle.call_places.specs.declared.entries.Place.{Place}
 use Rattle.call_places.specs.declared.entries.Mark.{Mark}
 use Rattle.call_places.specs.Entries.{IsBefore}
-use Rattle.legal_journals.specs.Batches.{Batch, Spot, spots, block, place, on, lane_of, IsServed}
+use Rattle.legal_journals.specs.Batches.{Batch, Spot, spots, block, place, on, all_asked, lane_of, IsServed}
 use Rattle.legal_journals.specs.Legal.{OpensOn, Legal}
-use Rattle.legal_journals.specs.Histories.{mark, places, stamps, marks_at, all_stamps, HasLowerStamp, HaveConsecutiveStamps, LegalMarks, LegalHistory, stamped_on, journals_of, IsHistory}
+use Rattle.legal_journals.specs.Histories.{mark, places, stamps, marks_at, all_stamps, HasLowerStamp, HaveConsecutiveStamps, LegalMarks, LegalHistory, stamped_on, journals_of, own_spots, IsHistory}
 use Rattle.legal_journals.proofs.Lists.{own_places-on, on-append, on-spots_same}
 use Rattle.legal_journals.proofs.Members.{In, contains_in, in_contains, contains_at, none_in, RisesBy, pairs_rise}
 use Rattle.legal_journals.proofs.Places.{not_both, not_before}
@@ -150,18 +150,23 @@ block_at c lane call i (suc n) (suc j) l = block_at c lane call (i + 1) n j (ome
 
 -- ---- they are legal
 
+pub parts_legal : (batch : Batch) (h : List Spot) → ((l : ℕ) → own_spots l h ≡ all_asked l 0 (lane_of batch l))
+    → ((c l call n : ℕ) → OpensOn batch c l call n → (front after : List Spot) × (h ≡ front ++ (spots c (block l call 0 n) ++ after)))
+    → (c : ℕ) → Legal batch c (on c h)
+parts_legal batch h lanes together c = legal batch c (on c h) (record {
+  lanes = λ l. own_places-on l c h ∙ ap (on c) (lanes l);
+  together = λ l call n o.
+      let b = together c l call n o in (
+        on c b.0,
+        on c b.1,
+        ap (on c) b.2 ∙ on-append c b.0 (spots c (block l call 0 n) ++ b.1)
+            ∙ ap (λ m. on c b.0 ++ m) (on-append c (spots c (block l call 0 n)) b.1 ∙ ap (λ m. m ++ on c b.1) (on-spots_same c (block l call 0 n))),
+      );
+})
+
 module _ (batch : Batch) (contexts : ℕ) (h : List Spot) (t : IsHistory batch contexts h) where
   legals : (c : ℕ) → Legal batch c (on c h)
-  legals c = legal batch c (on c h) (record {
-    lanes = λ l. own_places-on l c h ∙ ap (on c) (t.lanes l);
-    together = λ l call n o.
-        let b = t.together c l call n o in (
-          on c b.0,
-          on c b.1,
-          ap (on c) b.2 ∙ on-append c b.0 (spots c (block l call 0 n) ++ b.1)
-              ∙ ap (λ m. on c b.0 ++ m) (on-append c (spots c (block l call 0 n)) b.1 ∙ ap (λ m. m ++ on c b.1) (on-spots_same c (block l call 0 n))),
-        );
-  })
+  legals = parts_legal batch h t.lanes t.together
 
   journal_is : (c : ℕ) → marks_at (journals_of contexts h) c ≡ stamped_on c 0 h
   journal_is c = elim (cases_lt c contexts) [
