@@ -1,5 +1,5 @@
 -- From what all lanes and contexts show to legal journals, and to one history.
-use Rattle.std.proofs.Common.{◌≡◌, ◌≢◌, ℕ, zero, suc, ◌+◌, ◌<◌, ◌==◌, Bool, true, false, cond, List, [], ◌∷◌, ◌++◌, length, map, sym, refl, ap, ◌∙◌, subst, arith, Some, None, inl, inr}
+use Rattle.std.proofs.Common.{◌≡◌, ◌≢◌, ℕ, zero, suc, ◌<◌, List, [], ◌∷◌, ◌++◌, length, map, sym, refl, ap, ◌∙◌, subst, arith, Some, inl, inr}
 use Rattle.std.specs.Prelude.{slice_get, slice_index_or, Contains, flat_map, IsPermutation, ◌↔◌}
 use Rattle.std.specs.List.{AllPairs, range_with_len}
 use Rattle.std.proofs.lemmas.List.{get_or_past}
@@ -18,6 +18,7 @@ use Rattle.legal_journals.specs.Histories.{places, stamps, marks_at, all_stamps,
 use Rattle.legal_journals.specs.Entries.{entry_places, Fits}
 use Rattle.legal_journals.proofs.Members.{In, contains_in, in_contains, map_in, RisesBy, pairs_rise}
 use Rattle.legal_journals.proofs.Legals.{legal}
+use Rattle.legal_journals.proofs.OneLane.{no_ask}
 use Rattle.gathered_lanes.specs.Lanes.{Showing, book, journal, stamped_journals, AllShown}
 use Rattle.gathered_lanes.proofs.Entries.{in_own}
 use Rattle.gathered_lanes.proofs.Contexts as contexts
@@ -48,9 +49,6 @@ marks_rise (e ∷ f ∷ es) t =
       ],
       rest,
     )
-
-no_ask : (a : Ask) → None ≡ Some a → ⊥
-no_ask a e = cc
 
 module _ (batch : Batch) (ciphers : ℕ → Cipher) (s : Showing) (shown : AllShown batch ciphers s) where
   -- a call of a lane that isn't there opens nothing

@@ -1,3 +1,6 @@
 pub mod Entries
 pub mod Contexts
 pub mod Gathering
+pub mod Serving
+pub mod Stamping
+pub mod Examples

@@ -12,9 +12,11 @@
 #![tactic(auto)]
 
 mod laws;
+mod rows;
 #[cfg(test)]
 mod tests;
 
 pub use laws::{
     shown_guesses_may_have_been_made, shown_lanes_are_answered, shown_lanes_have_legal_journals,
 };
+pub use rows::rows_of_showings;

@@ -1,5 +1,6 @@
 use crate::{
-    shown_guesses_may_have_been_made, shown_lanes_are_answered, shown_lanes_have_legal_journals,
+    rows_of_showings, shown_guesses_may_have_been_made, shown_lanes_are_answered,
+    shown_lanes_have_legal_journals,
 };
 
 #[test]
@@ -7,4 +8,5 @@ fn the_laws_are_calls_that_do_nothing() {
     shown_lanes_have_legal_journals();
     shown_lanes_are_answered();
     shown_guesses_may_have_been_made();
+    rows_of_showings();
 }
