@@ -1,0 +1,4 @@
+pub mod Stamps
+pub mod Adding
+pub mod Blocks
+pub mod OneMore
