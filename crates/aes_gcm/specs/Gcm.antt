@@ -65,6 +65,6 @@ pub record Holds (key nonce aad ct : List ℕ) : Type 0 where
   pub long : 16 ≤ length ct
   pub tag : last_16 ct ≡ tag_of key nonce aad (body ct)
 
--- P: what the authenticated decryption function gives where it doesn't fail (7.2, step 5)
+-- P: what the authenticated decryption function gives where it doesn't fail (7.2, step 4)
 unfoldable pub clear : List ℕ → List ℕ → List ℕ → List ℕ
 clear key nonce ct = gctr key nonce (body ct)
