@@ -1,15 +1,15 @@
-//! How many tags were checked.
+//! How many calls of `check_tag` there were.
 
 ghost use Rattle.std.specs.Prelude.{◌≡◌, ◌<◌, ◌+◌, ◌-◌, ◌^◌};
 
 use std::marker::Model;
 use std::thread::Threads;
 
-/// The number of tag checks. A contract sees the number.
+/// The number of calls of `check_tag`. A contract sees the number.
 ///
-/// Nothing but `check_tag` raises it, and it is made only from a runtime that may start threads.
-/// `hash_ciphertext` asks for such a runtime too: who is lent neither it nor a `Checks` checks no
-/// tag.
+/// Nothing else raises it, and it is made only from a runtime that may start threads.
+/// `hash_ciphertext` asks for such a runtime too: who is lent none of such a runtime, a `Checks` and
+/// a `HashedCiphertext` checks no tag.
 #[derive(Drop)]
 pub struct Checks {
     count: u64,
@@ -24,14 +24,14 @@ impl Model for Checks {
 }
 
 impl Checks {
-    /// No check so far.
+    /// No call so far.
     pub fn new<R: Threads>(_rt: &R) -> Checks
         ensures { result ≡ 0 }
     {
         Checks { count: 0 }
     }
 
-    /// The number of tag checks so far.
+    /// The number of calls so far.
     pub fn count(&self) -> u64
         ensures { result ≡ self.now }
     {

@@ -71,7 +71,8 @@ impl Source for MemorySource {
         ensures bytes { Gives result (Some self.old.left) (Some self.new.left) buf.new }
         ensures later { self.old.faults ≤ self.new.faults }
         ensures fails { (result ≡ Got.Failed) ↔ NextFails self.old.failing self.old.calls }
-        ensures most { result ≢ Got.Failed → result ≡ Got.Bytes (most_given self.old (length buf.old)) }
+        ensures most { result ≢ Got.Failed
+            → result ≡ Got.Bytes (most_given self.old (length buf.old)) }
         ensures counted { self.new ≡ record self.old {
           left = self.new.left;
           calls = raised self.old.calls;

@@ -12,8 +12,6 @@
 
 mod laws;
 mod rows;
-#[cfg(test)]
-mod tests;
 
 pub use laws::{
     an_idle_lane_does_nothing, every_schedule_is_legal, every_schedule_is_one_history,

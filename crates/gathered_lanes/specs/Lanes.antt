@@ -68,7 +68,8 @@ pub record OpeningShows (c : Cipher) (seen : List Entry) (lane call : ℕ) (item
   pub guessed : guess ≡ seq_of front
   pub missed : misses ≡ missed guess 0 (numbers_from c due items)
 
--- the lane has a guess and a number of misses for each of its openings of several messages
+-- the lane has a guess for each of its openings of several messages, and each shows what it guessed
+-- and how many it missed
 pub record OpeningsShow (batch : Batch) (ciphers : ℕ → Cipher) (lane : ℕ)
     (seen : ℕ → List Entry) (guesses misses : List ℕ) : Type 0 where
   pub count : length guesses ≡ guess_count (lane_of batch lane)

@@ -13,8 +13,6 @@
 
 mod laws;
 mod rows;
-#[cfg(test)]
-mod tests;
 
 pub use laws::{
     shown_guesses_may_have_been_made, shown_lanes_are_answered, shown_lanes_have_legal_journals,

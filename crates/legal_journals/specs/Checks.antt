@@ -1,5 +1,5 @@
--- Tests that a program can run on the journals and guesses that it is given. The laws say that they
--- pass exactly where the definitions hold.
+-- Tests of given journals and guesses, which compute. The laws say that they pass exactly where the
+-- definitions hold.
 use Rattle.std.specs.Prelude.{ℕ, ◌+◌, ◌==◌, ◌&&◌, ◌||◌, not, nat_lt, nat_le, Bool, true, false, List, [], ◌∷◌, ◌++◌, length, map, filter, flat_map, slice_get, Option, Some, None}
 use Rattle.std.specs.List.{list_all, range_with_len}
 use Rattle.call_places.specs.declared.entries.Place.{Place}

@@ -9,7 +9,7 @@
 //! An opening of several messages guesses the number at which its turn will come: `Guessed` of
 //! `specs/Guesses.antt` says which guesses it may have made. With stamps the journals of all
 //! contexts are one history: `LegalHistory` of `specs/Histories.antt`. `specs/Checks.antt` has
-//! tests of all this that a program can run.
+//! tests of all this that compute.
 //!
 //! Everything here is a definition or a law of definitions: each function does nothing, and its
 //! contract is the law. What lanes do, and what they show, is said above.
@@ -21,8 +21,6 @@ mod guesses;
 mod histories;
 mod journals;
 mod rows;
-#[cfg(test)]
-mod tests;
 
 pub use checks::{a_guess_is_told, a_legal_history_is_told, a_legal_journal_is_told};
 pub use entries::{

@@ -16,13 +16,18 @@ IsShort set a = IsSmall set a × (weight a ≡ set.w)
 -- coefficient k of g r + 3 f m by the whole numbers, wrapped by x^p = x + 1 and not reduced
 abbrev pub whole_sum : Set → List ℤ → List ℤ → List ℤ → List ℤ → ℕ → ℤ
 whole_sum set g r f m k =
-    wrapped set.p (conv (coefficients g) (coefficients r)) k +ℤ (pos 3 *ℤ wrapped set.p (conv (coefficients f) (coefficients m)) k)
+    wrapped set.p (conv (coefficients g) (coefficients r)) k
+    +ℤ (pos 3 *ℤ wrapped set.p (conv (coefficients f) (coefficients m)) k)
 
 abbrev pub SumsAreBounded : Type 0
 SumsAreBounded =
-    (set : Set) (g r f m : List ℤ) → IsSmall set g → IsShort set r → IsShort set f → IsSmall set m → (k : ℕ) → k < set.p → unsigned_abs (whole_sum set g r f m k) ≤ 8 * set.w
+    (set : Set) (g r f m : List ℤ)
+    → IsSmall set g → IsShort set r → IsShort set f → IsSmall set m
+    → (k : ℕ) → k < set.p → unsigned_abs (whole_sum set g r f m k) ≤ 8 * set.w
 
 -- with each key of key generation, each short r that was encrypted is decrypted
 abbrev pub DecryptsExactly : Set → Type 0
 DecryptsExactly set =
-    (word : ℕ → ℕ) (place j : ℕ) (h f ginv r : List ℤ) → IsKey set word place j h f ginv → IsCentred set.q set.p h → IsSmall set ginv → IsShort set r → decrypted set (encrypted set r h) f ginv ≡ r
+    (word : ℕ → ℕ) (place j : ℕ) (h f ginv r : List ℤ)
+    → IsKey set word place j h f ginv → IsCentred set.q set.p h → IsSmall set ginv
+    → IsShort set r → decrypted set (encrypted set r h) f ginv ≡ r

@@ -16,8 +16,8 @@ use std::snapshot::Snapshot;
 // The word of the table: how many stamps were drawn.
 const DRAWN: usize = 0;
 
-/// A counter of stamps. Contracts see which counter it is, as a list of numbers that no other
-/// counter has, and the sum of its shares.
+/// A counter of stamps. Contracts see which counter it is, as a list of numbers, and the sum of its
+/// shares.
 ///
 /// Threads share it by reference, and a [`StampSeat`] may be sent.
 #[derive(Drop)]
