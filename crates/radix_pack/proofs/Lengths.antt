@@ -19,3 +19,5 @@ rq_length_857 = refl
 pub rounded_length_857 : rounded_length sntrup857 ≡ 1152
 unfolding rounded_length encoded_length pair_bytes pair_radix last_bytes
 rounded_length_857 = refl
+
+pub ruleset lengths = (rq_length_761, rounded_length_761, rq_length_857, rounded_length_857)

@@ -16,7 +16,8 @@ pub(crate) struct Digit {
     pub(crate) radix: u32,
 }
 
-// While the radix is at least `limit`, writes a low byte of the value. Gives the digit that is left.
+// While the radix is at least `limit`, writes a low byte of the value. Gives the digit that is
+// left.
 fn write_low_bytes(out: &mut Vec<u8>, digit: Digit, limit: u32) -> Result<Digit, OutOfMemory>
     requires limit { 2 ≤ limit }
     requires two_turns { radix_in 2 limit digit.radix < limit }

@@ -1,5 +1,5 @@
-//! The codings of Streamlined NTRU Prime as byte strings (NTRU Prime round 3, Encode and Decode, and
-//! the encodings of small, R/q and rounded elements).
+//! The codings of Streamlined NTRU Prime as byte strings (NTRU Prime round 3, Encode and Decode,
+//! and the encodings of small, R/q and rounded elements), for each parameter set.
 //!
 //! A contract sees a [`ByteList`], a [`DigitList`] and an element as lists. What each call gives
 //! stands in `specs/Radix.antt` for digits below any radices, and in `specs/Codings.antt` for the

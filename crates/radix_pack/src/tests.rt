@@ -418,7 +418,7 @@ fn assert_rounded<S: Params>(
     Ok(())
 }
 
-#[tactic(auto, using(crate::proofs::Lengths::rounded_length_761, crate::proofs::Lengths::rounded_length_857,))]
+#[tactic(auto, using(crate::proofs::Lengths::lengths))]
 #[test]
 fn rounded_elements_decode_and_encode(rt: HostRuntime) -> Result<(), Fail> {
     let bytes = bytes_of(rt.alloc(), ROUNDED_761.bytes)?;
@@ -429,8 +429,8 @@ fn rounded_elements_decode_and_encode(rt: HostRuntime) -> Result<(), Fail> {
     assert_rounded::<Sntrup857>(&rt, rt.alloc(), &ROUNDED_857, &bytes)
 }
 
-// A small coding, whose last byte has one coefficient in both sets: the first byte, bytes alike, the
-// last byte; and the coefficients, a pattern of four.
+// A small coding, whose last byte has one coefficient in both sets: the first byte, bytes alike,
+// the last byte; and the coefficients, a pattern of four.
 struct SmallCase {
     source: &'static str,
     first: u8,

@@ -1,9 +1,8 @@
 -- Numbers that are their own residues, and the nearest multiple of 3.
-use Rattle.std.proofs.Common.{◌≡◌, ℕ, ◌-◌, ◌/◌, ◌%◌, ◌<◌, ◌≤◌, ℤ, pos, List, length, map, arith, ap, sym, ◌∙◌, refl, inl, inr}
+use Rattle.std.proofs.Common.{◌≡◌, ℕ, ◌-◌, ◌/◌, ◌%◌, ◌<◌, ◌≤◌, ℤ, pos, List, map, arith, ap, sym, ◌∙◌, refl}
 use Rattle.std.specs.Prelude.{◌+ℤ◌, unsigned_abs}
 use Rattle.std.proofs.lemmas.Int.{ints}
-use Rattle.std.proofs.lemmas.Bool.{cases_lt}
-use Rattle.std.proofs.lemmas.List.{get_or_past, get_or-map, length-map}
+use Rattle.std.proofs.lemmas.List.{get_or-map, length-map}
 use Rattle.ring_core.specs.Product.{coefficients, centred, IsCentred}
 use Rattle.ring_core.specs.Bounds.{IsWithin}
 use Rattle.ring_core.proofs.ResidueLaws.{SameModulo, remainder_of, one_remainder, modulo_centred}
