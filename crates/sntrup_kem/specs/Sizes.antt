@@ -15,7 +15,7 @@ public_size set = rq_length set
 abbrev pub hash_size : ℕ
 hash_size = 32
 
--- the coding of a rounded element, which is Encode of p digits below (q - 1) / 3 + 1
+-- the coding of a rounded element, which is Encode of p digits below (q + 2) / 3
 abbrev pub rounded_size : Set → ℕ
 rounded_size set = rounded_length set
 

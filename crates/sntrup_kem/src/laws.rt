@@ -2,6 +2,7 @@
 //! an exchange, which makes the three calls.
 
 ghost use Rattle.std.specs.Prelude.{◌≡◌, ◌≢◌, ◌↔◌, ℕ, ◌+◌, ◌*◌, ◌^◌, ◌≤◌, List, IfOk};
+ghost use Rattle.ring_core.specs.Sets.{sntrup761, sntrup857};
 ghost use Rattle.sntrup_core.specs.Keys.{IsExhausted, FindsNoInverse};
 ghost use Rattle.sntrup_kem.specs.Sizes.{rho_words};
 ghost use Rattle.sntrup_kem.specs.Laws.{DrawsShort, BothEndsAgree, HoldsItsPublicKey, AgreesToSession, RejectsOthers, IsExchanged};
@@ -31,6 +32,12 @@ pub fn a_secret_key_holds_its_public_key<S: KemParams>()
 pub fn decap_has_two_cases<S: KemParams>()
     ensures agrees { AgreesToSession S.set }
     ensures rejects { RejectsOthers S.set }
+{}
+
+/// How many words rho is made of.
+pub fn words_of_rho()
+    ensures sntrup761 { rho_words sntrup761 ≡ 48 }
+    ensures sntrup857 { rho_words sntrup857 ≡ 54 }
 {}
 
 /// Generates a pair of keys, encapsulates a session key for the public one with the words after it,

@@ -1,4 +1,4 @@
-use Rattle.std.proofs.Common.{◌≡◌, length, arith, ◌∙◌}
+use Rattle.std.proofs.Common.{arith}
 use Rattle.sntrup_kem.specs.Hashes.{key_hash}
 use Rattle.sntrup_kem.proofs.Parts.{AreJoined}
 use Rattle.sntrup_kem.proofs.Generating.{well_formed, generated_by, generated_as}
