@@ -1,9 +1,9 @@
 -- The entries of one call, which stand side by side.
-use Rattle.std.proofs.Common.{◌≡◌, ℕ, suc, ◌+◌, ◌<◌, ◌≤◌, ◌==◌, cond, List, [], ◌∷◌, ◌++◌, length, inr, sym, refl, ap, ◌∙◌, arith, eq-eqb}
+use Rattle.std.proofs.Common.{◌≡◌, ℕ, suc, ◌+◌, ◌<◌, ◌≤◌, List, [], ◌∷◌, ◌++◌, length, inr, refl, ap, ◌∙◌, arith}
 use Rattle.std.specs.List.{range_with_len}
 use Rattle.call_places.specs.declared.entries.Entry.{Entry}
 use Rattle.call_places.specs.declared.entries.Step.{Step}
-use Rattle.call_places.specs.Entries.{own, IsOwn, CallsWithin, PlacesRise, stamps_of, StampsBelow}
+use Rattle.call_places.specs.Entries.{IsOwn, CallsWithin, PlacesRise, stamps_of, StampsBelow}
 use Rattle.legal_journals.specs.Batches.{place}
 use Rattle.legal_journals.specs.Entries.{entry, entries_from}
 

@@ -1,5 +1,5 @@
 -- One more item of a call that is settled.
-use Rattle.std.proofs.Common.{◌≡◌, ℕ, zero, suc, ◌+◌, ◌<◌, ◌≤◌, ◌&&◌, ◌↔◌, Bool, true, false, cond, List, [], ◌∷◌, ◌++◌, length, take, drop, sym, refl, ap, ◌∙◌, subst, arith, append_assoc, le-leb, leb-true, Option, Some, None, min, IsTrue, IsNone, if◌then◌else◌}
+use Rattle.std.proofs.Common.{◌≡◌, ℕ, zero, suc, ◌+◌, ◌<◌, ◌≤◌, ◌&&◌, ◌↔◌, Bool, true, false, List, [], ◌∷◌, ◌++◌, length, take, drop, sym, refl, ap, ◌∙◌, subst, arith, append_assoc, le-leb, leb-true, Option, Some, None, min, IsTrue, IsNone, if◌then◌else◌}
 use Rattle.std.specs.Prelude.{slice_get, slice_index_or, slice_set, nat_le, nat_lt, is_some}
 use Rattle.std.proofs.lemmas.List.{take_more_set, length-take-le}
 use mathlib.Core.Logic.{dite}
@@ -8,16 +8,14 @@ use Rattle.call_places.specs.declared.entries.Entry.{Entry}
 use Rattle.call_places.specs.declared.entries.Step.{Step}
 use Rattle.call_places.specs.declared.entries.Step.TheVariants.{Opened, Failed, OpenLimit}
 use Rattle.call_places.specs.declared.spans.Item as spans
-use Rattle.call_places.specs.Entries.{own, seq_of}
 use Rattle.hpke_context.specs.Answers.{Item, Unseal, Cipher, Opened_at, Failed_at, At_limit, answer, next}
 use Rattle.legal_journals.specs.Batches.{place}
-use Rattle.legal_journals.specs.Entries.{entry, entries_from, step_for, steps_from, numbers_from, number_after}
+use Rattle.legal_journals.specs.Entries.{entry, entries_from, step_for, steps_from, numbers_from}
 use Rattle.legal_journals.specs.Guesses.{is_in_window, missed}
 use Rattle.aes_gcm.specs.Gcm.{Holds}
 use Rattle.speculative_open.specs.Tables.{IsChecked, Ciphertext, ciphertext, ciphertexts}
 use Rattle.context_books.specs.Books.{opened_at}
 use Rattle.context_books.specs.Openings.{unseals}
-use Rattle.context_books.proofs.Adding.{own-same}
 use Rattle.context_books.proofs.Blocks.{entries-push}
 
 -- ---- one item

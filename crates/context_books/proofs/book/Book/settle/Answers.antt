@@ -4,7 +4,7 @@ use Rattle.call_places.specs.declared.entries.Entry.{Entry}
 use Rattle.call_places.specs.declared.spans.Item as spans
 use Rattle.call_places.specs.Entries.{own, seq_of, StampsBelow}
 use Rattle.hpke_context.specs.Answers.{Item, Cipher, Unseal, answer, next}
-use Rattle.hpke_context.specs.Contexts.{cipher_of, key_in, base_nonce_in}
+use Rattle.hpke_context.specs.Contexts.{cipher_of}
 use Rattle.hpke_context.proofs.Tags.{tag_holds-told}
 use Rattle.legal_journals.specs.Batches.{place}
 use Rattle.legal_journals.specs.Entries.{entry, step_for}
