@@ -2,4 +2,3 @@ pub mod Clap
 pub mod Spellings
 pub mod Grammar
 pub mod Uses
-pub mod Numbers

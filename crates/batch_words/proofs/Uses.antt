@@ -24,7 +24,7 @@ use Rattle.batch_words.specs.declared.commands.Command.{Command}
 use Rattle.batch_words.specs.declared.commands.Command.TheVariants.{Run}
 use Rattle.std.specs.Str.Parse.{digits_value}
 use Rattle.std.proofs.lemmas.Bool.{leb-true}
-use Rattle.batch_words.specs.Decimals.{is_decimal}
+use Rattle.decimal_text.specs.Decimals.{is_decimal}
 use Rattle.batch_words.specs.Words.{Setting, run, run_with, settings, workers}
 use Rattle.batch_words.proofs.Clap.{Text, Other, unknown, bundle, plain, name, row, shape, is_free, run_app, workers_rule, idle_at, wants_at, faults_from, rows_from, faults_go_on, rows_go_on, faults_stop, IsNotDashes}
 use Rattle.batch_words.proofs.Clap.{idle_other, first_joined, first_joined_walk, first_wants, first_wants_walk, again_joined, again_joined_pending, again_wants, again_wants_walk, again_wants_pending, again_wants_pending_walk, twice_named}

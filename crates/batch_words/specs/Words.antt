@@ -4,7 +4,7 @@ use Rattle.std.specs.List.{list_any, before_first, after_first}
 use Rattle.std.specs.Str.{bytes_eq}
 use Rattle.batch_words.specs.declared.commands.Command.{Command}
 use Rattle.batch_words.specs.declared.commands.Command.TheVariants.{Run}
-use Rattle.batch_words.specs.Decimals.{decimal_from_to}
+use Rattle.decimal_text.specs.Decimals.{decimal_from_to}
 
 -- ---- options: a name, with its hyphens, and a value
 

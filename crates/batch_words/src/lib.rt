@@ -11,7 +11,6 @@
 #![tactic(auto)]
 
 mod commands;
-mod decimals;
 mod reading;
 
 pub use commands::Command;

@@ -7,16 +7,16 @@ ghost use Rattle.std.specs.String.{string_bytes};
 ghost use Rattle.batch_words.specs.Words.{command_of, run, run_with as run_with_value, settings};
 
 use crate::commands::Command;
-use crate::decimals::decimal_from_to;
 use clap::error::ErrorKind;
 use clap::{Arg, ArgAction, Command as Options};
+use decimal_text::decimal_from_to;
 use std::alloc::{AllocError as OutOfMemory, Global};
 
 /// The workers of a run whose words name none.
 const DEFAULT_WORKERS: u32 = 4;
 
 /// The most workers of a run.
-const MOST_WORKERS: u32 = 16;
+const MOST_WORKERS: u64 = 16;
 
 /// The command that the words spell, or none where they are not in the grammar.
 ///
@@ -76,7 +76,7 @@ fn run_with(workers: Option<&str>) -> Option<Command>
     ensures { result ≡ run_with_value (option_map (λ text. text.now) workers.entry) }
 {
     let workers = match workers {
-        Some(text) => decimal_from_to(text, 1, MOST_WORKERS)?,
+        Some(text) => decimal_from_to(text.as_bytes(), 1, MOST_WORKERS)? as u32,
         None => DEFAULT_WORKERS,
     };
     Some(Command::Run { workers })

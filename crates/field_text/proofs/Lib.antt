@@ -1,5 +1,4 @@
 pub mod Cutting
-pub mod Numbers
 pub mod HexDigits
 pub mod Told
 pub mod Held

@@ -1,64 +1,25 @@
 //! One piece as a number, or as bytes.
 
-ghost use Rattle.std.specs.Prelude.{◌≡◌, ◌+◌, ◌/◌, ◌<◌, ◌≤◌, ◌^◌, ◌==◌, ◌&&◌, not, length, vec_len, true, ◌++◌, IsOk, IfOk, OnOk, OnErr, IfErr, IfSome, IfNone, take, ◌*◌};
-ghost use Rattle.std.specs.Str.Parse.{digits_value, digits_value_after};
+ghost use Rattle.std.specs.Prelude.{◌≡◌, ◌+◌, ◌/◌, ◌<◌, ◌≤◌, ◌^◌, ◌++◌, length, vec_len, true, take};
+ghost use Rattle.std.specs.Prelude.{IfOk, OnOk, OnErr};
 ghost use Rattle.std.specs.List.{list_all};
-ghost use Rattle.std.specs.Option.{SomeIff};
-ghost use Rattle.std.specs.Char.{is_ascii_digit, digit_value};
-ghost use Rattle.field_text.specs.Fields.{number, is_number as number_test, is_hex as hex_test, is_hex_digit, bytes, bytes_of, Reads, Gives, Pooled};
+ghost use Rattle.field_text.specs.Fields.{number, is_hex as hex_test, is_hex_digit, bytes, bytes_of};
+ghost use Rattle.field_text.specs.Fields.{Reads, Gives};
 
 use crate::reasons::Reason;
 use crate::stop::Stop;
 use call_places::Span;
+use decimal_text::{is_decimal, value_of};
 use std::alloc::AllocError;
-
-fn all_digits(text: &[u8]) -> bool
-    ensures { result ≡ list_all is_ascii_digit text.now }
-{
-    text.iter().all(|digit| digit.is_ascii_digit())
-}
-
-fn is_number(piece: &[u8]) -> bool
-    ensures { result ≡ number_test piece.now }
-{
-    match piece {
-        [] => false,
-        [digit] => digit.is_ascii_digit(),
-        [first, ..] => *first != b'0' && all_digits(piece),
-    }
-}
-
-// The number that goes on with one more digit, where it is below 2^64.
-fn with_digit(value: u64, digit: u8) -> Option<u64>
-    requires { is_ascii_digit digit ≡ true }
-    ensures { SomeIff result (value * 10 + digit_value digit < 2 ^ 64)
-        (value * 10 + digit_value digit) }
-{
-    value.checked_mul(10)?.checked_add((digit - b'0') as u64)
-}
-
-// The number of some digits, where it is below 2^64.
-#[tactic(auto, using(crate::proofs::Numbers::number_facts))]
-fn value_of(digits: &[u8]) -> Option<u64>
-    requires { list_all is_ascii_digit digits.now ≡ true }
-    ensures { SomeIff result (digits_value 10 digits.now < 2 ^ 64) (digits_value 10 digits.now) }
-{
-    let mut value = 0;
-    'digits: for digit in digits {
-        value = with_digit(value, *digit)?;
-    }
-    Some(value)
-}
 
 /// A number field with the range `low` to `high`, both within.
 ///
 /// Any number of digits is read: a number past 2^64 is `Range`.
-#[tactic(auto, using(crate::proofs::Numbers::number_facts))]
 pub fn read_number(piece: &[u8], low: u64, high: u64) -> Result<u64, Reason>
     ensures read { Reads (λ value. value) result (number low high piece.now) }
     ensures within { IfOk result (λ value. (low ≤ value) × (value ≤ high)) }
 {
-    if !is_number(piece) {
+    if !is_decimal(piece) {
         return Err(Reason::Number);
     }
     match value_of(piece) {

@@ -1,0 +1,10 @@
+use Rattle.std.proofs.Common.{◌≡◌, drop, [], sym, ap, ◌∙◌, arith}
+use Rattle.std.proofs.lemmas.List.{drop_all}
+use Rattle.std.specs.Str.Parse.{digits_value, digits_value_after}
+use Rattle.decimal_text.proofs.decimals.value_of.Goals as goal
+
+pub returns : goal.returns
+returns c =
+    let none : drop c.digits.digit-index c.args.text.now ≡ [] = drop_all c.digits.digit-index c.args.text.now (omega arith) in
+    let value : c.digits.value ≡ digits_value 10 c.args.text.now = sym (ap (digits_value_after 10 c.digits.value) none) ∙ c.digits.invariant.number in
+    (omega arith, value)
