@@ -7,18 +7,18 @@ use Rattle.std.proofs.lemmas.List.FromFn.{length-map-range_with_len, get_or-map-
 use Rattle.std.proofs.lemmas.List.Sums.{sum_by-cons}
 use Rattle.std.proofs.lemmas.Option.{slice_get-map}
 use Rattle.call_places.specs.declared.entries.Place.{Place}
-use Rattle.key_schedule.specs.declared.psks.PskFault.{PskFault}
+use Rattle.batch_plans.specs.declared.replies.ContextRefusal.{ContextRefusal}
 use Rattle.hpke_context.specs.Contexts.{ContextView}
 use Rattle.legal_journals.specs.Batches.{Nothing, ToSeal, ToOpen, place, asked, all_asked, on, lane_places}
 use Rattle.legal_journals.specs.Legal.{Legal}
 use Rattle.legal_journals.proofs.Lists.{on-append}
 use Rattle.legal_journals.proofs.OneLane.{one_lane_legal, no_lane_legal}
-use Rattle.request_frames.specs.declared.plan.Plan.{Plan}
-use Rattle.request_frames.specs.declared.plan.CallLine.{CallLine}
-use Rattle.request_frames.specs.declared.plan.CallLine.TheVariants as calls
-use Rattle.request_frames.specs.declared.replies.CallRefusal.{CallRefusal}
-use Rattle.request_frames.specs.Calls.{items_on, items_at, if_served, all_items_on}
-use Rattle.request_frames.specs.Room.{journal_room, blank_place}
+use Rattle.batch_plans.specs.declared.plan.Plan.{Plan}
+use Rattle.batch_plans.specs.declared.plan.CallLine.{CallLine}
+use Rattle.batch_plans.specs.declared.plan.CallLine.TheVariants as calls
+use Rattle.batch_plans.specs.declared.replies.CallRefusal.{CallRefusal}
+use Rattle.batch_plans.specs.Calls.{items_on, items_at, if_served, all_items_on}
+use Rattle.batch_plans.specs.Room.{journal_room, blank_place}
 use Rattle.batch_runner.specs.declared.standing.Standing.{Standing}
 use Rattle.batch_runner.specs.SetUp.{contexts_of, export_limits}
 use Rattle.batch_runner.specs.Calls.{ask_of, ask_unless, batch_of, call_refusal}
@@ -76,7 +76,7 @@ journal_count plan c few = step plan.lanes few
 
 -- ---- before the first call
 
-slot_begun : (plan : Plan) (c : ℕ) (o : Option (Result ContextView PskFault)) → option_map begun o ≡ option_map (slot_after plan 0 c) o
+slot_begun : (plan : Plan) (c : ℕ) (o : Option (Result ContextView ContextRefusal)) → option_map begun o ≡ option_map (slot_after plan 0 c) o
 unfolding slot_after standing_with places_after
 slot_begun plan c None = refl
 slot_begun plan c (Some (Ok view)) = refl
@@ -121,10 +121,10 @@ all_legal plan few = record {
 }
 
 -- the same, of what was made for them
-pub stand_at_first : (plan : Plan) (slots : List (Result Standing PskFault)) (books : List (List Place)) → length plan.lanes ≤ 1
+pub stand_at_first : (plan : Plan) (slots : List (Result Standing ContextRefusal)) (books : List (List Place)) → length plan.lanes ≤ 1
     → slots ≡ map begun (contexts_of plan)
     → books ≡ map (journal_room plan.contexts (export_limits plan) plan.lanes) (range_with_len 0 (length plan.contexts))
     → StandAfter plan 0 slots books
 stand_at_first plan slots books few begins rooms =
-    subst (λ (s : List (Result Standing PskFault)). StandAfter plan 0 s books) (sym begins)
+    subst (λ (s : List (Result Standing ContextRefusal)). StandAfter plan 0 s books) (sym begins)
     (subst (λ (b : List (List Place)). StandAfter plan 0 (map begun (contexts_of plan)) b) (sym rooms) (stand_begun plan few))

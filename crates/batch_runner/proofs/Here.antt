@@ -3,11 +3,11 @@ use Rattle.std.proofs.Common.{◌≡◌, ◌<◌, ◌+◌, ℕ, List, [], ◌∷
 use Rattle.std.specs.Prelude.{slice_get, option_map}
 use Rattle.std.proofs.lemmas.Option.{slice_get_within, slice_get-get_or, get_or_from_slice_get, same_Some}
 use Rattle.call_places.specs.declared.entries.Place.{Place}
-use Rattle.key_schedule.specs.declared.psks.PskFault.{PskFault}
+use Rattle.batch_plans.specs.declared.replies.ContextRefusal.{ContextRefusal}
 use Rattle.hpke_context.specs.Answers.{Item, Seal, Unseal}
 use Rattle.hpke_context.specs.Contexts.{ContextView, SequentialView, answer_now}
 use Rattle.legal_journals.specs.Batches.{Ask, Nothing, place}
-use Rattle.request_frames.specs.declared.plan.Plan.{Plan}
+use Rattle.batch_plans.specs.declared.plan.Plan.{Plan}
 use Rattle.batch_runner.specs.declared.answering.Service.{Service}
 use Rattle.batch_runner.specs.declared.replies.Message.{Message}
 use Rattle.batch_runner.specs.declared.standing.Standing.{Standing}
@@ -20,32 +20,32 @@ pub index_same : {X : Type 0} (xs : List X) (i : ℕ) (d e : X) → i < length x
 index_same xs i d e lt = same_Some _ _ (sym (slice_get-get_or xs i d lt) ∙ slice_get-get_or xs i e lt)
 
 -- the slots of all contexts after k calls
-abbrev pub Slots : Plan → ℕ → List (Result Standing PskFault) → Type 0
+abbrev pub Slots : Plan → ℕ → List (Result Standing ContextRefusal) → Type 0
 Slots plan k slots = (c : ℕ) → slice_get slots c ≡ option_map (slot_after plan k c) (slice_get (contexts_of plan) c)
 
-pub slot_found : (plan : Plan) (k c : ℕ) (slots : List (Result Standing PskFault)) (view : ContextView)
+pub slot_found : (plan : Plan) (k c : ℕ) (slots : List (Result Standing ContextRefusal)) (view : ContextView)
     → slice_get (contexts_of plan) c ≡ Some (Ok view) → Slots plan k slots
     → slice_get slots c ≡ Some (Ok (standing_with plan view (places_after plan k c)))
 unfolding slot_after
 slot_found plan k c slots view found stand = stand c ∙ ap (option_map (slot_after plan k c)) found
 
-pub slot_within : (plan : Plan) (k c : ℕ) (slots : List (Result Standing PskFault)) (view : ContextView)
+pub slot_within : (plan : Plan) (k c : ℕ) (slots : List (Result Standing ContextRefusal)) (view : ContextView)
     → slice_get (contexts_of plan) c ≡ Some (Ok view) → Slots plan k slots → c < length slots
 slot_within plan k c slots view found stand = slice_get_within slots c _ (slot_found plan k c slots view found stand)
 
-pub slot_at : (plan : Plan) (k c : ℕ) (slots : List (Result Standing PskFault)) (view : ContextView) (d : Result Standing PskFault)
+pub slot_at : (plan : Plan) (k c : ℕ) (slots : List (Result Standing ContextRefusal)) (view : ContextView) (d : Result Standing ContextRefusal)
     → slice_get (contexts_of plan) c ≡ Some (Ok view) → Slots plan k slots
     → get_or slots c d ≡ Ok (standing_with plan view (places_after plan k c))
 slot_at plan k c slots view d found stand = get_or_from_slice_get slots c _ d (slot_found plan k c slots view found stand)
 
-pub standing_is : (plan : Plan) (k c : ℕ) (slots : List (Result Standing PskFault)) (view : ContextView) (d : Result Standing PskFault) (standing : Standing)
+pub standing_is : (plan : Plan) (k c : ℕ) (slots : List (Result Standing ContextRefusal)) (view : ContextView) (d : Result Standing ContextRefusal) (standing : Standing)
     → slice_get (contexts_of plan) c ≡ Some (Ok view) → Slots plan k slots → get_or slots c d ≡ Ok standing
     → standing ≡ standing_with plan view (places_after plan k c)
 standing_is plan k c slots view d standing found stand is =
     let same : Ok standing ≡ Ok (standing_with plan view (places_after plan k c)) = sym is ∙ slot_at plan k c slots view d found stand in
     cc
 
-pub standing_here : (plan : Plan) (k c : ℕ) (slots : List (Result Standing PskFault)) (view : ContextView) (standing : Standing)
+pub standing_here : (plan : Plan) (k c : ℕ) (slots : List (Result Standing ContextRefusal)) (view : ContextView) (standing : Standing)
     → slice_get (contexts_of plan) c ≡ Some (Ok view) → Slots plan k slots → slice_get slots c ≡ Some (Ok standing)
     → standing ≡ standing_with plan view (places_after plan k c)
 standing_here plan k c slots view standing found stand is =
@@ -79,7 +79,7 @@ noted_by old written new x same more gone kept =
     ∙ ap (made (gone_on old.sequential x)) (kept ∙ more)
 
 -- its journal has room
-pub room_here : (plan : Plan) (k d : ℕ) (a : Ask) (x : Item) (view : ContextView) (slots : List (Result Standing PskFault)) (books : List (List Place)) (standing : Standing) (e : List Place)
+pub room_here : (plan : Plan) (k d : ℕ) (a : Ask) (x : Item) (view : ContextView) (slots : List (Result Standing ContextRefusal)) (books : List (List Place)) (standing : Standing) (e : List Place)
     → AsksOne plan k d a x → StandAfter plan k slots books → d < length plan.contexts
     → standing ≡ standing_with plan view (places_after plan k d) → standing.places < length (get_or books d e)
 room_here plan k d a x view slots books standing e asks stand within is =
@@ -88,7 +88,7 @@ room_here plan k d a x view slots books standing e asks stand within is =
     omega (arith, places_is plan view (places_after plan k d) standing is, fits plan k d a x asks, (stand.journals d within).room, ap length same)
 
 -- all of them when they are put back
-pub stand_now : (plan : Plan) (k d : ℕ) (a : Ask) (x : Item) (view : ContextView) (slots : List (Result Standing PskFault)) (books : List (List Place))
+pub stand_now : (plan : Plan) (k d : ℕ) (a : Ask) (x : Item) (view : ContextView) (slots : List (Result Standing ContextRefusal)) (books : List (List Place))
     (standing new : Standing) (e journal : List Place) (p : Place)
     → AsksOne plan k d a x → slice_get (contexts_of plan) d ≡ Some (Ok view) → d < length plan.contexts → StandAfter plan k slots books
     → standing ≡ standing_with plan view (places_after plan k d)

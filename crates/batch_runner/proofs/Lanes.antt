@@ -6,9 +6,10 @@ use Rattle.std.proofs.lemmas.List.Elements.{All-head, All-tail, All-append, All-
 use Rattle.std.proofs.lemmas.List.Concat.{flat_map-append}
 use Rattle.call_places.specs.declared.spans.Span.{Span}
 use Rattle.call_places.specs.Spans.{IsInPool, span_bytes}
-use Rattle.request_frames.specs.declared.replies.Reply.{Reply}
-use Rattle.request_frames.specs.declared.replies.Reply.TheVariants.{Blank, Sealed, Opened, Failed, Limit, Exported, Refused}
-use Rattle.request_frames.specs.ReplyText.{served_line, exported_line, reply_line, numbered, IsInRange}
+use Rattle.batch_plans.specs.declared.replies.Reply.{Reply}
+use Rattle.batch_plans.specs.declared.replies.Reply.TheVariants.{Blank, Sealed, Opened, Failed, Limit, Exported, Refused}
+use Rattle.request_frames.specs.ReplyText.{served_line, exported_line, reply_line, numbered}
+use Rattle.batch_plans.specs.Replies.{IsInRange}
 
 -- the bytes that a span names in a front
 span_in_front : (n : ℕ) (xs : List ℕ) (span : Span) → IsInPool n span

@@ -14,17 +14,21 @@ use Rattle.hkdf_labelled.specs.Suites.{hash_size}
 use Rattle.key_schedule.specs.declared.modes.Role.{Role}
 use Rattle.key_schedule.specs.declared.modes.Role.TheVariants.{Sender, Recipient}
 use Rattle.key_schedule.specs.declared.psks.PskFault.{PskFault}
+use Rattle.batch_plans.specs.declared.replies.ContextRefusal.{ContextRefusal}
+use Rattle.batch_plans.specs.declared.replies.ContextRefusal.TheVariants.{NoKey}
+use Rattle.batch_plans.specs.declared.plan.ContextKind.{ContextKind}
+use Rattle.batch_plans.specs.declared.plan.ContextKind.TheVariants as kinds
 use Rattle.key_schedule.specs.declared.schedules.Secrets.{Secrets}
 use Rattle.hpke_context.specs.Contexts.{ContextView, encrypts, export_limit, CanSeal, CanOpen}
 use Rattle.legal_journals.specs.Batches.{Nothing}
-use Rattle.request_frames.specs.declared.plan.Plan.{Plan}
-use Rattle.request_frames.specs.declared.plan.ContextLine.{ContextLine}
-use Rattle.request_frames.specs.declared.plan.CallLine.{CallLine}
-use Rattle.request_frames.specs.declared.plan.CallLine.TheVariants as calls
-use Rattle.request_frames.specs.declared.replies.CallRefusal.{CallRefusal}
-use Rattle.request_frames.specs.declared.replies.CallRefusal.TheVariants as refusals
-use Rattle.request_frames.specs.Calls.{context_role, seal_refusal, open_refusal, export_refusal, refusal_on, refusal_at, standing_line}
-use Rattle.batch_runner.specs.SetUp.{contexts_of, context_of, context_with, limit_of, export_limits}
+use Rattle.batch_plans.specs.declared.plan.Plan.{Plan}
+use Rattle.batch_plans.specs.declared.plan.ContextLine.{ContextLine}
+use Rattle.batch_plans.specs.declared.plan.CallLine.{CallLine}
+use Rattle.batch_plans.specs.declared.plan.CallLine.TheVariants as calls
+use Rattle.batch_plans.specs.declared.replies.CallRefusal.{CallRefusal}
+use Rattle.batch_plans.specs.declared.replies.CallRefusal.TheVariants as refusals
+use Rattle.batch_plans.specs.Calls.{context_role, seal_refusal, open_refusal, export_refusal, refusal_on, refusal_at, standing_line}
+use Rattle.batch_runner.specs.SetUp.{contexts_of, context_of, context_by, context_with, limit_of, export_limits}
 use Rattle.batch_runner.specs.Calls.{ask_of, asked_by, ask_unless, batch_of, call_refusal}
 use Rattle.batch_runner.specs.Serving.{calls_of, asks_in}
 
@@ -40,13 +44,20 @@ pub record OnContext (plan : Plan) (c : ℕ) (e : ℕ) (call : CallLine) : Type 
   pub aead : view.suite.aead ≡ line.aead
   pub free : refusal_on line e call ≡ None
 
-view_parts : (line : ContextLine) (r : Result Secrets PskFault) (view : ContextView) → context_with line r ≡ Ok view
-    → (view.role ≡ context_role line.kind) × (view.suite.aead ≡ line.aead)
-view_parts line (Ok secrets) view e =
-    let made : ContextView = record { role = context_role line.kind; suite = Rattle.batch_runner.specs.SetUp.suite_of line; limit = line.limit; secrets = secrets } in
+made_parts : (role : Role) (kem : ℕ) (line : ContextLine) (r : Result Secrets PskFault) (view : ContextView) → context_with role kem line r ≡ Ok view
+    → (view.role ≡ role) × (view.suite.aead ≡ line.aead)
+made_parts role kem line (Ok secrets) view e =
+    let made : ContextView = record { role = role; suite = Rattle.batch_runner.specs.SetUp.suite_of kem line; limit = line.limit; secrets = secrets } in
     let f : made ≡ view = cc in
     (sym (ap (λ (v : ContextView). v.role) f), sym (ap (λ (v : ContextView). v.suite.aead) f))
-view_parts line (Err fault) view e = absurd (let f : Err fault ≡ Ok view = e in cc)
+made_parts role kem line (Err fault) view e = absurd (let f : Err (Rattle.batch_runner.specs.SetUp.refusal_of fault) ≡ Ok view = e in cc)
+
+view_parts : (pool : List ℕ) (line : ContextLine) (kind : ContextKind) (view : ContextView) → context_by pool line kind ≡ Ok view
+    → (view.role ≡ context_role kind) × (view.suite.aead ≡ line.aead)
+view_parts pool line (kinds.Share role kem secret) view e =
+    made_parts role kem line (Rattle.key_schedule.specs.Schedule.key_schedule _ _ _ _ _ _) view e
+view_parts pool line (kinds.Send key) view e = absurd (let f : Err NoKey ≡ Ok view = e in cc)
+view_parts pool line (kinds.Recv key enc) view e = absurd (let f : Err NoKey ≡ Ok view = e in cc)
 
 positive : (kdf : Kdf) → (255 * hash_size kdf == 0) ≡ false
 positive Sha256 = refl
@@ -68,7 +79,7 @@ served_line : (pool : List ℕ) (lines : List ContextLine) (c e : ℕ) (call : C
 served_line pool [] c e call free = absurd (let f : Some refusals.NoContext ≡ None = free in cc)
 served_line pool (line ∷ lines) zero e call free = step (context_of pool line) refl free
   where
-    step : (r : Result ContextView PskFault) → context_of pool line ≡ r
+    step : (r : Result ContextView ContextRefusal) → context_of pool line ≡ r
         → refusal_at (if limit_of r == 0 then None else Some line) e call ≡ None
         → (found : ContextLine) × (view : ContextView) × (Some r ≡ Some (Ok view)) × (context_of pool found ≡ Ok view)
         × (limit_of r ≡ export_limit view) × (refusal_on found e call ≡ None)
@@ -82,7 +93,7 @@ on_context : (plan : Plan) (c : ℕ) (call : CallLine)
     → OnContext plan c (slice_index (export_limits plan) c) call
 on_context plan c call free =
     let t = served_line plan.pool plan.contexts c (slice_index (export_limits plan) c) call free in
-    let parts = view_parts t.0 (Rattle.key_schedule.specs.Schedule.key_schedule _ _ _ _ _ _) t.1 t.3 in
+    let parts = view_parts plan.pool t.0 t.0.kind t.1 t.3 in
     record { line = t.0; view = t.1; found = t.2; limit = t.4; role = parts.0; aead = parts.1; free = t.5 }
 
 sender : (role : Role) (aead : Aead) → seal_refusal role aead ≡ None → (role ≡ Sender) × IsTrue (encrypts aead)

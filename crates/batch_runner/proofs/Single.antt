@@ -5,14 +5,14 @@ use Rattle.std.specs.List.{sum_by}
 use Rattle.std.proofs.lemmas.List.Sums.{sum_by-cons, get_or-le-sum_by}
 use Rattle.std.proofs.lemmas.Option.{slice_get_within, get_or_from_slice_get}
 use Rattle.call_places.specs.declared.entries.Place.{Place}
-use Rattle.request_frames.specs.declared.plan.Plan.{Plan}
-use Rattle.request_frames.specs.declared.plan.CallLine.{CallLine}
-use Rattle.request_frames.specs.declared.plan.CallLine.TheVariants as calls
-use Rattle.request_frames.specs.declared.replies.LaneAnswers.{LaneAnswers}
-use Rattle.request_frames.specs.Limits.{items_of, IsWithinLimits}
+use Rattle.batch_plans.specs.declared.plan.Plan.{Plan}
+use Rattle.batch_plans.specs.declared.plan.CallLine.{CallLine}
+use Rattle.batch_plans.specs.declared.plan.CallLine.TheVariants as calls
+use Rattle.batch_plans.specs.declared.replies.LaneAnswers.{LaneAnswers}
+use Rattle.batch_plans.specs.Limits.{items_of, IsWithinLimits}
 use Rattle.request_frames.specs.ReplyText.{lane_replies}
-use Rattle.request_frames.specs.Room.{call_room}
-use Rattle.request_frames.proofs.Rooms.{lane_room_fits}
+use Rattle.batch_plans.specs.Room.{call_room}
+use Rattle.batch_plans.proofs.Rooms.{lane_room_fits}
 use Rattle.batch_runner.specs.SetUp.{export_limits}
 use Rattle.batch_runner.specs.Text.{lane_lines, all_lane_lines}
 use Rattle.batch_runner.specs.Serving.{calls_of}

@@ -5,14 +5,14 @@ use Rattle.std.proofs.lemmas.List.{take_more_set, take_all, length-map, length-s
 use Rattle.std.proofs.lemmas.List.FromFn.{fill_by_all, get_or-map-range_with_len}
 use Rattle.std.proofs.lemmas.List.{get_or-set_same, get_or-set_other}
 use Rattle.call_places.specs.declared.entries.Place.{Place}
-use Rattle.key_schedule.specs.declared.psks.PskFault.{PskFault}
+use Rattle.batch_plans.specs.declared.replies.ContextRefusal.{ContextRefusal}
 use Rattle.hpke_context.specs.Answers.{Item, Seal, Unseal, next, answer}
 use Rattle.hpke_context.specs.Contexts.{ContextView, cipher_of, answer_now}
 use Rattle.legal_journals.specs.Batches.{Ask, Nothing, ToSeal, ToOpen, place, block, asked, all_asked, on, item_of, item_in_call, lane_places}
 use Rattle.legal_journals.specs.Legal.{due_after, reply_of}
 use Rattle.legal_journals.proofs.Lists.{on-spots, on-spots_same, is_cases}
 use Rattle.legal_journals.proofs.OneLane.{answered, parted_places, places_more, places_same, due_more}
-use Rattle.request_frames.specs.declared.plan.Plan.{Plan}
+use Rattle.batch_plans.specs.declared.plan.Plan.{Plan}
 use Rattle.batch_runner.specs.declared.standing.Standing.{Standing}
 use Rattle.batch_runner.specs.SetUp.{contexts_of, standing_in}
 use Rattle.batch_runner.specs.Calls.{ask_of, batch_of, journal_at, cipher_at, cipher_in, answer_line, place_reply}
@@ -103,7 +103,7 @@ unfolding slot_after
 slot_here plan k d a x view asks = ap (λ (s : Standing). Ok s) (sym (noted_here plan k d a x view asks))
 
 slot_same : (plan : Plan) (k c : ℕ) → places_after plan (k + 1) c ≡ places_after plan k c
-    → (o : Option (Result ContextView PskFault)) → option_map (slot_after plan k c) o ≡ option_map (slot_after plan (k + 1) c) o
+    → (o : Option (Result ContextView ContextRefusal)) → option_map (slot_after plan k c) o ≡ option_map (slot_after plan (k + 1) c) o
 unfolding slot_after
 slot_same plan k c same None = refl
 slot_same plan k c same (Some (Ok view)) = ap (λ ps. Some (Ok (standing_with plan view ps))) (sym same)
@@ -132,7 +132,7 @@ journal_here plan k d a x journal asks is =
 
 -- ---- all of them
 
-pub stand_more : (plan : Plan) (k d : ℕ) (a : Ask) (x : Item) (view : ContextView) (slots : List (Result Standing PskFault)) (books : List (List Place))
+pub stand_more : (plan : Plan) (k d : ℕ) (a : Ask) (x : Item) (view : ContextView) (slots : List (Result Standing ContextRefusal)) (books : List (List Place))
     → AsksOne plan k d a x → slice_get (contexts_of plan) d ≡ Some (Ok view) → d < length plan.contexts → StandAfter plan k slots books
     → StandAfter plan (k + 1)
     (set slots d (Ok (noted (standing_with plan view (places_after plan k d)) x)))
@@ -169,7 +169,7 @@ stand_more plan k d a x view slots books asks found within stand =
     }
 
 -- a call that asks for nothing
-pub stand_same : (plan : Plan) (k : ℕ) (slots : List (Result Standing PskFault)) (books : List (List Place))
+pub stand_same : (plan : Plan) (k : ℕ) (slots : List (Result Standing ContextRefusal)) (books : List (List Place))
     → slice_get (asks_in plan) k ≡ Some Nothing → StandAfter plan k slots books → StandAfter plan (k + 1) slots books
 stand_same plan k slots books ask stand = record {
   slots = λ c. stand.slots c ∙ slot_same plan k c (places_other plan k c Nothing ask refl) (slice_get (contexts_of plan) c);
@@ -207,7 +207,7 @@ journal_all plan c journal is =
     let long : length (places_after plan (length (calls_of plan)) c) ≡ length journal = ap length (places_all plan c) ∙ sym is.room in
     sym (take_all (length (places_after plan (length (calls_of plan)) c)) journal (omega (arith, long))) ∙ is.written ∙ places_all plan c
 
-pub stand_all : (plan : Plan) (slots : List (Result Standing PskFault)) (books : List (List Place))
+pub stand_all : (plan : Plan) (slots : List (Result Standing ContextRefusal)) (books : List (List Place))
     → StandAfter plan (length (calls_of plan)) slots books → books ≡ journals_of plan
 unfolding journals_of
 stand_all plan slots books stand =

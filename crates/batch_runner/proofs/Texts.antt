@@ -2,8 +2,8 @@
 use Rattle.std.proofs.Common.{◌≡◌, ◌≤◌, List, [], ◌++◌, length, map, take, ap, ◌∙◌, append-nil, arith}
 use Rattle.std.specs.List.{refill}
 use Rattle.std.proofs.lemmas.List.{drop_all, take_all}
-use Rattle.request_frames.specs.declared.plan.Plan.{Plan}
-use Rattle.request_frames.specs.declared.replies.Answers.{Answers}
+use Rattle.batch_plans.specs.declared.plan.Plan.{Plan}
+use Rattle.batch_plans.specs.declared.replies.Answers.{Answers}
 use Rattle.request_frames.specs.ReplyText.{answers_text, lane_replies}
 use Rattle.batch_runner.specs.SetUp.{contexts_of, context_reply}
 use Rattle.batch_runner.specs.Text.{plan_text, all_lane_lines, IsReply}

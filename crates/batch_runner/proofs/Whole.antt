@@ -2,7 +2,7 @@
 use Rattle.std.proofs.Common.{◌≡◌, ◌<◌, ℕ, List, ◌++◌, length, Option, Some, None, inl, inr, sym, ap, subst, ◌∙◌, append-nil, length-append, arith}
 use Rattle.std.proofs.lemmas.Bool.Decides.{nat_tests}
 use Rattle.field_text.specs.declared.reasons.Reason.TheVariants.{Size}
-use Rattle.request_frames.specs.Limits.{most_input}
+use Rattle.batch_plans.specs.Limits.{most_input}
 use Rattle.request_frames.specs.Batch.{batch, bad}
 use Rattle.batch_runner.specs.Input.{IsInput}
 

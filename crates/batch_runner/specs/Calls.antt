@@ -6,11 +6,11 @@ use Rattle.hpke_context.specs.Answers.{Cipher, Answer, Sealed_at, Opened_at, Fai
 use Rattle.hpke_context.specs.Contexts.{ContextView, cipher_of, exported_by}
 use Rattle.legal_journals.specs.Batches.{Ask, Nothing, ToSeal, ToOpen, Batch, place}
 use Rattle.legal_journals.specs.Legal.{reply_of}
-use Rattle.request_frames.specs.declared.plan.Plan.{Plan}
-use Rattle.request_frames.specs.declared.plan.CallLine.{CallLine}
-use Rattle.request_frames.specs.declared.plan.CallLine.TheVariants.{Seal, Unseal, Export}
-use Rattle.request_frames.specs.declared.replies.CallRefusal.{CallRefusal}
-use Rattle.request_frames.specs.Calls.{refusal}
+use Rattle.batch_plans.specs.declared.plan.Plan.{Plan}
+use Rattle.batch_plans.specs.declared.plan.CallLine.{CallLine}
+use Rattle.batch_plans.specs.declared.plan.CallLine.TheVariants.{Seal, Unseal, Export}
+use Rattle.batch_plans.specs.declared.replies.CallRefusal.{CallRefusal}
+use Rattle.batch_plans.specs.Calls.{refusal}
 use Rattle.request_frames.specs.ReplyText.{served_line, exported_line, refused_line}
 use Rattle.batch_runner.specs.SetUp.{contexts_of, standing_at, export_limits}
 

@@ -2,13 +2,13 @@
 use Rattle.std.specs.Prelude.{◌≡◌, ℕ, ◌+◌, ◌<◌, ◌≤◌, List, [], ◌∷◌, map, take, length, option_map, Some, Result, Ok, Err, slice_get, slice_index_or}
 use Rattle.std.specs.List.{range_with_len}
 use Rattle.call_places.specs.declared.entries.Place.{Place}
-use Rattle.key_schedule.specs.declared.psks.PskFault.{PskFault}
+use Rattle.batch_plans.specs.declared.replies.ContextRefusal.{ContextRefusal}
 use Rattle.hpke_context.specs.Answers.{Item, Seal, Unseal, next}
 use Rattle.hpke_context.specs.Contexts.{ContextView, SequentialView, cipher_of, answer_now}
 use Rattle.legal_journals.specs.Batches.{Ask, lane_places}
 use Rattle.legal_journals.specs.Legal.{due_after}
-use Rattle.request_frames.specs.declared.plan.Plan.{Plan}
-use Rattle.request_frames.specs.declared.plan.CallLine.{CallLine}
+use Rattle.batch_plans.specs.declared.plan.Plan.{Plan}
+use Rattle.batch_plans.specs.declared.plan.CallLine.{CallLine}
 use Rattle.batch_runner.specs.declared.replies.Message.{Message}
 use Rattle.batch_runner.specs.declared.standing.Standing.{Standing}
 use Rattle.batch_runner.specs.declared.answering.Service.{Service}
@@ -16,7 +16,7 @@ use Rattle.batch_runner.specs.SetUp.{contexts_of, export_limits}
 use Rattle.batch_runner.specs.Calls.{ask_of, journal_at}
 
 -- a context before its first call
-abbrev pub begun : Result ContextView PskFault → Result Standing PskFault
+abbrev pub begun : Result ContextView ContextRefusal → Result Standing ContextRefusal
 begun (Ok context) =
     Ok (record { sequential = record { context = context; seq = 0 }; places = 0 })
 begun (Err fault) = Err fault
@@ -29,7 +29,7 @@ abbrev pub unseal_of : Message → Item
 unseal_of m = Unseal m.aad.now m.text.now
 
 -- the context of this number stands
-abbrev pub StandsIn : List (Result Standing PskFault) → ℕ → Type 0
+abbrev pub StandsIn : List (Result Standing ContextRefusal) → ℕ → Type 0
 StandsIn slots number = (standing : Standing) × (slice_get slots number ≡ Some (Ok standing))
 
 -- a context after an item
@@ -71,7 +71,7 @@ standing_with plan context places =
     }
 
 -- a context after the first k calls
-unfoldable pub slot_after : Plan → ℕ → ℕ → Result ContextView PskFault → Result Standing PskFault
+unfoldable pub slot_after : Plan → ℕ → ℕ → Result ContextView ContextRefusal → Result Standing ContextRefusal
 slot_after plan k c (Ok context) = Ok (standing_with plan context (places_after plan k c))
 slot_after plan k c (Err fault) = Err fault
 
@@ -81,7 +81,7 @@ pub record IsJournalAfter (plan : Plan) (k c : ℕ) (journal : List Place) : Typ
   pub room : length journal ≡ length (journal_of plan c)
 
 -- all contexts and journals after the first k calls
-pub record StandAfter (plan : Plan) (k : ℕ) (states : List (Result Standing PskFault)) (books : List (List Place)) : Type 0 where
+pub record StandAfter (plan : Plan) (k : ℕ) (states : List (Result Standing ContextRefusal)) (books : List (List Place)) : Type 0 where
   pub slots : (c : ℕ) → slice_get states c ≡ option_map (slot_after plan k c) (slice_get (contexts_of plan) c)
   pub count : length books ≡ length plan.contexts
   pub journals : (c : ℕ) → c < length plan.contexts → IsJournalAfter plan k c (journal_at books c)

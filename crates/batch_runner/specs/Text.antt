@@ -2,9 +2,9 @@
 use Rattle.std.specs.Prelude.{◌≡◌, ℕ, ◌+◌, ◌<◌, List, [], ◌∷◌, map, length, Result, Ok, Err}
 use Rattle.call_places.specs.declared.entries.Place.{Place}
 use Rattle.legal_journals.specs.Legal.{Legal}
-use Rattle.request_frames.specs.declared.plan.Plan.{Plan}
-use Rattle.request_frames.specs.declared.plan.CallLine.{CallLine}
-use Rattle.request_frames.specs.declared.plan.BadBatch.{BadBatch}
+use Rattle.batch_plans.specs.declared.plan.Plan.{Plan}
+use Rattle.batch_plans.specs.declared.plan.CallLine.{CallLine}
+use Rattle.request_frames.specs.declared.faults.BadBatch.{BadBatch}
 use Rattle.request_frames.specs.Batch.{batch}
 use Rattle.request_frames.specs.ReplyText.{numbered, reply_text, bad_text}
 use Rattle.batch_runner.specs.SetUp.{contexts_of, context_reply}

@@ -4,7 +4,8 @@
 
 ghost use Rattle.std.specs.Prelude.{◌≡◌, ◌≢◌, ◌≤◌, ◌<◌, ◌+◌, ◌-◌, ◌^◌};
 ghost use Rattle.std.specs.Prelude.{ℕ, length, take, drop, Some, OnErr};
-ghost use Rattle.request_frames.specs.ReplyText.{reply_line, exported_line, IsInRange};
+ghost use Rattle.request_frames.specs.ReplyText.{reply_line, exported_line};
+ghost use Rattle.batch_plans.specs.Replies.{IsInRange};
 ghost use Rattle.hpke_context.specs.declared.faults.CallFault.{CallFault};
 ghost use Rattle.hpke_context.specs.Answers.{Sealed_at, Opened_at, Failed_at, At_limit};
 ghost use Rattle.hpke_context.specs.Contexts.{CanSeal, CanOpen, answer_now};

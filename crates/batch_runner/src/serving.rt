@@ -1,6 +1,6 @@
 //! The top call: from the words and the input to the outcome and the text.
 
-ghost use Rattle.std.specs.Prelude.{◌≡◌, ◌↔◌, ◌⊎◌, ◌≤◌, ◌≢◌, ℕ, List};
+ghost use Rattle.std.specs.Prelude.{◌≡◌, ◌↔◌, ◌⊎◌, ◌≤◌, ◌≢◌, ℕ, List, []};
 ghost use Rattle.std.specs.Prelude.{length, map, IsOk, IfOk, Some, None};
 ghost use Rattle.std.specs.String.{string_bytes};
 ghost use Rattle.std.specs.Io.KnownBytes.{Consumes, Appends};
@@ -8,7 +8,7 @@ ghost use Rattle.batch_io.specs.Outside.{Rose};
 ghost use Rattle.field_text.specs.declared.reasons.Reason.{Reason};
 ghost use Rattle.field_text.specs.Printing.{AppendsPrefix};
 ghost use Rattle.request_frames.specs.Batch.{Spells, BadAt, batch};
-ghost use Rattle.request_frames.specs.Limits.{IsWithinLimits};
+ghost use Rattle.batch_plans.specs.Limits.{IsWithinLimits};
 ghost use Rattle.request_frames.specs.ReplyText.{answers_text, bad_text, IsAnswered};
 ghost use Rattle.batch_runner.specs.Input.{IsInput, input_limit};
 ghost use Rattle.batch_runner.specs.Outcomes.{outcome_for};
@@ -34,6 +34,7 @@ use std::thread::Threads;
 // The answers to a plan. All memory is taken before the first call is answered.
 fn answers_to(alloc: Global, plan: &Plan, checks: Checks) -> Result<Answers, AllocError>
     requires within { IsWithinLimits plan.now }
+    requires keyless { plan.now.keys ≡ [] }
     requires count { checks ≡ 0 }
     ensures text { IfOk result (λ answers. IsReply plan.now (answers_text answers)) }
     ensures answered { IfOk result (IsAnswered plan.now) }
@@ -60,6 +61,7 @@ fn answers_to(alloc: Global, plan: &Plan, checks: Checks) -> Result<Answers, All
 // Writes the replies to a plan.
 fn reply_to<K: Sink>(alloc: Global, plan: &Plan, checks: Checks, sink: &mut K) -> Outcome
     requires within { IsWithinLimits plan.now }
+    requires keyless { plan.now.keys ≡ [] }
     requires count { checks ≡ 0 }
     ensures outcomes { (result ≡ Outcome.Done) ⊎ (result ≡ Outcome.WriteFault)
         ⊎ (result ≡ Outcome.OutOfMemory) }

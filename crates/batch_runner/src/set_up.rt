@@ -1,9 +1,8 @@
 //! The set-up of a plan: which contexts stand, and why the others are refused.
 
 ghost use Rattle.std.specs.Prelude.{◌≡◌, length, map, IfOk};
-ghost use Rattle.call_places.specs.Spans.{span_bytes};
-ghost use Rattle.request_frames.specs.Limits.{IsKindWithin, IsContextWithin, IsWithinLimits};
-ghost use Rattle.batch_runner.specs.SetUp.{suite_of, shared_secret_of, context_of};
+ghost use Rattle.batch_plans.specs.Limits.{IsContextWithin, IsWithinLimits};
+ghost use Rattle.batch_runner.specs.SetUp.{suite_of, context_of};
 ghost use Rattle.batch_runner.specs.SetUp.{contexts_of, context_reply, limit_of, refusal_of};
 
 use hkdf_labelled::Suite;
@@ -15,56 +14,7 @@ use request_frames::{
 use std::alloc::{AllocError, Global};
 
 /// What becomes of a context line.
-pub(crate) type SetUp = Result<Context, PskFault>;
-
-// The algorithms of a context line.
-fn suite_of(line: &ContextLine) -> Suite
-    ensures { result ≡ suite_of line.now }
-{
-    let ContextKind::Share { kem, .. } = line.kind;
-    Suite {
-        kem,
-        kdf: line.kdf,
-        aead: line.aead,
-    }
-}
-
-// The bytes of shared_secret.
-fn shared_secret<'a>(pool: &'a [u8], kind: &ContextKind) -> &'a [u8]
-    requires { IsKindWithin (length pool.now) kind.now }
-    ensures { result.now ≡ span_bytes pool.now (shared_secret_of kind.now) }
-{
-    match *kind {
-        ContextKind::Share { secret, .. } => secret.of(pool),
-    }
-}
-
-// Sets a context up (RFC 9180, 5.1).
-fn stand(pool: &[u8], line: &ContextLine) -> SetUp
-    requires { IsContextWithin (length pool.now) line.now }
-    ensures { result ≡ context_of pool.now line.now }
-{
-    let suite = suite_of(line);
-    let secret = shared_secret(pool, &line.kind);
-    let info = line.info.of(pool);
-    let (psk, psk_id) = (line.psk.of(pool), line.psk_id.of(pool));
-    match schedule(&suite, line.mode, secret, info, psk, psk_id) {
-        Ok(secrets) => Ok(Context::new(line.kind.role(), suite, secrets, line.limit)),
-        Err(fault) => Err(fault),
-    }
-}
-
-/// Sets up the contexts of a plan, in the order of their lines.
-pub(crate) fn set_up(alloc: Global, plan: &Plan) -> Result<Vec<SetUp>, AllocError>
-    requires { IsWithinLimits plan.now }
-    ensures { IfOk result (λ contexts. contexts.items ≡ contexts_of plan.now) }
-{
-    let mut contexts = Vec::new(alloc);
-    'contexts: for line in plan.contexts.as_slice() {
-        contexts.push(stand(plan.pool.as_slice(), line))?;
-    }
-    Ok(contexts)
-}
+pub(crate) type SetUp = Result<Context, ContextRefusal>;
 
 fn refusal_of(fault: PskFault) -> ContextRefusal
     ensures { result ≡ refusal_of fault }
@@ -76,12 +26,53 @@ fn refusal_of(fault: PskFault) -> ContextRefusal
     }
 }
 
+// The algorithms of a context line, with the KEM's id.
+fn suite_of(kem: u16, line: &ContextLine) -> Suite
+    ensures { result ≡ suite_of kem line.now }
+{
+    Suite {
+        kem,
+        kdf: line.kdf,
+        aead: line.aead,
+    }
+}
+
+// Sets a context up (RFC 9180, 5.1).
+fn stand(plan: &Plan, line: &ContextLine) -> SetUp
+    requires { IsContextWithin plan.now.seed (length plan.now.pool) line.now }
+    ensures { result ≡ context_of plan.now.pool line.now }
+{
+    let pool = plan.pool.as_slice();
+    let ContextKind::Share { role, kem, secret } = line.kind else {
+        return Err(ContextRefusal::NoKey);
+    };
+    let suite = suite_of(kem, line);
+    let info = line.info.of(pool);
+    let (psk, psk_id) = (line.psk.of(pool), line.psk_id.of(pool));
+    match schedule(&suite, line.mode, secret.of(pool), info, psk, psk_id) {
+        Ok(secrets) => Ok(Context::new(role, suite, secrets, line.limit)),
+        Err(fault) => Err(refusal_of(fault)),
+    }
+}
+
+/// Sets up the contexts of a plan, in the order of their lines.
+pub(crate) fn set_up(alloc: Global, plan: &Plan) -> Result<Vec<SetUp>, AllocError>
+    requires { IsWithinLimits plan.now }
+    ensures { IfOk result (λ contexts. contexts.items ≡ contexts_of plan.now) }
+{
+    let mut contexts = Vec::new(alloc);
+    'contexts: for line in plan.contexts.as_slice() {
+        contexts.push(stand(plan, line))?;
+    }
+    Ok(contexts)
+}
+
 fn context_reply(context: &SetUp) -> ContextReply
     ensures { result ≡ context_reply context.now }
 {
     match context {
         Ok(_) => ContextReply::Shared,
-        Err(fault) => ContextReply::Refused(refusal_of(*fault)),
+        Err(refusal) => ContextReply::Refused(*refusal),
     }
 }
 

@@ -7,8 +7,7 @@ ghost use Rattle.batch_runner.specs.Serving.{begun, StandsIn};
 use crate::set_up::SetUp;
 use call_places::Place;
 use hpke_context::Sequential;
-use key_schedule::PskFault;
-use request_frames::PlainList;
+use request_frames::{ContextRefusal, PlainList};
 use std::alloc::{AllocError, Global};
 
 /// The places of a context, with room for all of them.
@@ -22,7 +21,7 @@ pub(crate) struct Standing {
 }
 
 /// A context line while the calls are served.
-pub(crate) type Slot = Result<Standing, PskFault>;
+pub(crate) type Slot = Result<Standing, ContextRefusal>;
 
 fn begun(context: SetUp) -> Slot
     ensures { result ≡ begun context }

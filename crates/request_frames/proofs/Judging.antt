@@ -1,7 +1,7 @@
 -- Lines are judged one after another.
 use Rattle.std.proofs.Common.{◌≡◌, ℕ, ◌+◌, ◌<◌, ◌≤◌, ◌==◌, Bool, true, false, cond, List, [], ◌∷◌, length, codes, Ok, Err, refl, ap, ◌∙◌, arith}
 use Rattle.std.specs.List.{slice_split, onto_first}
-use Rattle.request_frames.specs.declared.plan.Plan.{Plan}
+use Rattle.batch_plans.specs.declared.plan.Plan.{Plan}
 use Rattle.field_text.specs.declared.reasons.Reason.{Reason}
 use Rattle.field_text.specs.declared.reasons.Reason.TheVariants as reasons
 use Rattle.request_frames.specs.declared.words.Next.TheVariants.{More, Last}

@@ -4,10 +4,10 @@ use Rattle.std.specs.Prelude.{All}
 use Rattle.std.proofs.lemmas.List.{length-append}
 use Rattle.std.proofs.lemmas.List.Sums.{sum_by-cons, sum_by_push}
 use Rattle.std.proofs.lemmas.List.Elements.{All-push, All-nil, All-cons, All-head}
-use Rattle.request_frames.specs.declared.plan.Plan.{Plan}
-use Rattle.request_frames.specs.declared.plan.CallLine.{CallLine}
-use Rattle.request_frames.specs.Limits.{items_of, size_of, text_size, IsCallWithin, IsWithinLimits}
-use Rattle.request_frames.proofs.Counts.{one_item}
+use Rattle.batch_plans.specs.declared.plan.Plan.{Plan}
+use Rattle.batch_plans.specs.declared.plan.CallLine.{CallLine}
+use Rattle.batch_plans.specs.Limits.{items_of, size_of, text_size, IsCallWithin, IsWithinLimits}
+use Rattle.batch_plans.proofs.Counts.{one_item}
 
 -- each call has one item
 pub items-length : (lane : List CallLine) → sum_by items_of lane ≡ length lane
@@ -30,6 +30,7 @@ call_added plan lane call h one room most texts within = record {
   items = omega (arith, one_lane items_of (lane ++ call ∷ []), items-length (lane ++ call ∷ []), length-append lane (call ∷ []));
   exported = omega (arith, one_lane size_of (lane ++ call ∷ []), sum_by_push size_of lane call);
   texts = omega (arith, texts, one_lane text_size (lane ++ call ∷ []), sum_by_push text_size lane call);
+  key_lines = h.key_lines;
   context_lines = h.context_lines;
   call_lines =
       let fits : CallLine → Type 0 = IsCallWithin (length plan.pool) in

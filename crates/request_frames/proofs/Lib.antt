@@ -3,6 +3,4 @@ pub mod SpelledFields
 pub mod SpelledPlans
 pub mod Chains
 pub mod Numbering
-pub mod Rooms
-pub mod Counts
 pub mod Kept

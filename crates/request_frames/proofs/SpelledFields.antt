@@ -14,12 +14,12 @@ use Rattle.key_schedule.specs.declared.modes.Mode.TheVariants.{Base, Psk}
 use Rattle.field_text.specs.declared.reasons.Reason.TheVariants.{Word, Range}
 use Rattle.field_text.specs.Fields.{number, bytes, Pooled}
 use Rattle.field_text.proofs.Spellings.{ok_same, step_ok, choice_ok, word_ok, next_ok, exactly_ok, number_ok, bytes_ok, IsFront, IsPooled, IsFront-then}
-use Rattle.request_frames.specs.declared.plan.ContextLine.{ContextLine}
-use Rattle.request_frames.specs.declared.plan.CallLine.{CallLine}
+use Rattle.batch_plans.specs.declared.plan.ContextLine.{ContextLine}
+use Rattle.batch_plans.specs.declared.plan.CallLine.{CallLine}
 use Rattle.request_frames.specs.declared.words.LineWord.{LineWord}
 use Rattle.request_frames.specs.declared.words.LineWord.TheVariants.{Share, Lane, Seal, Unseal, Export, End}
 use Rattle.request_frames.specs.Words.{line_word, role, mode, kdf, aead}
-use Rattle.request_frames.specs.Limits.{most_field, most_plaintext, most_ciphertext}
+use Rattle.batch_plans.specs.Limits.{most_field, most_plaintext, most_ciphertext}
 use Rattle.request_frames.specs.Forms.{share, seal, unseal, export}
 use Rattle.request_frames.specs.PlanText.{role_word, mode_word, span_text, context_pieces, call_pieces}
 

@@ -10,10 +10,10 @@ use Rattle.field_text.specs.declared.reasons.Reason.TheVariants as reasons
 use Rattle.field_text.specs.Cuts.{line_feed, space, lines_of, pieces_of}
 use Rattle.field_text.specs.Fields.{◌>>=◌, next}
 use Rattle.field_text.proofs.Spellings.{joined, ok_same, step_ok, test_ok, next_ok, exactly_ok, IsFront, IsFront-same, IsFront-then}
-use Rattle.request_frames.specs.declared.plan.BadBatch.{BadBatch}
-use Rattle.request_frames.specs.declared.plan.Plan.{Plan}
-use Rattle.request_frames.specs.declared.plan.CallLine.{CallLine}
-use Rattle.request_frames.specs.declared.plan.ContextLine.{ContextLine}
+use Rattle.request_frames.specs.declared.faults.BadBatch.{BadBatch}
+use Rattle.batch_plans.specs.declared.plan.Plan.{Plan}
+use Rattle.batch_plans.specs.declared.plan.CallLine.{CallLine}
+use Rattle.batch_plans.specs.declared.plan.ContextLine.{ContextLine}
 use Rattle.request_frames.specs.declared.words.LineWord.{LineWord}
 use Rattle.request_frames.specs.declared.words.LineWord.TheVariants.{Share, Lane, Seal, Unseal, Export, End}
 use Rattle.request_frames.specs.declared.words.Next.{Next}
@@ -21,7 +21,7 @@ use Rattle.request_frames.specs.declared.words.Next.TheVariants.{More, Last}
 use Rattle.request_frames.specs.Words.{line_word}
 use Rattle.request_frames.specs.Forms.{share, seal, unseal, export}
 use Rattle.request_frames.specs.Batch.{may_stand, at_most, add_call, with_call, with_share, with_lane, with_seal, with_unseal, with_export, with_line, line_after, followed, bad, is_nothing, judged, headed, batch, empty_plan, Spells}
-use Rattle.request_frames.specs.Limits.{most_input, most_contexts, most_lanes, most_items, most_exported, items_of, size_of, all_items, all_sizes}
+use Rattle.batch_plans.specs.Limits.{most_input, most_contexts, most_lanes, most_items, most_exported, items_of, size_of, all_items, all_sizes}
 use Rattle.request_frames.specs.PlanText.{line_text, context_text, call_pieces, call_text, lane_text, text_of}
 use Rattle.request_frames.proofs.SpelledFields.{word_text, line_word_ok, IsLine, no_piece, share_ok, seal_ok, unseal_ok, export_ok}
 

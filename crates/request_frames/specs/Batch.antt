@@ -10,18 +10,18 @@ use Rattle.field_text.specs.declared.reasons.Reason.{Reason}
 use Rattle.field_text.specs.declared.reasons.Reason.TheVariants as reasons
 use Rattle.field_text.specs.Cuts.{lines_of, pieces_of}
 use Rattle.field_text.specs.Fields.{◌>>=◌, next, exactly}
-use Rattle.request_frames.specs.declared.plan.BadBatch.{BadBatch}
-use Rattle.request_frames.specs.declared.plan.ReadBatchFault.{ReadBatchFault}
-use Rattle.request_frames.specs.declared.plan.ReadBatchFault.TheVariants as faults
-use Rattle.request_frames.specs.declared.plan.Plan.{Plan}
-use Rattle.request_frames.specs.declared.plan.CallLine.{CallLine}
+use Rattle.request_frames.specs.declared.faults.BadBatch.{BadBatch}
+use Rattle.request_frames.specs.declared.faults.ReadBatchFault.{ReadBatchFault}
+use Rattle.request_frames.specs.declared.faults.ReadBatchFault.TheVariants as faults
+use Rattle.batch_plans.specs.declared.plan.Plan.{Plan}
+use Rattle.batch_plans.specs.declared.plan.CallLine.{CallLine}
 use Rattle.request_frames.specs.declared.words.LineWord.{LineWord}
 use Rattle.request_frames.specs.declared.words.LineWord.TheVariants.{Share, Lane, Seal, Unseal, Export, End}
 use Rattle.request_frames.specs.declared.words.Next.{Next}
 use Rattle.request_frames.specs.declared.words.Next.TheVariants.{More, Last}
 use Rattle.request_frames.specs.Words.{line_word}
 use Rattle.request_frames.specs.Forms.{share, seal, unseal, export}
-use Rattle.request_frames.specs.Limits.{most_input, most_contexts, most_lanes, most_items, most_exported, items_of, size_of, all_items, all_sizes}
+use Rattle.batch_plans.specs.Limits.{most_input, most_contexts, most_lanes, most_items, most_exported, items_of, size_of, all_items, all_sizes}
 
 -- ---- order
 

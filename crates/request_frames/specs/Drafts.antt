@@ -1,9 +1,9 @@
 -- ---- for the proofs: the plan of the lines so far, as the code holds it
 use Rattle.std.specs.Prelude.{◌≡◌, false, None, List, [], ◌∷◌, if◌then◌else◌}
-use Rattle.request_frames.specs.declared.plan.Plan.{Plan}
-use Rattle.request_frames.specs.declared.plan.CallLine.{CallLine}
+use Rattle.batch_plans.specs.declared.plan.Plan.{Plan}
+use Rattle.batch_plans.specs.declared.plan.CallLine.{CallLine}
 use Rattle.request_frames.specs.declared.draft.Draft.{Draft}
-use Rattle.request_frames.specs.Limits.{all_sizes, IsWithinLimits}
+use Rattle.batch_plans.specs.Limits.{all_sizes, IsWithinLimits}
 
 -- the lane, where one is open
 abbrev pub lanes_of : Draft → List (List CallLine)

@@ -3,12 +3,12 @@
 use Rattle.std.specs.Prelude.{ℕ, List, Result, Ok}
 use Rattle.field_text.specs.declared.reasons.Reason.{Reason}
 use Rattle.field_text.specs.Fields.{◌>>=◌, next, exactly, number, bytes}
-use Rattle.request_frames.specs.declared.plan.ContextLine.{ContextLine}
-use Rattle.request_frames.specs.declared.plan.ContextKind.TheVariants.{Share}
-use Rattle.request_frames.specs.declared.plan.CallLine.{CallLine}
-use Rattle.request_frames.specs.declared.plan.CallLine.TheVariants.{Seal, Unseal, Export}
+use Rattle.batch_plans.specs.declared.plan.ContextLine.{ContextLine}
+use Rattle.batch_plans.specs.declared.plan.ContextKind.TheVariants.{Share}
+use Rattle.batch_plans.specs.declared.plan.CallLine.{CallLine}
+use Rattle.batch_plans.specs.declared.plan.CallLine.TheVariants.{Seal, Unseal, Export}
 use Rattle.request_frames.specs.Words.{role, mode, kdf, aead}
-use Rattle.request_frames.specs.Limits.{most_field, most_plaintext, most_ciphertext}
+use Rattle.batch_plans.specs.Limits.{most_field, most_plaintext, most_ciphertext}
 
 -- `share ROLE KEM KDF AEAD SECRET MODE INFO PSK PSKID LIMIT`
 unfoldable pub share : List ℕ → List (List ℕ) → Result (ContextLine × List ℕ) Reason

@@ -1,9 +1,6 @@
 pub mod Words
-pub mod Limits
 pub mod Forms
 pub mod Batch
 pub mod PlanText
 pub mod Drafts
 pub mod ReplyText
-pub mod Calls
-pub mod Room

@@ -12,12 +12,14 @@ use Rattle.key_schedule.specs.declared.modes.Mode.{Mode}
 use Rattle.key_schedule.specs.declared.modes.Mode.TheVariants.{Base, Psk}
 use Rattle.field_text.specs.Cuts.{space}
 use Rattle.field_text.specs.Printing.{hex_text}
-use Rattle.request_frames.specs.declared.plan.ContextKind.{ContextKind}
-use Rattle.request_frames.specs.declared.plan.ContextKind.TheVariants.{Share}
-use Rattle.request_frames.specs.declared.plan.ContextLine.{ContextLine}
-use Rattle.request_frames.specs.declared.plan.CallLine.{CallLine}
-use Rattle.request_frames.specs.declared.plan.CallLine.TheVariants.{Seal, Unseal, Export}
-use Rattle.request_frames.specs.declared.plan.Plan.{Plan}
+use Rattle.batch_plans.specs.declared.plan.ContextKind.{ContextKind}
+use Rattle.batch_plans.specs.declared.plan.ContextKind.TheVariants.{Share, Send, Recv}
+use Rattle.batch_plans.specs.declared.plan.EncField.{EncField}
+use Rattle.batch_plans.specs.declared.plan.EncField.TheVariants.{Bytes, Of}
+use Rattle.batch_plans.specs.declared.plan.ContextLine.{ContextLine}
+use Rattle.batch_plans.specs.declared.plan.CallLine.{CallLine}
+use Rattle.batch_plans.specs.declared.plan.CallLine.TheVariants.{Seal, Unseal, Export}
+use Rattle.batch_plans.specs.declared.plan.Plan.{Plan}
 
 -- ---- pieces
 
@@ -35,7 +37,22 @@ mode_word Psk = codes "psk"
 abbrev pub span_text : List ℕ → Span → List ℕ
 span_text pool span = hex_text (span_bytes pool span)
 
--- of a context line of each kind: `share ROLE KEM KDF AEAD SECRET MODE INFO PSK PSKID LIMIT`
+-- ENC: `@N`, or a bytes field
+abbrev pub enc_text : List ℕ → EncField → List ℕ
+enc_text pool (Bytes span) = span_text pool span
+enc_text pool (Of number) = codes "@" ++ decimal number
+
+-- `MODE INFO PSK PSKID LIMIT`
+abbrev pub schedule_pieces : List ℕ → ContextLine → List (List ℕ)
+schedule_pieces pool context =
+    mode_word context.mode
+    ∷ span_text pool context.info
+    ∷ span_text pool context.psk
+    ∷ span_text pool context.psk_id
+    ∷ decimal context.limit
+    ∷ []
+
+-- of a context line of each kind
 abbrev pub context_pieces : List ℕ → ContextLine → ContextKind → List (List ℕ)
 context_pieces pool context (Share role kem secret) =
     codes "share"
@@ -44,12 +61,20 @@ context_pieces pool context (Share role kem secret) =
     ∷ decimal (kdf_id context.kdf)
     ∷ decimal (aead_id context.aead)
     ∷ span_text pool secret
-    ∷ mode_word context.mode
-    ∷ span_text pool context.info
-    ∷ span_text pool context.psk
-    ∷ span_text pool context.psk_id
-    ∷ decimal context.limit
-    ∷ []
+    ∷ schedule_pieces pool context
+context_pieces pool context (Send key) =
+    codes "send"
+    ∷ decimal (kdf_id context.kdf)
+    ∷ decimal (aead_id context.aead)
+    ∷ decimal key
+    ∷ schedule_pieces pool context
+context_pieces pool context (Recv key enc) =
+    codes "recv"
+    ∷ decimal (kdf_id context.kdf)
+    ∷ decimal (aead_id context.aead)
+    ∷ decimal key
+    ∷ enc_text pool enc
+    ∷ schedule_pieces pool context
 
 -- of a call line: `seal CTX AAD PT`, `unseal CTX AAD CT`, `export CTX BYTES LEN`
 abbrev pub call_pieces : List ℕ → CallLine → List (List ℕ)

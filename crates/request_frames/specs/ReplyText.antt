@@ -2,27 +2,28 @@
 -- feed, numbers are decimal without leading zeros, and bytes are lower-case hex digits, `-` for none.
 use Rattle.std.specs.Prelude.{◌≡◌, ℕ, ◌+◌, List, [], ◌∷◌, ◌++◌, length, map, codes, decimal}
 use Rattle.std.specs.List.{All, flat_map}
-use Rattle.call_places.specs.Spans.{IsInPool, span_bytes}
+use Rattle.call_places.specs.Spans.{span_bytes}
 use Rattle.call_places.specs.declared.entries.Place.{Place}
 use Rattle.field_text.specs.Printing.{hex_text}
 use Rattle.field_text.specs.declared.reasons.Reason.{Reason}
 use Rattle.field_text.specs.declared.reasons.Reason.TheVariants as reasons
-use Rattle.request_frames.specs.declared.plan.BadBatch.{BadBatch}
-use Rattle.request_frames.specs.declared.replies.KeyRefusal.{KeyRefusal}
-use Rattle.request_frames.specs.declared.replies.KeyRefusal.TheVariants.{Exhausted, NoInverse, Length, Form}
-use Rattle.request_frames.specs.declared.replies.KeyReply.{KeyReply}
-use Rattle.request_frames.specs.declared.replies.KeyReply.TheVariants as keys
-use Rattle.request_frames.specs.declared.replies.ContextRefusal.{ContextRefusal}
-use Rattle.request_frames.specs.declared.replies.ContextRefusal.TheVariants.{NoKey, NeedSecret, NoEnc, EncSize, PskPair, PskExtra, PskMissing}
-use Rattle.request_frames.specs.declared.replies.ContextReply.{ContextReply}
-use Rattle.request_frames.specs.declared.replies.ContextReply.TheVariants as contexts
-use Rattle.request_frames.specs.declared.replies.CallRefusal.{CallRefusal}
-use Rattle.request_frames.specs.declared.replies.CallRefusal.TheVariants as calls
-use Rattle.request_frames.specs.declared.replies.Reply.{Reply}
-use Rattle.request_frames.specs.declared.replies.Reply.TheVariants.{Blank, Sealed, Opened, Failed, Limit, Exported, Refused}
-use Rattle.request_frames.specs.declared.replies.LaneAnswers.{LaneAnswers}
-use Rattle.request_frames.specs.declared.replies.Answers.{Answers}
-use Rattle.request_frames.specs.declared.plan.Plan.{Plan}
+use Rattle.request_frames.specs.declared.faults.BadBatch.{BadBatch}
+use Rattle.batch_plans.specs.declared.replies.KeyRefusal.{KeyRefusal}
+use Rattle.batch_plans.specs.declared.replies.KeyRefusal.TheVariants.{Exhausted, NoInverse, Length, Form}
+use Rattle.batch_plans.specs.declared.replies.KeyReply.{KeyReply}
+use Rattle.batch_plans.specs.declared.replies.KeyReply.TheVariants as keys
+use Rattle.batch_plans.specs.declared.replies.ContextRefusal.{ContextRefusal}
+use Rattle.batch_plans.specs.declared.replies.ContextRefusal.TheVariants.{NoKey, NeedSecret, NoEnc, EncSize, PskPair, PskExtra, PskMissing}
+use Rattle.batch_plans.specs.declared.replies.ContextReply.{ContextReply}
+use Rattle.batch_plans.specs.declared.replies.ContextReply.TheVariants as contexts
+use Rattle.batch_plans.specs.declared.replies.CallRefusal.{CallRefusal}
+use Rattle.batch_plans.specs.declared.replies.CallRefusal.TheVariants as calls
+use Rattle.batch_plans.specs.declared.replies.Reply.{Reply}
+use Rattle.batch_plans.specs.declared.replies.Reply.TheVariants.{Blank, Sealed, Opened, Failed, Limit, Exported, Refused}
+use Rattle.batch_plans.specs.declared.replies.LaneAnswers.{LaneAnswers}
+use Rattle.batch_plans.specs.declared.replies.Answers.{Answers}
+use Rattle.batch_plans.specs.Replies.{IsPrintable}
+use Rattle.batch_plans.specs.declared.plan.Plan.{Plan}
 
 -- ---- words
 
@@ -156,20 +157,6 @@ abbrev pub bad_text : BadBatch → List ℕ
 bad_text bad = codes "bad " ++ decimal bad.line ++ codes " " ++ reason_word bad.reason ++ codes "\n"
 
 -- ---- what can be printed
-
--- the span of a reply lies in a pool of so many bytes
-abbrev pub IsInRange : ℕ → Reply → Type 0
-IsInRange size Blank = Unit {0}
-IsInRange size (Sealed number text) = IsInPool size text
-IsInRange size (Opened number text) = IsInPool size text
-IsInRange size (Failed number) = Unit {0}
-IsInRange size Limit = Unit {0}
-IsInRange size (Exported text) = IsInPool size text
-IsInRange size (Refused refusal) = Unit {0}
-
--- each reply's span lies in the pool of its lane
-abbrev pub IsPrintable : LaneAnswers → Type 0
-IsPrintable lane = All (IsInRange (length lane.pool)) lane.replies
 
 -- the answers have one reply for each key line and each context line, a lane for each lane, a journal for
 -- each context, and their replies can be printed

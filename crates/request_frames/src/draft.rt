@@ -7,22 +7,16 @@ ghost use Rattle.request_frames.specs.Batch.{may_stand, in_order as in_order_of}
 ghost use Rattle.request_frames.specs.Batch.{with_call as call_of};
 ghost use Rattle.request_frames.specs.Batch.{with_share as share_of, with_lane as lane_of};
 ghost use Rattle.request_frames.specs.Batch.{with_line as line_of, line_after, empty_plan};
-ghost use Rattle.request_frames.specs.Limits.{size_of, text_size, all_texts, IsCallWithin};
-ghost use Rattle.request_frames.specs.Limits.{IsContextWithin, IsWithinLimits};
+ghost use Rattle.batch_plans.specs.Limits.{size_of, text_size, all_texts, IsCallWithin};
+ghost use Rattle.batch_plans.specs.Limits.{IsContextWithin, IsWithinLimits};
 ghost use Rattle.request_frames.specs.Drafts.{plan_of, IsKept};
 
-use crate::lists::PlainList;
-use crate::plan::{CallLine, ContextLine, Plan};
 use crate::words::{LineWord, Next};
 use crate::{lines, words};
+use batch_plans::limits::{MOST_CONTEXTS, MOST_EXPORTED, MOST_ITEMS};
+use batch_plans::{CallLine, ContextLine, PlainList, Plan};
 use field_text::{Pieces, Reason, Stop};
 use std::alloc::{AllocError, Global};
-
-const MOST_CONTEXTS: usize = 256;
-
-const MOST_ITEMS: usize = 65_536;
-
-const MOST_EXPORTED: u32 = 16_777_216;
 
 /// The lines so far, with the calls of the one lane where it is open.
 #[derive(Drop)]

@@ -18,40 +18,32 @@
 
 #[cfg(test)]
 mod bad_texts;
-mod calls;
 mod draft;
-mod journals;
+mod faults;
 mod lines;
-mod lists;
 #[cfg(test)]
 mod long_texts;
-mod plan;
 mod printing;
 #[cfg(test)]
 mod printing_tests;
 mod reading;
 #[cfg(test)]
 mod reading_tests;
-mod replies;
 mod reply_lines;
 mod reply_words;
-mod room;
 #[cfg(test)]
 mod room_tests;
 mod spelling;
 mod words;
 
-pub use calls::call_refusal;
-pub use field_text::{Printed, Reason};
-pub use lists::PlainList;
-pub use plan::{
-    BadBatch, ByteList, CallLine, ContextKind, ContextLine, ContextLines, ItemList, KeyLine,
-    KeyLines, LaneLines, Plan, ReadBatchFault,
+pub use batch_plans::{
+    Answers, ByteList, CallLine, CallRefusal, ContextKind, ContextLine, ContextLines,
+    ContextRefusal, ContextReplies, ContextReply, EncField, ItemList, JournalList, KeyLine,
+    KeyLines, KeyRefusal, KeyReplies, KeyReply, LaneAnswerList, LaneAnswers, LaneLines,
+    LaneProgress, PlainList, Plan, Reply, ReplyList, call_refusal,
 };
+pub use faults::{BadBatch, ReadBatchFault};
+pub use field_text::{Printed, Reason};
 pub use printing::{print_answers, print_bad};
 pub use reading::{one_reading, read_batch};
-pub use replies::{
-    Answers, CallRefusal, ContextRefusal, ContextReplies, ContextReply, JournalList, KeyRefusal,
-    KeyReplies, KeyReply, LaneAnswerList, LaneAnswers, Reply, ReplyList,
-};
 pub use spelling::one_spelling;

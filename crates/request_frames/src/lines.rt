@@ -1,22 +1,16 @@
 //! What each line spells, by its form.
 
-ghost use Rattle.std.specs.Prelude.{◌≡◌, ◌+◌, ◌<◌, ◌≤◌, ◌^◌, length, vec_len, sum_by, OnOk, IfOk};
+ghost use Rattle.std.specs.Prelude.{◌≡◌, ◌+◌, ◌<◌, ◌≤◌, ◌^◌, length, vec_len, sum_by, OnOk, IfOk, None};
 ghost use Rattle.field_text.specs.Fields.{Gives};
 ghost use Rattle.request_frames.specs.Forms.{share as share_of, seal as seal_of};
 ghost use Rattle.request_frames.specs.Forms.{unseal as unseal_of, export as export_of};
-ghost use Rattle.request_frames.specs.Limits.{text_size, IsContextWithin, IsCallWithin};
+ghost use Rattle.batch_plans.specs.Limits.{text_size, IsContextWithin, IsCallWithin};
 
-use crate::plan::{CallLine, ContextKind, ContextLine};
 use crate::words;
+use batch_plans::limits::{MOST_CIPHERTEXT, MOST_FIELD, MOST_PLAINTEXT};
+use batch_plans::{CallLine, ContextKind, ContextLine};
 use call_places::Item;
 use field_text::{Pieces, Stop};
-
-// The most bytes of a field that has no limit of its own.
-const MOST_FIELD: usize = 65_535;
-
-const MOST_PLAINTEXT: usize = 1_048_576;
-
-const MOST_CIPHERTEXT: usize = 1_048_592;
 
 /// `share ROLE KEM KDF AEAD SECRET MODE INFO PSK PSKID LIMIT`
 #[tactic(auto, unfolding(crate::specs::Forms::share))]
@@ -24,7 +18,7 @@ pub fn share(pool: &mut Vec<u8>, fields: &mut Pieces) -> Result<ContextLine, Sto
     requires room { vec_len pool.old + sum_by length fields.old < 2 ^ 32 }
     ensures read { Gives (λ line. (line, pool.new.items)) result
         (share_of pool.old.items fields.old) }
-    ensures within { IfOk result (IsContextWithin (vec_len pool.new)) }
+    ensures within { IfOk result (IsContextWithin None (vec_len pool.new)) }
     ensures grown { OnOk result (vec_len pool.old ≤ vec_len pool.new) }
     ensures size { OnOk result (vec_len pool.new ≤ vec_len pool.old + sum_by length fields.old) }
 {

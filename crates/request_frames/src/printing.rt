@@ -8,13 +8,13 @@ ghost use Rattle.field_text.specs.Printing.{Puts, AppendsPrefix};
 ghost use Rattle.request_frames.specs.ReplyText.{numbered, key_line, context_line};
 ghost use Rattle.request_frames.specs.ReplyText.{reply_line, lane_replies, lane_text};
 ghost use Rattle.request_frames.specs.ReplyText.{place_line, journal_text, answers_text};
-ghost use Rattle.request_frames.specs.ReplyText.{bad_text, IsInRange, IsPrintable, IsAnswered};
+ghost use Rattle.request_frames.specs.ReplyText.{bad_text, IsAnswered};
+ghost use Rattle.batch_plans.specs.Replies.{IsInRange, IsPrintable};
 
-use crate::lists::PlainList;
-use crate::plan::{BadBatch, Plan};
-use crate::replies::{Answers, ContextReply, KeyReply, LaneAnswers, Reply};
+use crate::faults::BadBatch;
 use crate::reply_lines::{put_bad, put_context_line, put_key_line, put_place, put_reply};
 use batch_io::Sink;
+use batch_plans::{Answers, ContextReply, KeyReply, LaneAnswers, PlainList, Plan, Reply};
 use call_places::Place;
 use field_text::{Buffer, Printed};
 

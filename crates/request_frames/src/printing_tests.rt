@@ -1,6 +1,7 @@
 ghost use Rattle.std.specs.Prelude.{◌≡◌, [], length, IfOk};
 ghost use Rattle.std.specs.List.{All};
-ghost use Rattle.request_frames.specs.ReplyText.{IsPrintable, IsAnswered};
+ghost use Rattle.request_frames.specs.ReplyText.{IsAnswered};
+ghost use Rattle.batch_plans.specs.Replies.{IsPrintable};
 
 use crate::{
     Answers, BadBatch, CallLine, CallRefusal, ContextKind, ContextLine, ContextRefusal,

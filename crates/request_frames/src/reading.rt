@@ -1,21 +1,21 @@
 //! A whole batch.
 
-ghost use Rattle.std.specs.Prelude.{◌≡◌, ℕ, ◌+◌, ◌<◌, ◌≤◌, ◌⊎◌, length, IfOk, Ok, Err, codes, List};
+ghost use Rattle.std.specs.Prelude.{◌≡◌, ℕ, ◌+◌, ◌<◌, ◌≤◌, ◌⊎◌, length, IfOk, Ok, Err, codes, List, []};
 ghost use Rattle.std.specs.Str.{bytes_eq};
 ghost use Rattle.field_text.specs.declared.reasons.Reason.{Reason};
 ghost use Rattle.field_text.specs.Cuts.{lines_of};
-ghost use Rattle.request_frames.specs.declared.plan.Plan.{Plan};
+ghost use Rattle.batch_plans.specs.declared.plan.Plan.{Plan};
 ghost use Rattle.request_frames.specs.Batch.{IsAnswer, Spells, BadAt, batch};
 ghost use Rattle.request_frames.specs.Batch.{judged, empty_plan, refusal, no_memory};
-ghost use Rattle.request_frames.specs.Limits.{IsWithinLimits};
+ghost use Rattle.batch_plans.specs.Limits.{IsWithinLimits};
 
 use crate::draft::Draft;
-use crate::plan::{BadBatch, Plan, ReadBatchFault};
+use crate::faults::{BadBatch, ReadBatchFault};
 use crate::words::Next;
+use batch_plans::Plan;
+use batch_plans::limits::MOST_INPUT;
 use field_text::{Reason, Stop, cut_at};
 use std::alloc::Global;
-
-const MOST_INPUT: usize = 67_108_864;
 
 fn bad(line: u32, reason: Reason) -> Result<Plan, ReadBatchFault>
     ensures { result ≡ refusal line reason }
@@ -34,6 +34,7 @@ fn judge(alloc: Global, text: &[u8]) -> Result<Plan, ReadBatchFault>
     requires { length text.now ≤ 67108864 }
     ensures read { IsAnswer result (judged 2 empty_plan (lines_of text.now)) }
     ensures limits { IfOk result IsWithinLimits }
+    ensures keyless { IfOk result (λ plan. plan.keys ≡ []) }
 {
     let mut draft = Draft::new(alloc);
     let mut line = 2;
@@ -60,6 +61,7 @@ fn judge(alloc: Global, text: &[u8]) -> Result<Plan, ReadBatchFault>
 fn read(alloc: Global, bytes: &[u8]) -> Result<Plan, ReadBatchFault>
     ensures read { IsAnswer result (batch bytes.now) }
     ensures limits { IfOk result IsWithinLimits }
+    ensures keyless { IfOk result (λ plan. plan.keys ≡ []) }
 {
     if bytes.len() > MOST_INPUT {
         return bad(0, Reason::Size);
@@ -86,6 +88,7 @@ pub fn read_batch(alloc: Global, bytes: &[u8]) -> Result<Plan, ReadBatchFault>
     ensures spelled { (plan : Plan) → Spells bytes.now plan
         → (result ≡ Ok plan) ⊎ (result ≡ no_memory) }
     ensures limits { IfOk result IsWithinLimits }
+    ensures keyless { IfOk result (λ plan. plan.keys ≡ []) }
 {
     read(alloc, bytes)
 }

@@ -5,14 +5,15 @@ ghost use Rattle.call_places.specs.Spans.{span_bytes};
 ghost use Rattle.field_text.specs.Printing.{Puts};
 ghost use Rattle.request_frames.specs.ReplyText.{key_words, key_line, context_words};
 ghost use Rattle.request_frames.specs.ReplyText.{context_line, served_line, reply_line};
-ghost use Rattle.request_frames.specs.ReplyText.{place_line, bad_text, IsInRange};
+ghost use Rattle.request_frames.specs.ReplyText.{place_line, bad_text};
+ghost use Rattle.batch_plans.specs.Replies.{IsInRange};
 
-use crate::plan::BadBatch;
-use crate::replies::{ContextReply, KeyReply, Reply};
+use crate::faults::BadBatch;
 use crate::reply_words::{
     word_of_call_refusal, word_of_context_refusal, word_of_key_refusal, word_of_reason,
 };
 use batch_io::Sink;
+use batch_plans::{ContextReply, KeyReply, Reply};
 use call_places::Place;
 use field_text::Buffer;
 

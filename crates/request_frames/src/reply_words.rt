@@ -4,7 +4,7 @@ ghost use Rattle.std.specs.Prelude.{◌≡◌};
 ghost use Rattle.request_frames.specs.ReplyText.{key_refusal_word, context_refusal_word};
 ghost use Rattle.request_frames.specs.ReplyText.{call_refusal_word, reason_word};
 
-use crate::replies::{CallRefusal, ContextRefusal, KeyRefusal};
+use batch_plans::{CallRefusal, ContextRefusal, KeyRefusal};
 use field_text::Reason;
 
 pub(crate) fn word_of_key_refusal(refusal: KeyRefusal) -> &'static [u8]

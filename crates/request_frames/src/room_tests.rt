@@ -1,8 +1,12 @@
 //! The refusals of a plan's calls, and the room for its replies.
 
-ghost use Rattle.request_frames.specs.Limits.{IsWithinLimits};
+ghost use Rattle.batch_plans.specs.Limits.{IsWithinLimits};
 
-use crate::{Answers, CallRefusal, ContextReply, PlainList, Plan, call_refusal, read_batch};
+use crate::{
+    Answers, CallRefusal, ContextReply, LaneAnswers, LaneProgress, PlainList, Plan, Reply,
+    call_refusal, read_batch,
+};
+use call_places::Span;
 use std::alloc::Global;
 use std::test::Fail;
 
@@ -128,5 +132,35 @@ fn each_call_has_its_room_or_its_refusal(rt: HostRuntime) -> Result<(), Fail> {
             "{source}"
         );
     }
+    Ok(())
+}
+
+#[test]
+fn a_lane_takes_its_replies_in_order(rt: HostRuntime) -> Result<(), Fail> {
+    let alloc = rt.alloc();
+    let mut lane = LaneProgress::new(LaneAnswers {
+        pool: PlainList::from_vec(vec![in alloc; 0; 5]?),
+        replies: PlainList::from_vec(vec![in alloc; Reply::Blank; 3]?),
+    });
+    let text = lane.take_room(2);
+    lane.pool()[..2].copy_from_slice(b"ab".as_slice());
+    lane.put(Reply::Sealed { number: 7, text });
+    lane.put(Reply::Limit);
+    let text = lane.take_room(3);
+    lane.pool()[2..].copy_from_slice(b"cde".as_slice());
+    lane.put(Reply::Exported { text });
+    let answers = lane.finish();
+    assert_eq!(rt; answers.pool.as_slice(), b"abcde".as_slice());
+    let want = [
+        Reply::Sealed {
+            number: 7,
+            text: Span { start: 0, len: 2 },
+        },
+        Reply::Limit,
+        Reply::Exported {
+            text: Span { start: 2, len: 3 },
+        },
+    ];
+    assert_eq!(rt; answers.replies.as_slice(), want.as_slice());
     Ok(())
 }

@@ -1,7 +1,7 @@
 //! That a plan has one spelling.
 
 ghost use Rattle.std.specs.Prelude.{◌≡◌, ℕ, List};
-ghost use Rattle.request_frames.specs.declared.plan.Plan.{Plan};
+ghost use Rattle.batch_plans.specs.declared.plan.Plan.{Plan};
 ghost use Rattle.request_frames.specs.Batch.{Spells};
 ghost use Rattle.request_frames.specs.PlanText.{text_of};
 

@@ -2,10 +2,11 @@ use Rattle.std.proofs.Common.{◌≡◌, List, [], length, map, refl, sym, ap, s
 use Rattle.std.specs.List.{All, refill, range_with_len}
 use Rattle.std.proofs.lemmas.List.{length-map}
 use Rattle.std.proofs.lemmas.List.FromFn.{length-map-range_with_len}
-use Rattle.request_frames.specs.declared.replies.Answers.{Answers}
-use Rattle.request_frames.specs.declared.replies.LaneAnswers.{LaneAnswers}
-use Rattle.request_frames.specs.ReplyText.{lane_replies, IsPrintable}
-use Rattle.request_frames.specs.Room.{journal_room}
+use Rattle.batch_plans.specs.declared.replies.Answers.{Answers}
+use Rattle.batch_plans.specs.declared.replies.LaneAnswers.{LaneAnswers}
+use Rattle.request_frames.specs.ReplyText.{lane_replies}
+use Rattle.batch_plans.specs.Replies.{IsPrintable}
+use Rattle.batch_plans.specs.Room.{journal_room}
 use Rattle.batch_runner.specs.SetUp.{contexts_of, context_of, context_reply, limit_of, export_limits}
 use Rattle.batch_runner.specs.Serving.{begun, journal_of, journals_of}
 use Rattle.batch_runner.proofs.Begins.{stand_at_first}
@@ -57,7 +58,7 @@ returns-clause-answered c =
       keys =
           let none : answers.keys ≡ [] =
           ap (λ (a : Answers). a.keys) c.in_ok-answers.ensures ∙ c.from_vec-keys.ensures.items ∙ c.new.ensures.items in
-          omega (arith, ap length none, c.requires.within.keys);
+          omega (arith, ap length none, ap length c.requires.keyless);
       contexts =
           let replies : answers.contexts ≡ map context_reply (contexts_of plan) =
           ap (λ (a : Answers). a.contexts) c.in_ok-answers.ensures ∙ c.in_ok-replies.ensures

@@ -3,8 +3,8 @@ use Rattle.hkdf_labelled.specs.declared.suites.Kdf.TheVariants.{Sha256}
 use Rattle.hkdf_labelled.specs.declared.suites.Aead.TheVariants.{Aes128}
 use Rattle.key_schedule.specs.declared.modes.Role.TheVariants.{Sender}
 use Rattle.key_schedule.specs.declared.modes.Mode.TheVariants.{Base}
-use Rattle.request_frames.specs.declared.plan.ContextKind.TheVariants.{Share}
-use Rattle.request_frames.specs.declared.plan.ContextLine.{ContextLine}
+use Rattle.batch_plans.specs.declared.plan.ContextKind.TheVariants.{Share}
+use Rattle.batch_plans.specs.declared.plan.ContextLine.{ContextLine}
 use Rattle.batch_runner.specs.SetUp.{context_of}
 use Rattle.batch_runner.proofs.Loops.{mapped_more}
 use Rattle.batch_runner.proofs.set_up.set_up.Goals as goal
@@ -30,5 +30,4 @@ contexts-preserved c =
     (omega (arith, c.contexts-test.true, ap length c.as_slice-line-items.ensures.items))
     c.contexts.invariant c.in_ok-push.ensures.items
     (c.stand.ensures
-    ∙ ap (λ pool. context_of pool (get_or c.as_slice-line-items.result.now i no_line)) c.as_slice.ensures.items
     ∙ ap (λ (ls : List ContextLine). context_of c.args.plan.now.pool (get_or ls i no_line)) c.as_slice-line-items.ensures.items)

@@ -1,6 +1,6 @@
 use Rattle.std.proofs.Common.{ℕ, List, ap, sym, ◌∙◌}
 use Rattle.std.proofs.lemmas.List.{take_all}
-use Rattle.request_frames.specs.declared.replies.LaneAnswers.{LaneAnswers}
+use Rattle.batch_plans.specs.declared.replies.LaneAnswers.{LaneAnswers}
 use Rattle.field_text.proofs.Held.{Puts-same}
 use Rattle.request_frames.specs.ReplyText.{numbered, lane_text, lane_replies}
 use Rattle.request_frames.proofs.Numbering.{Puts-no_numbered, Puts-numbered, numbered-map}

@@ -1,5 +1,5 @@
 use Rattle.std.proofs.Common.{refl}
-use Rattle.request_frames.specs.declared.replies.Reply.TheVariants.{Blank}
+use Rattle.batch_plans.specs.declared.replies.Reply.TheVariants.{Blank}
 use Rattle.request_frames.specs.ReplyText.{reply_line}
 use Rattle.request_frames.proofs.Numbering.{Puts-each}
 use Rattle.request_frames.proofs.printing.put_replies.Goals as goal

@@ -1,5 +1,5 @@
 use Rattle.std.proofs.Common.{◌≡◌, ◌+◌, ap, sym, ◌∙◌, Some, None, subst}
-use Rattle.request_frames.specs.Calls.{refusal}
+use Rattle.batch_plans.specs.Calls.{refusal}
 use Rattle.batch_runner.specs.SetUp.{export_limits as limits_of}
 use Rattle.batch_runner.specs.Calls.{call_refusal as refusal_of, asked_by}
 use Rattle.batch_runner.specs.declared.answering.Service.{Service}

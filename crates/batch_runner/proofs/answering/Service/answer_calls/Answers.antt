@@ -2,11 +2,11 @@ use Rattle.std.proofs.Common.{◌≡◌, ◌+◌, length, get_or, refl, sym, ap,
 use Rattle.std.specs.Prelude.{slice_get}
 use Rattle.std.proofs.lemmas.List.Sums.{sum_by_more, sum_by_more_le}
 use Rattle.std.proofs.lemmas.Option.{slice_get-get_or}
-use Rattle.request_frames.specs.declared.plan.Plan.{Plan}
-use Rattle.request_frames.specs.declared.plan.CallLine.{CallLine}
-use Rattle.request_frames.specs.declared.plan.CallLine.TheVariants.{Seal}
+use Rattle.batch_plans.specs.declared.plan.Plan.{Plan}
+use Rattle.batch_plans.specs.declared.plan.CallLine.{CallLine}
+use Rattle.batch_plans.specs.declared.plan.CallLine.TheVariants.{Seal}
 use Rattle.request_frames.specs.ReplyText.{numbered}
-use Rattle.request_frames.specs.Room.{call_room}
+use Rattle.batch_plans.specs.Room.{call_room}
 use Rattle.batch_runner.specs.SetUp.{export_limits}
 use Rattle.batch_runner.specs.Calls.{call_line}
 use Rattle.batch_runner.specs.Serving.{calls_of, journals_of, StandAfter, IsServing}

@@ -1,7 +1,8 @@
 use Rattle.std.proofs.Common.{◌≡◌, take}
 use Rattle.std.specs.List.{All, flat_map, sum_by}
-use Rattle.request_frames.specs.ReplyText.{reply_line, numbered, IsInRange}
-use Rattle.request_frames.specs.Room.{call_room}
+use Rattle.request_frames.specs.ReplyText.{reply_line, numbered}
+use Rattle.batch_plans.specs.Replies.{IsInRange}
+use Rattle.batch_plans.specs.Room.{call_room}
 use Rattle.batch_runner.specs.SetUp.{export_limits}
 use Rattle.batch_runner.specs.Calls.{call_line}
 use Rattle.batch_runner.specs.Serving.{journals_of, IsServing}

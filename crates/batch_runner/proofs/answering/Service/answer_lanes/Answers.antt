@@ -1,9 +1,9 @@
 use Rattle.std.proofs.Common.{◌≡◌, length, map, List, sym, ap, subst, ◌∙◌, Some}
 use Rattle.std.specs.Prelude.{slice_get}
 use Rattle.std.proofs.lemmas.List.{length-map}
-use Rattle.request_frames.specs.declared.plan.CallLine.{CallLine}
+use Rattle.batch_plans.specs.declared.plan.CallLine.{CallLine}
 use Rattle.request_frames.specs.ReplyText.{lane_replies}
-use Rattle.request_frames.specs.Room.{lane_room}
+use Rattle.batch_plans.specs.Room.{lane_room}
 use Rattle.batch_runner.specs.SetUp.{export_limits}
 use Rattle.batch_runner.specs.Serving.{journals_of, StandAfter}
 use Rattle.batch_runner.proofs.Single.{few_calls, small_room, lines_of_one, no_lane, no_calls, lines_of_none}

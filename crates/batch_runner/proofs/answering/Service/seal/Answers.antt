@@ -3,7 +3,7 @@ use Rattle.call_places.specs.declared.entries.Place.{Place}
 use Rattle.call_places.specs.Spans.{span_bytes}
 use Rattle.hpke_context.specs.Answers.{Item, Seal}
 use Rattle.hpke_context.specs.Contexts.{SequentialView, answer_now, CanSeal}
-use Rattle.request_frames.specs.declared.plan.CallLine.TheVariants as calls
+use Rattle.batch_plans.specs.declared.plan.CallLine.TheVariants as calls
 use Rattle.batch_runner.specs.Calls.{answer_line}
 use Rattle.batch_runner.specs.Serving.{seal_of, gone_on, places_after}
 use Rattle.batch_runner.proofs.Served.{serves_seal, ask_served, one_batch}

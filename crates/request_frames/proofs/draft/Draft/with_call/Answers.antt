@@ -1,7 +1,7 @@
 use Rattle.std.proofs.Common.{rules, ◌≡◌, ◌∷◌, [], ◌++◌, refl, ap, ◌∙◌, arith}
 use Rattle.std.specs.Prelude.{sum_by}
 use Rattle.std.proofs.lemmas.List.Sums.{sum_by_push}
-use Rattle.request_frames.specs.Limits.{size_of, text_size, all_sizes, all_texts}
+use Rattle.batch_plans.specs.Limits.{size_of, text_size, all_sizes, all_texts}
 use Rattle.request_frames.specs.Drafts.{plan_of}
 use Rattle.request_frames.proofs.Kept.{one_lane, call_added}
 use Rattle.request_frames.proofs.draft.Draft.with_call.Goals as goal

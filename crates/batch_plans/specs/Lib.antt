@@ -1,0 +1,7 @@
+pub mod Limits
+pub mod Calls
+pub mod Replies
+pub mod Room
+pub mod Progress
+pub mod Filling
+pub mod Lending

@@ -1,0 +1,139 @@
+-- How large a batch may be, and what is known of the numbers and spans of its plan. Sizes are in
+-- bytes.
+use Rattle.std.specs.Prelude.{ℕ, ◌<◌, ◌≤◌, ◌^◌, List, length, sum_by, All, Option, IsSome}
+use Rattle.call_places.specs.declared.spans.Span.{Span}
+use Rattle.call_places.specs.declared.spans.Item.{Item}
+use Rattle.call_places.specs.Spans.{IsInPool}
+use Rattle.batch_plans.specs.declared.plan.Plan.{Plan}
+use Rattle.batch_plans.specs.declared.plan.KeyLine.{KeyLine}
+use Rattle.batch_plans.specs.declared.plan.KeyLine.TheVariants as keys
+use Rattle.batch_plans.specs.declared.plan.EncField.{EncField}
+use Rattle.batch_plans.specs.declared.plan.EncField.TheVariants as encs
+use Rattle.batch_plans.specs.declared.plan.ContextKind.{ContextKind}
+use Rattle.batch_plans.specs.declared.plan.ContextKind.TheVariants as kinds
+use Rattle.batch_plans.specs.declared.plan.ContextLine.{ContextLine}
+use Rattle.batch_plans.specs.declared.plan.CallLine.{CallLine}
+use Rattle.batch_plans.specs.declared.plan.CallLine.TheVariants as calls
+
+-- the whole input
+abbrev pub most_input : ℕ
+most_input = 67108864
+
+abbrev pub most_keys : ℕ
+most_keys = 64
+
+abbrev pub most_contexts : ℕ
+most_contexts = 256
+
+abbrev pub most_lanes : ℕ
+most_lanes = 1
+
+-- the items in all lanes
+abbrev pub most_items : ℕ
+most_items = 65536
+
+-- the sum of LEN of all lanes
+abbrev pub most_exported : ℕ
+most_exported = 16777216
+
+-- AAD, and each other bytes field that has no limit of its own
+abbrev pub most_field : ℕ
+most_field = 65535
+
+-- PT
+abbrev pub most_plaintext : ℕ
+most_plaintext = 1048576
+
+-- CT: a plaintext and its tag
+abbrev pub most_ciphertext : ℕ
+most_ciphertext = 1048592
+
+-- the items of a call
+abbrev pub items_of : CallLine → ℕ
+items_of (calls.Seal context item) = 1
+items_of (calls.Unseal context item) = 1
+items_of (calls.Export context exporter size) = 1
+
+-- the LEN of a call
+abbrev pub size_of : CallLine → ℕ
+size_of (calls.Seal context item) = 0
+size_of (calls.Unseal context item) = 0
+size_of (calls.Export context exporter size) = size
+
+-- the size of a call's PT or CT
+abbrev pub text_size : CallLine → ℕ
+text_size (calls.Seal context item) = item.text.len
+text_size (calls.Unseal context item) = item.text.len
+text_size (calls.Export context exporter size) = 0
+
+-- the items in all lanes
+abbrev pub all_items : List (List CallLine) → ℕ
+all_items lanes = sum_by (λ lane. sum_by items_of lane) lanes
+
+-- the sum of LEN of all lanes
+abbrev pub all_sizes : List (List CallLine) → ℕ
+all_sizes lanes = sum_by (λ lane. sum_by size_of lane) lanes
+
+-- the sizes of the PT and CT of all lanes
+abbrev pub all_texts : List (List CallLine) → ℕ
+all_texts lanes = sum_by (λ lane. sum_by text_size lane) lanes
+
+-- ---- what every plan that is read keeps
+
+-- a bytes field of a line: bytes of a pool of this length, and no more than its limit
+pub record IsField (most pool : ℕ) (span : Span) : Type 0 where
+  pub in_pool : IsInPool pool span
+  pub size : span.len ≤ most
+
+-- AAD, and a text with a limit of its own
+pub record IsItemWithin (most pool : ℕ) (item : Item) : Type 0 where
+  pub aad : IsField most_field pool item.aad
+  pub text : IsField most pool item.text
+
+-- a key line over a pool of this length; a pair is made from a seed
+abbrev pub IsKeyWithin : Option (List ℕ) → ℕ → KeyLine → Type 0
+IsKeyWithin seed pool keys.Generate = IsSome seed
+IsKeyWithin seed pool (keys.Secret bytes) = IsField most_field pool bytes
+IsKeyWithin seed pool (keys.Peer bytes) = IsField most_field pool bytes
+
+-- ENC over a pool of this length
+abbrev pub IsEncWithin : ℕ → EncField → Type 0
+IsEncWithin pool (encs.Bytes bytes) = IsField most_field pool bytes
+IsEncWithin pool (encs.Of number) = number ≤ 65535
+
+-- each kind of context, over a pool of this length; an encapsulation is made from a seed
+abbrev pub IsKindWithin : Option (List ℕ) → ℕ → ContextKind → Type 0
+IsKindWithin seed pool (kinds.Share role kem secret) = (kem < 2 ^ 16) × IsField most_field pool secret
+IsKindWithin seed pool (kinds.Send key) = (key ≤ 65535) × IsSome seed
+IsKindWithin seed pool (kinds.Recv key enc) = (key ≤ 65535) × IsEncWithin pool enc
+
+-- a context line over a pool of this length
+pub record IsContextWithin (seed : Option (List ℕ)) (pool : ℕ) (line : ContextLine) : Type 0 where
+  pub kind : IsKindWithin seed pool line.kind
+  pub info : IsField most_field pool line.info
+  pub psk : IsField most_field pool line.psk
+  pub psk_id : IsField most_field pool line.psk_id
+  pub limit_least : 1 ≤ line.limit
+  pub limit_most : line.limit < 2 ^ 64
+
+-- a call line over a pool of this length
+abbrev pub IsCallWithin : ℕ → CallLine → Type 0
+IsCallWithin pool (calls.Seal context item) =
+    (context ≤ 65535) × IsItemWithin most_plaintext pool item
+IsCallWithin pool (calls.Unseal context item) =
+    (context ≤ 65535) × IsItemWithin most_ciphertext pool item
+IsCallWithin pool (calls.Export context exporter size) =
+    (context ≤ 65535) × IsField most_field pool exporter × (size ≤ 65535)
+
+-- the counts of a plan, and each of its lines. The texts of its calls share no byte of the pool
+pub record IsWithinLimits (plan : Plan) : Type 0 where
+  pub pool : length plan.pool ≤ most_input
+  pub keys : length plan.keys ≤ most_keys
+  pub contexts : length plan.contexts ≤ most_contexts
+  pub lanes : length plan.lanes ≤ most_lanes
+  pub items : all_items plan.lanes ≤ most_items
+  pub exported : all_sizes plan.lanes ≤ most_exported
+  pub texts : all_texts plan.lanes ≤ length plan.pool
+  pub key_lines : All (IsKeyWithin plan.seed (length plan.pool)) plan.keys
+  pub context_lines : All (IsContextWithin plan.seed (length plan.pool)) plan.contexts
+  pub call_lines : All (All (IsCallWithin (length plan.pool))) plan.lanes

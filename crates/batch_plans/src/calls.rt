@@ -1,0 +1,106 @@
+//! Which calls are served.
+
+ghost use Rattle.std.specs.Prelude.{◌≡◌, ◌<◌, length, None, MatchOption, IfSome, Some, slice_index};
+ghost use Rattle.batch_plans.specs.Calls.{cipher_refusal, seal_refusal, open_refusal};
+ghost use Rattle.batch_plans.specs.Calls.{context_of, standing_line, refusal, served_on};
+
+use crate::plan::{CallLine, ContextLine};
+use crate::replies::CallRefusal;
+use hkdf_labelled::Aead;
+use key_schedule::Role;
+
+/// Why a call is refused from the batch and its set-up alone; without a refusal it is served.
+///
+/// The first cause that holds is answered, in the order of [`CallRefusal`]. `export_limits` has for
+/// each context the most bytes that it exports, 255·Nh (RFC 9180, 5.3), and 0 where it was refused.
+/// Takes no memory.
+pub fn call_refusal(
+    contexts: &[ContextLine],
+    export_limits: &[u32],
+    call: &CallLine,
+) -> Option<CallRefusal>
+    ensures { result ≡ refusal contexts.now export_limits.now call.now }
+{
+    let Some((line, export_limit)) = standing_line(contexts, export_limits, context_of(call)) else {
+        return Some(CallRefusal::NoContext);
+    };
+    match *call {
+        CallLine::Seal { .. } => seal_refusal(line.kind.role(), line.aead),
+        CallLine::Unseal { .. } => open_refusal(line.kind.role(), line.aead),
+        CallLine::Export { size, .. } if size > export_limit => Some(CallRefusal::ExportSize),
+        CallLine::Export { .. } => None,
+    }
+}
+
+/// The number of the context that seals or opens the item of a call, where it is served.
+pub(crate) fn served_on(
+    contexts: &[ContextLine],
+    export_limits: &[u32],
+    call: &CallLine,
+) -> Option<u32>
+    ensures number { result ≡ served_on contexts.now export_limits.now call.now }
+    ensures there { IfSome result (λ number. number < length contexts.now) }
+{
+    match *call {
+        CallLine::Export { .. } => None,
+        CallLine::Seal { context, .. } | CallLine::Unseal { context, .. } => {
+            match call_refusal(contexts, export_limits, call) {
+                None => Some(context),
+                Some(_) => None,
+            }
+        }
+    }
+}
+
+fn context_of(call: &CallLine) -> u32
+    ensures { result ≡ context_of call.now }
+{
+    match *call {
+        CallLine::Seal { context, .. }
+        | CallLine::Unseal { context, .. }
+        | CallLine::Export { context, .. } => context,
+    }
+}
+
+// The line of this number, where its context stands, with its export limit.
+fn standing_line(
+    contexts: &[ContextLine],
+    export_limits: &[u32],
+    number: u32,
+) -> Option<(ContextLine, u32)>
+    ensures { MatchOption result (standing_line contexts.now export_limits.now number ≡ None)
+        (λ found. (standing_line contexts.now export_limits.now number ≡ Some found.0)
+        × (slice_index export_limits.now number ≡ found.1)) }
+{
+    match export_limits.get(number as usize) {
+        None | Some(0) => None,
+        Some(limit) => Some((*contexts.get(number as usize)?, *limit)),
+    }
+}
+
+fn cipher_refusal(aead: Aead) -> Option<CallRefusal>
+    ensures { result ≡ cipher_refusal aead }
+{
+    match aead {
+        Aead::Aes128 | Aead::Aes256 => None,
+        Aead::ExportOnly => Some(CallRefusal::NoCipher),
+    }
+}
+
+fn seal_refusal(role: Role, aead: Aead) -> Option<CallRefusal>
+    ensures { result ≡ seal_refusal role aead }
+{
+    match role {
+        Role::Sender => cipher_refusal(aead),
+        Role::Recipient => Some(CallRefusal::Role),
+    }
+}
+
+fn open_refusal(role: Role, aead: Aead) -> Option<CallRefusal>
+    ensures { result ≡ open_refusal role aead }
+{
+    match role {
+        Role::Sender => Some(CallRefusal::Role),
+        Role::Recipient => cipher_refusal(aead),
+    }
+}

@@ -1,0 +1,116 @@
+//! What a batch asks for.
+
+ghost use Rattle.std.specs.Prelude.{◌≡◌};
+ghost use Rattle.batch_plans.specs.Calls.{context_role};
+
+use crate::lists::PlainList;
+use call_places::{Item, Span};
+use hkdf_labelled::{Aead, Kdf};
+use key_schedule::{Mode, Role};
+
+/// Bytes.
+pub type ByteList = PlainList<u8>;
+
+/// The key lines of a batch, which are numbered from 0.
+pub type KeyLines = PlainList<KeyLine>;
+
+/// The context lines of a batch, which are numbered from 0.
+pub type ContextLines = PlainList<ContextLine>;
+
+/// The items of the calls that have several.
+pub type ItemList = PlainList<Item>;
+
+/// The lanes of a batch, each the list of its calls. Both are numbered from 0.
+pub type LaneLines = PlainList<PlainList<CallLine>>;
+
+/// A whole batch, as its text spells it.
+#[derive(Drop)]
+pub struct Plan {
+    /// The seed of all random bytes, where the batch gives one.
+    pub seed: Option<[u8; 32]>,
+    /// The bytes of all bytes fields, one after the other in the order of the text.
+    pub pool: ByteList,
+    pub keys: KeyLines,
+    pub contexts: ContextLines,
+    pub items: ItemList,
+    pub lanes: LaneLines,
+}
+
+/// A key pair of a KEM, or the public half of one.
+#[derive(Clone, Copy, Debug, PartialEq, Eq)]
+pub enum KeyLine {
+    /// A pair made from the seed.
+    Generate,
+    /// The pair of this private key.
+    Secret(Span),
+    /// Another's public key.
+    Peer(Span),
+}
+
+/// Where a recipient finds the encapsulation that it decapsulates.
+#[derive(Clone, Copy, Debug, PartialEq, Eq)]
+pub enum EncField {
+    /// The line gives its bytes.
+    Bytes(Span),
+    /// It is that of the sender's context of this number.
+    Of(u32),
+}
+
+/// Where a context's shared secret comes from.
+#[derive(Clone, Copy, Debug, PartialEq, Eq)]
+pub enum ContextKind {
+    /// `shared_secret` (RFC 9180, 5.1) is given, with the KEM's id that goes into `suite_id`.
+    Share { role: Role, kem: u16, secret: Span },
+    /// A sender's, by Encap to the public key of this number (RFC 9180, 5.1.1, SetupBaseS).
+    Send { key: u32 },
+    /// A recipient's, by Decap with the secret key of this number (RFC 9180, 5.1.1, SetupBaseR).
+    Recv { key: u32, enc: EncField },
+}
+
+impl ContextKind {
+    /// Whose context it is, the sender's or the recipient's (RFC 9180, 5.1).
+    pub fn role(&self) -> Role
+        ensures { result ≡ context_role self.now }
+    {
+        match *self {
+            ContextKind::Share { role, .. } => role,
+            ContextKind::Send { .. } => Role::Sender,
+            ContextKind::Recv { .. } => Role::Recipient,
+        }
+    }
+}
+
+/// The set-up of one context (RFC 9180, 5.1). Spans are of the plan's pool.
+#[derive(Clone, Copy, Debug, PartialEq, Eq)]
+pub struct ContextLine {
+    pub kind: ContextKind,
+    pub kdf: Kdf,
+    pub aead: Aead,
+    pub mode: Mode,
+    pub info: Span,
+    pub psk: Span,
+    pub psk_id: Span,
+    /// How many messages the context may seal or open.
+    pub limit: u64,
+}
+
+/// One call of a lane, on the context of this number. Spans are of the plan's pool.
+#[derive(Clone, Copy, Debug, PartialEq, Eq)]
+pub enum CallLine {
+    /// `ContextS.Seal(aad, pt)` (RFC 9180, 5.2), with the item's text as pt.
+    Seal {
+        context: u32,
+        item: Item,
+    },
+    /// `ContextR.Open(aad, ct)` (RFC 9180, 5.2), with the item's text as ct.
+    Unseal {
+        context: u32,
+        item: Item,
+    },
+    /// `Context.Export(exporter_context, L)` (RFC 9180, 5.3), with `size` as L, in bytes.
+    Export {
+        context: u32,
+        exporter: Span,
+        size: u32,
+    },
+}

@@ -1,0 +1,104 @@
+//! The answers of a lane while its calls are answered.
+
+ghost use Rattle.std.specs.Prelude.{◌≡◌, ◌≤◌, ◌<◌, ◌+◌, ◌^◌, length};
+ghost use Rattle.std.specs.Borrow.{sem};
+ghost use Rattle.batch_plans.specs.Replies.{IsInRange, IsPrintable};
+
+use crate::lists::PlainList;
+use crate::replies::{LaneAnswers, Reply};
+use call_places::Span;
+use std::marker::Model;
+
+/// The answers of a lane while its calls are answered in their order.
+///
+/// A reply with bytes first takes room for them, which lies behind the room of the replies before
+/// it; the bytes are written to that part of the pool, and then the reply is put behind those
+/// before it. The span of a reply that was put lies in the room that was taken by then, so what is
+/// written to room that is taken later changes no earlier reply.
+///
+/// A contract sees the pool, how much of it is taken, the replies that were put, and how many are
+/// still to come. Nothing here takes memory.
+#[derive(Drop)]
+pub struct LaneProgress {
+    pool: Vec<u8>,
+    taken: usize,
+    replies: Vec<Reply>,
+    replied: usize,
+}
+
+impl Model for LaneProgress {
+    ghost use Rattle.batch_plans.specs.Progress.{Progress};
+
+    ghost Value = { Progress };
+
+    ghost use Rattle.batch_plans.specs.Filling.{progress_of, IsProgress};
+
+    ghost view = { progress_of };
+
+    ghost invariant = { IsProgress };
+}
+
+impl LaneProgress {
+    ghost use Rattle.batch_plans.specs.Progress.{begun, with_room, with_reply};
+    ghost use Rattle.batch_plans.specs.Lending.{LendsPool};
+
+    /// The answers of a lane before its first call.
+    pub fn new(answers: LaneAnswers) -> LaneProgress
+        requires { length answers.pool < 2 ^ 32 }
+        ensures { result ≡ begun answers }
+    {
+        let LaneAnswers { pool, replies } = answers;
+        LaneProgress {
+            pool: pool.into_vec(),
+            taken: 0,
+            replies: replies.into_vec(),
+            replied: 0,
+        }
+    }
+
+    /// Takes the next `size` bytes of the pool, and names them.
+    pub fn take_room(&mut self, size: usize) -> Span
+        requires { self.old.taken + size ≤ length self.old.pool }
+        ensures span { result ≡ record { start = self.old.taken; len = size } }
+        ensures taken { self.new ≡ with_room self.old size }
+    {
+        let start = self.taken;
+        self.taken += size;
+        Span {
+            start: start as u32,
+            len: size as u32,
+        }
+    }
+
+    /// The whole pool, for writing.
+    pub fn pool(&mut self) -> &mut [u8]
+        ensures* writes_back { sem 𝓛 (LendsPool self.entry result) }
+        ensures value { result.now ≡ self.old.pool }
+    {
+        self.pool.as_mut_slice()
+    }
+
+    /// Puts the next reply, whose bytes lie in room that was taken.
+    pub fn put(&mut self, reply: Reply)
+        requires left { 0 < self.old.left }
+        requires range { IsInRange self.old.taken reply }
+        ensures { self.new ≡ with_reply self.old reply }
+    {
+        self.replies[self.replied] = reply;
+        self.replied += 1;
+    }
+
+    /// The answers, when each reply was put.
+    pub fn finish(self) -> LaneAnswers
+        requires { self.left ≡ 0 }
+        ensures pool { result.pool ≡ self.pool }
+        ensures replies { result.replies ≡ self.replies }
+        ensures printable { IsPrintable result }
+    {
+        let LaneProgress { pool, replies, .. } = self;
+        LaneAnswers {
+            pool: PlainList::from_vec(pool),
+            replies: PlainList::from_vec(replies),
+        }
+    }
+}

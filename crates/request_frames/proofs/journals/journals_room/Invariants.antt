@@ -1,7 +1,0 @@
-use Rattle.std.proofs.Common.{◌≡◌, take, map}
-use Rattle.std.specs.Prelude.{replicate}
-use Rattle.request_frames.specs.Room.{blank_place}
-use Rattle.request_frames.proofs.journals.journals_room.Given as goal
-
-abbrev pub invariant-counts : goal.invariant-counts
-invariant-counts l = l.journals.items ≡ map (λ count. replicate count blank_place) (take l.count-index l.count-items)
