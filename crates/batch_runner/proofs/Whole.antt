@@ -3,7 +3,8 @@ use Rattle.std.proofs.Common.{◌≡◌, ◌<◌, ℕ, List, ◌++◌, length, O
 use Rattle.std.proofs.lemmas.Bool.Decides.{nat_tests}
 use Rattle.field_text.specs.declared.reasons.Reason.TheVariants.{Size}
 use Rattle.batch_plans.specs.Limits.{most_input}
-use Rattle.request_frames.specs.Batch.{batch, bad}
+use Rattle.request_frames.specs.Batch.{batch}
+use Rattle.field_text.specs.Lines.{bad}
 use Rattle.batch_runner.specs.Input.{IsInput}
 
 -- a text that is too large, whatever it holds

@@ -1,7 +1,7 @@
 -- How a run ends where no fault comes in its way, and the exit statuses.
 use Rattle.std.specs.Prelude.{ℕ, Result, Ok, Err}
 use Rattle.batch_plans.specs.declared.plan.Plan.{Plan}
-use Rattle.request_frames.specs.declared.faults.BadBatch.{BadBatch}
+use Rattle.field_text.specs.declared.faults.BadBatch.{BadBatch}
 use Rattle.batch_runner.specs.declared.outcomes.Outcome.{Outcome}
 use Rattle.batch_runner.specs.declared.outcomes.Outcome.TheVariants as outcomes
 

@@ -4,7 +4,7 @@ use Rattle.call_places.specs.declared.entries.Place.{Place}
 use Rattle.legal_journals.specs.Legal.{Legal}
 use Rattle.batch_plans.specs.declared.plan.Plan.{Plan}
 use Rattle.batch_plans.specs.declared.plan.CallLine.{CallLine}
-use Rattle.request_frames.specs.declared.faults.BadBatch.{BadBatch}
+use Rattle.field_text.specs.declared.faults.BadBatch.{BadBatch}
 use Rattle.request_frames.specs.Batch.{batch}
 use Rattle.request_frames.specs.ReplyText.{numbered, reply_text, bad_text}
 use Rattle.batch_runner.specs.SetUp.{contexts_of, context_reply}

@@ -17,7 +17,9 @@ mod buffer;
 #[cfg(test)]
 mod buffer_tests;
 mod cuts;
+mod faults;
 mod fields;
+mod lines;
 mod pieces;
 mod printing;
 #[cfg(test)]
@@ -27,7 +29,9 @@ mod stop;
 
 pub use buffer::Buffer;
 pub use cuts::cut_at;
+pub use faults::{BadBatch, ReadBatchFault};
 pub use fields::{read_bytes, read_number};
+pub use lines::{Draft, Front, read_front, read_whole};
 pub use pieces::Pieces;
 pub use printing::Printed;
 pub use reasons::Reason;

@@ -1,4 +1,3 @@
-pub mod Judging
 pub mod SpelledFields
 pub mod SpelledPlans
 pub mod Chains

@@ -14,10 +14,11 @@ use Rattle.key_schedule.specs.declared.modes.Mode.TheVariants.{Base, Psk}
 use Rattle.field_text.specs.declared.reasons.Reason.TheVariants.{Word, Range}
 use Rattle.field_text.specs.Fields.{number, bytes, Pooled}
 use Rattle.field_text.proofs.Spellings.{ok_same, step_ok, choice_ok, word_ok, next_ok, exactly_ok, number_ok, bytes_ok, IsFront, IsPooled, IsFront-then}
+use Rattle.field_text.proofs.SpelledLines.{no_piece}
 use Rattle.batch_plans.specs.declared.plan.ContextLine.{ContextLine}
 use Rattle.batch_plans.specs.declared.plan.CallLine.{CallLine}
 use Rattle.request_frames.specs.declared.words.LineWord.{LineWord}
-use Rattle.request_frames.specs.declared.words.LineWord.TheVariants.{Share, Lane, Seal, Unseal, Export, End}
+use Rattle.request_frames.specs.declared.words.LineWord.TheVariants.{Share, Lane, Seal, Unseal, Export}
 use Rattle.request_frames.specs.Words.{line_word, role, mode, kdf, aead}
 use Rattle.batch_plans.specs.Limits.{most_field, most_plaintext, most_ciphertext}
 use Rattle.request_frames.specs.Forms.{share, seal, unseal, export}
@@ -32,7 +33,6 @@ word_text Lane = codes "lane"
 word_text Seal = codes "seal"
 word_text Unseal = codes "unseal"
 word_text Export = codes "export"
-word_text End = codes "end"
 
 pub line_word_ok : (piece : List ℕ) (value : LineWord) → line_word piece ≡ Ok value → word_text value ≡ piece
 line_word_ok piece value e =
@@ -44,10 +44,7 @@ line_word_ok piece value e =
     (λ rest.
     word_ok (codes "unseal") piece Unseal value _ _ (λ is same. ap word_text (sym same) ∙ sym is)
     (λ rest.
-    word_ok (codes "export") piece Export value _ _ (λ is same. ap word_text (sym same) ∙ sym is)
-    (λ rest.
-    word_ok (codes "end") piece End value (Err Word) _ (λ is same. ap word_text (sym same) ∙ sym is) (λ err. absurd cc) rest)
-    rest)
+    word_ok (codes "export") piece Export value (Err Word) _ (λ is same. ap word_text (sym same) ∙ sym is) (λ err. absurd cc) rest)
     rest)
     rest)
     rest)
@@ -103,11 +100,6 @@ pub record IsLine (old new : List ℕ) (spelling : List ℕ → List (List ℕ))
 -- one piece, and those after it
 piece_is : {text piece : List ℕ} {pieces rest more : List (List ℕ)} → pieces ≡ piece ∷ rest → text ≡ piece → more ≡ rest → text ∷ more ≡ pieces
 piece_is {text} {piece} {pieces} {rest} {more} cut same after = cc
-
--- no pieces
-pub no_piece : (pieces : List (List ℕ)) → length pieces ≡ 0 → pieces ≡ []
-no_piece [] none = refl
-no_piece (piece ∷ more) none = absurd (omega arith)
 
 pub share_ok : (pool : List ℕ) (pieces : List (List ℕ)) (context : ContextLine) (new : List ℕ) → share pool pieces ≡ Ok (context, new)
     → IsLine pool new (λ whole. context_pieces whole context context.kind) (codes "share" ∷ pieces)

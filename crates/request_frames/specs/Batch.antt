@@ -1,24 +1,19 @@
 -- The batch text: which bytes spell which plan, and which line of all other bytes is the first bad
--- one, with its first reason.
---
--- The text is cut at each line feed, and the lines are numbered from 1. Each finished line is
--- judged after the plan of the lines before it: its word, its place, its form, its counts. The
--- first line that has a reason decides.
+-- one, with its first reason. How a text of lines is judged says `Lines.antt` of field_text; here
+-- stands which lines there are, and what each adds to the plan of the lines before it.
 use Rattle.std.specs.Prelude.{◌≡◌, ℕ, ◌+◌, ◌==◌, nat_lt, nat_le, Bool, true, false, List, [], ◌∷◌, ◌++◌, length, None, codes, Result, Ok, Err, if◌then◌else◌}
 use Rattle.std.specs.Str.{bytes_eq}
 use Rattle.field_text.specs.declared.reasons.Reason.{Reason}
 use Rattle.field_text.specs.declared.reasons.Reason.TheVariants as reasons
-use Rattle.field_text.specs.Cuts.{lines_of, pieces_of}
-use Rattle.field_text.specs.Fields.{◌>>=◌, next, exactly}
-use Rattle.request_frames.specs.declared.faults.BadBatch.{BadBatch}
-use Rattle.request_frames.specs.declared.faults.ReadBatchFault.{ReadBatchFault}
-use Rattle.request_frames.specs.declared.faults.ReadBatchFault.TheVariants as faults
+use Rattle.field_text.specs.Fields.{◌>>=◌, exactly}
+use Rattle.field_text.specs.Lines.{Grammar, bad, front, whole}
+use Rattle.field_text.specs.declared.faults.BadBatch.{BadBatch}
+use Rattle.field_text.specs.declared.faults.ReadBatchFault.{ReadBatchFault}
+use Rattle.field_text.specs.declared.faults.ReadBatchFault.TheVariants as faults
 use Rattle.batch_plans.specs.declared.plan.Plan.{Plan}
 use Rattle.batch_plans.specs.declared.plan.CallLine.{CallLine}
 use Rattle.request_frames.specs.declared.words.LineWord.{LineWord}
-use Rattle.request_frames.specs.declared.words.LineWord.TheVariants.{Share, Lane, Seal, Unseal, Export, End}
-use Rattle.request_frames.specs.declared.words.Next.{Next}
-use Rattle.request_frames.specs.declared.words.Next.TheVariants.{More, Last}
+use Rattle.request_frames.specs.declared.words.LineWord.TheVariants.{Share, Lane, Seal, Unseal, Export}
 use Rattle.request_frames.specs.Words.{line_word}
 use Rattle.request_frames.specs.Forms.{share, seal, unseal, export}
 use Rattle.batch_plans.specs.Limits.{most_input, most_contexts, most_lanes, most_items, most_exported, items_of, size_of, all_items, all_sizes}
@@ -32,10 +27,6 @@ may_stand Lane plan = true
 may_stand Seal plan = nat_lt 0 (length plan.lanes)
 may_stand Unseal plan = nat_lt 0 (length plan.lanes)
 may_stand Export plan = nat_lt 0 (length plan.lanes)
-may_stand End plan = true
-
-abbrev pub in_order : LineWord → Plan → Result LineWord Reason
-in_order word plan = if may_stand word plan then Ok word else Err reasons.Order
 
 -- ---- what a line adds to the plan of the lines before it
 
@@ -88,77 +79,33 @@ with_export plan pieces = do
   (call, pool) ← export plan.pool pieces
   with_call (record plan { pool = pool }) call
 
--- the plan with the line of this word, and whether lines may follow
-unfoldable pub with_line : Plan → LineWord → List (List ℕ) → Result (Next × Plan) Reason
-with_line plan Share pieces = do
-  plan ← with_share plan pieces
-  Ok (More, plan)
-with_line plan Lane pieces = do
-  plan ← with_lane plan pieces
-  Ok (More, plan)
-with_line plan Seal pieces = do
-  plan ← with_seal plan pieces
-  Ok (More, plan)
-with_line plan Unseal pieces = do
-  plan ← with_unseal plan pieces
-  Ok (More, plan)
-with_line plan Export pieces = do
-  plan ← with_export plan pieces
-  Ok (More, plan)
-with_line plan End pieces = do
-  pieces ← exactly 0 pieces
-  Ok (Last, plan)
-
--- A finished line is judged by its word, its place and its form, in this order.
-unfoldable pub line_after : Plan → List ℕ → Result (Next × Plan) Reason
-line_after plan line = do
-  (word, pieces) ← next line_word (pieces_of line)
-  word ← in_order word plan
-  with_line plan word pieces
+-- a line of each word
+unfoldable pub with_line : Plan → LineWord → List (List ℕ) → Result Plan Reason
+with_line plan Share pieces = with_share plan pieces
+with_line plan Lane pieces = with_lane plan pieces
+with_line plan Seal pieces = with_seal plan pieces
+with_line plan Unseal pieces = with_unseal plan pieces
+with_line plan Export pieces = with_export plan pieces
 
 -- ---- the whole text
-
-abbrev pub bad : {A : Type 0} → ℕ → Reason → Result A BadBatch
-bad line reason = Err (record { line = line; reason = reason })
 
 -- the plan of no line
 abbrev pub empty_plan : Plan
 empty_plan =
     record { seed = None; pool = []; keys = []; contexts = []; items = []; lanes = [] }
 
--- no byte: an unfinished line with nothing in it
-abbrev pub is_nothing : List (List ℕ) → Bool
-is_nothing [] = true
-is_nothing (line ∷ []) = length line == 0
-is_nothing (line ∷ next ∷ more) = false
+-- the first line
+abbrev pub header : List ℕ → Result Plan Reason
+header line = if bytes_eq line (codes "hpkebatch 1") then Ok empty_plan else Err reasons.Header
 
--- after line n, which may have a reason: further lines, or behind `end` no byte
-abbrev pub followed : ℕ
-    → Result (Next × Plan) Reason → (Plan → Result Plan BadBatch) → Bool → Result Plan BadBatch
-followed n (Err reason) further nothing = bad n reason
-followed n (Ok (More, plan)) further nothing = further plan
-followed n (Ok (Last, plan)) further nothing =
-    if nothing then Ok plan else bad (n + 1) reasons.Trailing
-
--- The lines from line n on, after a plan. The last part of a text is an unfinished line.
-unfoldable pub judged : ℕ → Plan → List (List ℕ) → Result Plan BadBatch
-judged n plan [] = bad n reasons.NoEnd
-judged n plan (line ∷ []) = bad n reasons.NoEnd
-judged n plan (line ∷ next ∷ more) =
-    followed n (line_after plan line)
-    (λ plan. judged (n + 1) plan (next ∷ more)) (is_nothing (next ∷ more))
-
--- all lines
-unfoldable pub headed : List (List ℕ) → Result Plan BadBatch
-headed [] = bad 1 reasons.Header
-headed (line ∷ []) = bad 1 reasons.Header
-headed (line ∷ next ∷ more) =
-    if bytes_eq line (codes "hpkebatch 1") then judged 2 empty_plan (next ∷ more)
-    else bad 1 reasons.Header
+-- the lines of a batch
+abbrev pub batch_lines : Grammar Plan LineWord
+batch_lines =
+    record { header = header; word = line_word; may_stand = may_stand; with_line = with_line }
 
 -- the plan of a text, or its first bad line and first reason
 unfoldable pub batch : List ℕ → Result Plan BadBatch
-batch text = if nat_lt most_input (length text) then bad 0 reasons.Size else headed (lines_of text)
+batch text = whole (front batch_lines most_input text)
 
 -- the bytes are in the grammar, and this is their plan
 abbrev pub Spells : List ℕ → Plan → Type 0
@@ -177,15 +124,3 @@ refusal line reason = Err (faults.Bad (record { line = line; reason = reason }))
 -- no plan, for want of memory
 abbrev pub no_memory : Result Plan ReadBatchFault
 no_memory = Err faults.OutOfMemory
-
--- ---- for the proofs
-
--- a call that gave no plan had no memory, or the definition gives its bad line and reason
-abbrev pub IsFault : ReadBatchFault → Result Plan BadBatch → Type 0
-IsFault (faults.Bad bad) read = read ≡ Err bad
-IsFault faults.OutOfMemory read = Unit {0}
-
--- what a call returned is what the definition gives, unless memory ran out
-abbrev pub IsAnswer : Result Plan ReadBatchFault → Result Plan BadBatch → Type 0
-IsAnswer (Ok plan) read = read ≡ Ok plan
-IsAnswer (Err fault) read = IsFault fault read

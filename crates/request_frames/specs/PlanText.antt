@@ -2,7 +2,7 @@
 -- spaces, and a line feed ends it. Numbers are decimal without leading zeros, bytes are lower-case
 -- hex digits, `-` for none. A span names bytes of the plan's pool.
 use Rattle.std.specs.Prelude.{ℕ, List, [], ◌∷◌, ◌++◌, codes, decimal}
-use Rattle.std.specs.List.{flat_map, join_with_byte}
+use Rattle.std.specs.List.{flat_map}
 use Rattle.call_places.specs.Spans.{span_bytes}
 use Rattle.call_places.specs.declared.spans.Span.{Span}
 use Rattle.hkdf_labelled.specs.Suites.{kdf_id, aead_id}
@@ -10,7 +10,7 @@ use Rattle.key_schedule.specs.declared.modes.Role.{Role}
 use Rattle.key_schedule.specs.declared.modes.Role.TheVariants.{Sender, Recipient}
 use Rattle.key_schedule.specs.declared.modes.Mode.{Mode}
 use Rattle.key_schedule.specs.declared.modes.Mode.TheVariants.{Base, Psk}
-use Rattle.field_text.specs.Cuts.{space}
+use Rattle.field_text.specs.Cuts.{line_text}
 use Rattle.field_text.specs.Printing.{hex_text}
 use Rattle.batch_plans.specs.declared.plan.ContextKind.{ContextKind}
 use Rattle.batch_plans.specs.declared.plan.ContextKind.TheVariants.{Share, Send, Recv}
@@ -86,10 +86,6 @@ call_pieces pool (Export context exporter size) =
     codes "export" ∷ decimal context ∷ span_text pool exporter ∷ decimal size ∷ []
 
 -- ---- lines
-
--- a line of these pieces
-abbrev pub line_text : List (List ℕ) → List ℕ
-line_text pieces = join_with_byte space pieces ++ codes "\n"
 
 -- a context line
 abbrev pub context_text : List ℕ → ContextLine → List ℕ

@@ -7,7 +7,7 @@ use Rattle.call_places.specs.declared.entries.Place.{Place}
 use Rattle.field_text.specs.Printing.{hex_text}
 use Rattle.field_text.specs.declared.reasons.Reason.{Reason}
 use Rattle.field_text.specs.declared.reasons.Reason.TheVariants as reasons
-use Rattle.request_frames.specs.declared.faults.BadBatch.{BadBatch}
+use Rattle.field_text.specs.declared.faults.BadBatch.{BadBatch}
 use Rattle.batch_plans.specs.declared.replies.KeyRefusal.{KeyRefusal}
 use Rattle.batch_plans.specs.declared.replies.KeyRefusal.TheVariants.{Exhausted, NoInverse, Length, Form}
 use Rattle.batch_plans.specs.declared.replies.KeyReply.{KeyReply}

@@ -13,9 +13,9 @@ use Rattle.field_text.specs.declared.reasons.Reason.{Reason}
 use Rattle.field_text.specs.declared.reasons.Reason.TheVariants.{Word, Range}
 use Rattle.field_text.specs.Fields.{◌>>=◌, number}
 use Rattle.request_frames.specs.declared.words.LineWord.{LineWord}
-use Rattle.request_frames.specs.declared.words.LineWord.TheVariants.{Share, Lane, Seal, Unseal, Export, End}
+use Rattle.request_frames.specs.declared.words.LineWord.TheVariants.{Share, Lane, Seal, Unseal, Export}
 
--- the first word of a line
+-- the first word of a line, other than `end`
 abbrev pub line_word : List ℕ → Result LineWord Reason
 line_word piece =
     if bytes_eq piece (codes "share") then Ok Share
@@ -23,7 +23,6 @@ line_word piece =
     else if bytes_eq piece (codes "seal") then Ok Seal
     else if bytes_eq piece (codes "unseal") then Ok Unseal
     else if bytes_eq piece (codes "export") then Ok Export
-    else if bytes_eq piece (codes "end") then Ok End
     else Err Word
 
 -- ROLE

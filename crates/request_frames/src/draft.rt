@@ -3,24 +3,22 @@
 ghost use Rattle.std.specs.Prelude.{◌≡◌, ◌+◌, ◌<◌, ◌≤◌, ◌^◌, length};
 ghost use Rattle.std.specs.Prelude.{sum_by, OnOk, IfOk, true, false};
 ghost use Rattle.field_text.specs.Fields.{Gives, Reads};
-ghost use Rattle.request_frames.specs.Batch.{may_stand, in_order as in_order_of};
 ghost use Rattle.request_frames.specs.Batch.{with_call as call_of};
 ghost use Rattle.request_frames.specs.Batch.{with_share as share_of, with_lane as lane_of};
-ghost use Rattle.request_frames.specs.Batch.{with_line as line_of, line_after, empty_plan};
 ghost use Rattle.batch_plans.specs.Limits.{size_of, text_size, all_texts, IsCallWithin};
 ghost use Rattle.batch_plans.specs.Limits.{IsContextWithin, IsWithinLimits};
 ghost use Rattle.request_frames.specs.Drafts.{plan_of, IsKept};
 
-use crate::words::{LineWord, Next};
+use crate::words::LineWord;
 use crate::{lines, words};
 use batch_plans::limits::{MOST_CONTEXTS, MOST_EXPORTED, MOST_ITEMS};
-use batch_plans::{CallLine, ContextLine, PlainList, Plan};
-use field_text::{Pieces, Reason, Stop};
+use batch_plans::{CallLine, ContextLine, PlainList, Plan, limits};
+use field_text::{Draft, Pieces, Reason, Stop};
 use std::alloc::{AllocError, Global};
 
 /// The lines so far, with the calls of the one lane where it is open.
 #[derive(Drop)]
-pub struct Draft {
+pub struct BatchDraft {
     pool: Vec<u8>,
     contexts: Vec<ContextLine>,
     calls: Vec<CallLine>,
@@ -38,21 +36,7 @@ fn size_of(call: &CallLine) -> u32
     }
 }
 
-impl Draft {
-    /// The plan of no line.
-    pub fn new(alloc: Global) -> Draft
-        ensures plan { plan_of result ≡ empty_plan }
-        ensures kept { IsKept result }
-    {
-        Draft {
-            pool: Vec::new(alloc),
-            contexts: Vec::new(alloc),
-            calls: Vec::new(alloc),
-            in_lane: false,
-            size_sum: 0,
-        }
-    }
-
+impl BatchDraft {
     // A call of the open lane.
     #[tactic(auto, using(crate::proofs::Kept::facts), unfolding(crate::specs::Batch::with_call))]
     fn with_call(&mut self, call: CallLine) -> Result<(), Stop>
@@ -112,74 +96,11 @@ impl Draft {
         Ok(())
     }
 
-    fn in_order(&self, word: LineWord) -> Result<(), Reason>
-        ensures read { Reads (λ _. word) result (in_order_of word (plan_of self.now)) }
-        ensures stands { OnOk result (may_stand word (plan_of self.now) ≡ true) }
-    {
-        let stands = match word {
-            LineWord::Share => !self.in_lane,
-            LineWord::Lane | LineWord::End => true,
-            LineWord::Seal | LineWord::Unseal | LineWord::Export => self.in_lane,
-        };
-        if stands { Ok(()) } else { Err(Reason::Order) }
-    }
-
-    #[tactic(auto, unfolding(crate::specs::Batch::with_line))]
-    fn with_line(&mut self, word: LineWord, fields: &mut Pieces) -> Result<Next, Stop>
-        requires room { length (plan_of self.old).pool + sum_by length fields.old ≤ 67108864 }
-        requires kept { IsKept self.old }
-        requires stands { may_stand word (plan_of self.old) ≡ true }
-        ensures read { Gives (λ next. (next, plan_of self.new)) result
-            (line_of (plan_of self.old) word fields.old) }
-        ensures kept { OnOk result (IsKept self.new) }
-        ensures size { OnOk result (length (plan_of self.new).pool
-            ≤ length (plan_of self.old).pool + sum_by length fields.old) }
-    {
-        match word {
-            LineWord::Share => self.with_share(fields)?,
-            LineWord::Lane => self.with_lane(fields)?,
-            LineWord::Seal => {
-                let call = lines::seal(&mut self.pool, fields)?;
-                self.with_call(call)?;
-            }
-            LineWord::Unseal => {
-                let call = lines::unseal(&mut self.pool, fields)?;
-                self.with_call(call)?;
-            }
-            LineWord::Export => {
-                let call = lines::export(&mut self.pool, fields)?;
-                self.with_call(call)?;
-            }
-            LineWord::End => {
-                fields.exactly(0)?;
-                return Ok(Next::Last);
-            }
-        }
-        Ok(Next::More)
-    }
-
-    /// Takes the next finished line.
-    #[tactic(auto, unfolding(crate::specs::Batch::line_after))]
-    pub fn line(&mut self, text: &[u8]) -> Result<Next, Stop>
-        requires room { length (plan_of self.old).pool + length text.now ≤ 67108864 }
-        requires kept { IsKept self.old }
-        ensures read { Gives (λ next. (next, plan_of self.new)) result
-            (line_after (plan_of self.old) text.now) }
-        ensures kept { OnOk result (IsKept self.new) }
-        ensures size { OnOk result (length (plan_of self.new).pool
-            ≤ length (plan_of self.old).pool + length text.now) }
-    {
-        let mut fields = Pieces::of(text);
-        let word = words::line_word(&mut fields)?;
-        self.in_order(word)?;
-        self.with_line(word, &mut fields)
-    }
-
     /// The plan of all lines.
     pub fn finish(self, alloc: Global) -> Result<Plan, AllocError>
         ensures plan { IfOk result (λ plan. plan ≡ plan_of self) }
     {
-        let Draft {
+        let BatchDraft {
             pool,
             contexts,
             calls,
@@ -198,5 +119,73 @@ impl Draft {
             items: PlainList::from_vec(Vec::new(alloc)),
             lanes: PlainList::from_vec(lanes),
         })
+    }
+}
+
+impl Draft for BatchDraft {
+    ghost use Rattle.std.specs.Prelude.{vec_len};
+    ghost use Rattle.batch_plans.specs.Limits.{most_input};
+    ghost use Rattle.request_frames.specs.Batch.{batch_lines};
+    ghost use Rattle.request_frames.specs.Drafts.{plan_of, IsKept};
+
+    type Plan = Plan;
+
+    type Word = LineWord;
+
+    const MOST_INPUT: usize = limits::MOST_INPUT;
+
+    ghost MOST_INPUT = { most_input };
+
+    ghost grammar = { batch_lines };
+
+    ghost plan = { plan_of };
+
+    ghost size = { λ draft. vec_len draft.pool };
+
+    ghost kept = { IsKept };
+
+    fn begin(alloc: Global, header: &[u8]) -> Result<BatchDraft, Reason> {
+        if header != b"hpkebatch 1".as_slice() {
+            return Err(Reason::Header);
+        }
+        Ok(BatchDraft {
+            pool: Vec::new(alloc),
+            contexts: Vec::new(alloc),
+            calls: Vec::new(alloc),
+            in_lane: false,
+            size_sum: 0,
+        })
+    }
+
+    fn word(piece: &[u8]) -> Result<LineWord, Reason> {
+        words::line_word(piece)
+    }
+
+    fn may_stand(&self, word: LineWord) -> bool {
+        match word {
+            LineWord::Share => !self.in_lane,
+            LineWord::Lane => true,
+            LineWord::Seal | LineWord::Unseal | LineWord::Export => self.in_lane,
+        }
+    }
+
+    #[tactic(auto, unfolding(crate::specs::Batch::with_line))]
+    fn add(&mut self, word: LineWord, fields: &mut Pieces) -> Result<(), Stop> {
+        match word {
+            LineWord::Share => self.with_share(fields),
+            LineWord::Lane => Ok(self.with_lane(fields)?),
+            LineWord::Seal => {
+                let call = lines::seal(&mut self.pool, fields)?;
+                self.with_call(call)
+            }
+            LineWord::Unseal => {
+                let call = lines::unseal(&mut self.pool, fields)?;
+                self.with_call(call)
+            }
+            LineWord::Export => {
+                let call = lines::export(&mut self.pool, fields)?;
+                self.with_call(call)
+            }
+        }
     }
 }

@@ -19,7 +19,6 @@
 #[cfg(test)]
 mod bad_texts;
 mod draft;
-mod faults;
 mod lines;
 #[cfg(test)]
 mod long_texts;
@@ -42,8 +41,7 @@ pub use batch_plans::{
     KeyLines, KeyRefusal, KeyReplies, KeyReply, LaneAnswerList, LaneAnswers, LaneLines,
     LaneProgress, PlainList, Plan, Reply, ReplyList, call_refusal,
 };
-pub use faults::{BadBatch, ReadBatchFault};
-pub use field_text::{Printed, Reason};
+pub use field_text::{BadBatch, Printed, ReadBatchFault, Reason};
 pub use printing::{print_answers, print_bad};
 pub use reading::{one_reading, read_batch};
 pub use spelling::one_spelling;

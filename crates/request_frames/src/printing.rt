@@ -11,12 +11,11 @@ ghost use Rattle.request_frames.specs.ReplyText.{place_line, journal_text, answe
 ghost use Rattle.request_frames.specs.ReplyText.{bad_text, IsAnswered};
 ghost use Rattle.batch_plans.specs.Replies.{IsInRange, IsPrintable};
 
-use crate::faults::BadBatch;
 use crate::reply_lines::{put_bad, put_context_line, put_key_line, put_place, put_reply};
 use batch_io::Sink;
 use batch_plans::{Answers, ContextReply, KeyReply, LaneAnswers, PlainList, Plan, Reply};
 use call_places::Place;
-use field_text::{Buffer, Printed};
+use field_text::{BadBatch, Buffer, Printed};
 
 /// Writes the reply to a batch: its keys, its contexts, its lanes and its journals.
 ///

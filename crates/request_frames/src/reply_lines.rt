@@ -8,14 +8,13 @@ ghost use Rattle.request_frames.specs.ReplyText.{context_line, served_line, repl
 ghost use Rattle.request_frames.specs.ReplyText.{place_line, bad_text};
 ghost use Rattle.batch_plans.specs.Replies.{IsInRange};
 
-use crate::faults::BadBatch;
 use crate::reply_words::{
     word_of_call_refusal, word_of_context_refusal, word_of_key_refusal, word_of_reason,
 };
 use batch_io::Sink;
 use batch_plans::{ContextReply, KeyReply, Reply};
 use call_places::Place;
-use field_text::Buffer;
+use field_text::{BadBatch, Buffer};
 
 pub(crate) fn put_key_line<K: Sink>(out: &mut Buffer, sink: &mut K, key: u64, reply: &KeyReply)
     ensures { Puts K.written K.faults sink.old sink.new out.old out.new (key_line key reply.now) }

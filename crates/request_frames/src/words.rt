@@ -9,7 +9,7 @@ use field_text::{Pieces, Reason, read_number};
 use hkdf_labelled::{Aead, Kdf};
 use key_schedule::{Mode, Role};
 
-/// The first word of a line.
+/// The first word of a line, other than `end`.
 #[derive(Clone, Copy, Debug, PartialEq, Eq)]
 pub enum LineWord {
     Share,
@@ -17,23 +17,12 @@ pub enum LineWord {
     Seal,
     Unseal,
     Export,
-    End,
-}
-
-/// Whether lines may follow.
-#[derive(Clone, Copy, Debug, PartialEq, Eq)]
-pub enum Next {
-    More,
-    Last,
 }
 
 /// The word that begins a line.
-#[tactic(auto, unfolding(field_text::specs::Fields::next))]
-pub fn line_word(fields: &mut Pieces) -> Result<LineWord, Reason>
-    ensures read { Reads (λ word. (word, fields.new)) result (next line_word_of fields.old) }
-    ensures size { OnOk result (sum_by length fields.new ≤ sum_by length fields.old) }
+pub fn line_word(piece: &[u8]) -> Result<LineWord, Reason>
+    ensures { Reads (λ word. word) result (line_word_of piece.now) }
 {
-    let piece = fields.piece()?;
     if piece == b"share".as_slice() {
         Ok(LineWord::Share)
     } else if piece == b"lane".as_slice() {
@@ -44,8 +33,6 @@ pub fn line_word(fields: &mut Pieces) -> Result<LineWord, Reason>
         Ok(LineWord::Unseal)
     } else if piece == b"export".as_slice() {
         Ok(LineWord::Export)
-    } else if piece == b"end".as_slice() {
-        Ok(LineWord::End)
     } else {
         Err(Reason::Word)
     }

@@ -1,8 +1,9 @@
 use Rattle.std.proofs.Common.{◌≡◌, ℕ, ◌⊎◌, inl, inr, Result, Ok, Err, refl}
 use Rattle.batch_plans.specs.declared.plan.Plan.{Plan}
-use Rattle.request_frames.specs.declared.faults.BadBatch.{BadBatch}
+use Rattle.field_text.specs.declared.faults.BadBatch.{BadBatch}
 use Rattle.field_text.specs.declared.reasons.Reason.{Reason}
-use Rattle.request_frames.specs.Batch.{batch, bad}
+use Rattle.request_frames.specs.Batch.{batch}
+use Rattle.field_text.specs.Lines.{bad}
 use Rattle.request_frames.proofs.reading.one_reading.Goals as goal
 
 either : (read : Result Plan BadBatch) → ((plan : Plan) × (read ≡ Ok plan)) ⊎ ((n : ℕ) × (reason : Reason) × (read ≡ bad n reason))

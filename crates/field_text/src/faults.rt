@@ -1,9 +1,9 @@
-//! Why a text has no plan.
+//! Why a text was not read.
 
 ghost use Rattle.std.specs.Prelude.{◌≡◌};
-ghost use Rattle.request_frames.specs.declared.faults.ReadBatchFault.TheVariants.{OutOfMemory};
+ghost use Rattle.field_text.specs.declared.faults.ReadBatchFault.TheVariants.{OutOfMemory};
 
-use field_text::Reason;
+use crate::reasons::Reason;
 use std::alloc::AllocError;
 
 /// The first bad line of a text, numbered from 1, and its first reason. An input that is too large

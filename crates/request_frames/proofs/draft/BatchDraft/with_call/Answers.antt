@@ -4,7 +4,7 @@ use Rattle.std.proofs.lemmas.List.Sums.{sum_by_push}
 use Rattle.batch_plans.specs.Limits.{size_of, text_size, all_sizes, all_texts}
 use Rattle.request_frames.specs.Drafts.{plan_of}
 use Rattle.request_frames.proofs.Kept.{one_lane, call_added}
-use Rattle.request_frames.proofs.draft.Draft.with_call.Goals as goal
+use Rattle.request_frames.proofs.draft.BatchDraft.with_call.Goals as goal
 
 pub returns-clause-kept : goal.returns-clause-kept
 returns-clause-kept c =
