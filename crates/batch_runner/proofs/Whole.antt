@@ -1,16 +1,16 @@
 -- What was read of a source that tells its bytes.
 use Rattle.std.proofs.Common.{◌≡◌, ◌<◌, ℕ, List, ◌++◌, length, Option, Some, None, inl, inr, sym, ap, subst, ◌∙◌, append-nil, length-append, arith}
-use Rattle.std.proofs.lemmas.Bool.Decides.{nat_tests}
 use Rattle.field_text.specs.declared.reasons.Reason.TheVariants.{Size}
 use Rattle.batch_plans.specs.Limits.{most_input}
-use Rattle.request_frames.specs.Batch.{batch}
-use Rattle.field_text.specs.Lines.{bad}
+use Rattle.field_text.specs.Lines.{bad, whole}
+use Rattle.field_text.proofs.Judging.{too_large as front_too_large}
+use Rattle.request_frames.specs.Batch.{batch, batch_lines}
 use Rattle.batch_runner.specs.Input.{IsInput}
 
 -- a text that is too large, whatever it holds
 too_large : (text : List ℕ) → most_input < length text → batch text ≡ bad 0 Size
 unfolding batch
-too_large text large = grind (arith, nat_tests)
+too_large text large = ap whole (front_too_large batch_lines most_input text large)
 
 -- what was read is judged as all that there was to read
 batch-input : (xs input : List ℕ) (new : Option (List ℕ)) → IsInput (Some xs) new input → batch input ≡ batch xs

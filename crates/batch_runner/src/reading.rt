@@ -6,10 +6,11 @@ ghost use Rattle.batch_io.specs.Outside.{Rose};
 ghost use Rattle.batch_runner.specs.Input.{IsInput, input_limit};
 
 use batch_io::{Got, Source};
+use batch_plans::limits::MOST_INPUT;
 use std::alloc::{AllocError, Global};
 
 /// The most bytes that are taken: one more than a batch may have.
-const INPUT_LIMIT: usize = 67_108_865;
+const INPUT_LIMIT: usize = MOST_INPUT + 1;
 
 // The bytes that one read is offered room for.
 const PIECE_SIZE: usize = 65_536;

@@ -1,7 +1,7 @@
 -- Lines are judged one after another.
 use Rattle.std.proofs.Common.{◌≡◌, ℕ, ◌+◌, ◌<◌, ◌≤◌, ◌==◌, Bool, true, false, cond, List, [], ◌∷◌, length, Result, Ok, Err, refl, ap, ◌∙◌, arith}
 use Rattle.std.specs.List.{slice_split, onto_first}
-use Rattle.std.proofs.lemmas.Bool.{le-ltb}
+use Rattle.std.proofs.lemmas.Bool.{le-ltb, lt-ltb}
 use Rattle.field_text.specs.declared.reasons.Reason.{Reason}
 use Rattle.field_text.specs.declared.reasons.Reason.TheVariants as reasons
 use Rattle.field_text.specs.declared.faults.BadBatch.{BadBatch}
@@ -55,6 +55,11 @@ headed_cons g line (next ∷ more) some = refl
 within : {P W : Type 0} (g : Grammar P W) (most : ℕ) (text : List ℕ) → length text ≤ most → front g most text ≡ headed g (lines_of text)
 unfolding front
 within g most text short = rw (le-ltb _ _ short) refl
+
+-- a text that is too large, whatever it holds
+pub too_large : {P W : Type 0} (g : Grammar P W) (most : ℕ) (text : List ℕ) → most < length text → front g most text ≡ bad 0 reasons.Size
+unfolding front
+too_large g most text large = rw (lt-ltb _ _ large) refl
 
 -- a text without a finished line
 pub no_header : {P W : Type 0} (g : Grammar P W) (most : ℕ) (text : List ℕ) → length text ≤ most → lines_of text ≡ text ∷ [] → front g most text ≡ bad 1 reasons.Header

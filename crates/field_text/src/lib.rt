@@ -1,10 +1,13 @@
-//! The fields of the batch text and of the reply text: how a text is cut into lines and pieces, what
-//! one piece is read as, and how texts, numbers and bytes are printed.
+//! The lines and the fields of the batch text and of the reply text: how a text is cut into lines
+//! and pieces and judged line by line, what one piece is read as, and how texts, numbers and bytes
+//! are printed.
 //!
-//! A contract sees [`Pieces`] as the list of the pieces of a line that are still to be read. Each
-//! field is a definition in `specs/Fields.antt`, from a piece to a value or to the [`Reason`] why it
-//! is none, and each method answers just what the definition gives. The bytes of a field go to the
-//! end of one pool, and the field's value is their [`Span`](call_places::Span).
+//! [`read_whole`] and [`read_front`] read the lines that a [`Draft`] knows, by `specs/Lines.antt`:
+//! what the text spells, or its first bad line and that line's first [`Reason`]. A contract sees
+//! [`Pieces`] as the list of the pieces of a line that are still to be read. Each field is a
+//! definition in `specs/Fields.antt`, and each method answers just what the definition gives. The
+//! bytes of a field go to the end of one pool, and the field's value is their
+//! [`Span`](call_places::Span).
 //!
 //! What is printed goes through a [`Buffer`], by `specs/Printing.antt`: each call puts its piece of
 //! the text, and [`Buffer::finish`] tells whether the sink took the whole text or a prefix of it.

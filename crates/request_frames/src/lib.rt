@@ -4,16 +4,14 @@
 //! A batch text is lines, and a line is a word and its fields. [`read_batch`] answers the [`Plan`]
 //! that a text spells by `batch` of `specs/Batch.antt`, or its first bad line and that line's first
 //! reason; [`one_reading`] says that each text has just one of these, and [`one_spelling`] that a
-//! plan's text is `text_of` of `specs/PlanText.antt` and no other. `IsWithinLimits` of
-//! `specs/Limits.antt` tells what holds of every plan that was read.
+//! plan's text is `text_of` of `specs/PlanText.antt` and no other.
 //!
-//! [`call_refusal`] tells which calls are served by the contexts that stand, as `refusal` of
-//! `specs/Calls.antt` defines it. [`Answers`] have room for all replies and journals before the
-//! first call is answered. [`print_answers`] and [`print_bad`] append just the text of
-//! `specs/ReplyText.antt`, or a prefix of it where the sink failed.
+//! [`print_answers`] and [`print_bad`] append just the text of `specs/ReplyText.antt`, or a prefix
+//! of it where the sink failed. The plan, the answers and the calls on them are those of
+//! batch_plans, and are given out again.
 //!
-//! A contract sees each list as the list of its items. What a call does that is served is not known
-//! here, nor whether a context's psk inputs go with its mode (RFC 9180, 5.1).
+//! What a call does that is served is not known here, nor whether a context's psk inputs go with
+//! its mode (RFC 9180, 5.1).
 #![tactic(auto)]
 
 #[cfg(test)]
