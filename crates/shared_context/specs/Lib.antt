@@ -1,0 +1,3 @@
+pub mod Stamped
+pub mod Calls
+pub mod Tests
