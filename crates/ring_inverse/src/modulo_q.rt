@@ -1,8 +1,8 @@
 //! Candidates for inverses modulo q, by the division steps of `division.rt`.
 //!
-//! The numbers are whole, and kept as floats of 32 bits: a difference of two products of residues is
-//! below 2^24 for q up to 5793, so it is exact, and so is what is left of it modulo q. Vectors of
-//! floats are multiplied and rounded in one step each.
+//! The numbers are whole, and kept as floats of 32 bits: a difference of two products of residues
+//! is below 2^24 for both parameter sets, so it is exact, and so is what is left of it modulo q.
+//! Vectors of floats are multiplied and rounded in one step each.
 
 ghost use Rattle.std.specs.Prelude.{◌≡◌, ◌+◌, ◌<◌, ◌≤◌, length, vec_len, IfOk};
 
