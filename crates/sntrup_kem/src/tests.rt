@@ -9,6 +9,8 @@ use hex::FromHex;
 use radix_pack::small_decode;
 use rand_words::SeedStream;
 use ring_core::{Plain, Sntrup761, Sntrup857};
+use ring_karatsuba::Karatsuba;
+use ring_lanes::Lanes;
 use sha2::{Digest, Sha256};
 use std::alloc::{AllocError as OutOfMemory, Global};
 use std::process::Abort;
@@ -178,8 +180,8 @@ fn keys_and_session_keys_are_those_of_other_implementations(rt: HostRuntime) {
 
 fn assert_exchange<S: KemParams>(rt: &impl Abort, alloc: Global) {
     let mut words = SeedStream::new(&[0; 32], 2);
-    let made = exchanged_keys::<S, SeedStream, Plain, Plain, Plain>(
-        alloc, &mut words, &Plain, &Plain, &Plain,
+    let made = exchanged_keys::<S, SeedStream, Lanes, Karatsuba, Plain>(
+        alloc, &mut words, &Lanes, &Karatsuba, &Plain,
     );
     let (sent, received) = made.expect(rt, "an exchange");
     assert_eq!(rt; sent, received);
