@@ -2,7 +2,7 @@
 
 ghost use Rattle.std.specs.Prelude.{◌≡◌, ◌+◌, ◌<◌, ◌≤◌, ◌^◌, [], All, IfOk, length, sum};
 ghost use Rattle.call_places.specs.Entries.{stamps_of};
-ghost use Rattle.hpke_context.specs.Contexts.{Seals, Opens};
+ghost use Rattle.hpke_context.specs.Contexts.{CanSeal, CanOpen};
 ghost use Rattle.turn_lock.specs.Passes.{fresh_from, AllOf, IsShown, NoOthers};
 ghost use Rattle.speculative_open.specs.Tables.{ItemIsInPool};
 ghost use Rattle.context_books.specs.Openings.{opening_steps, opening_misses, IsTableFor};
@@ -96,7 +96,7 @@ impl SharedContext {
         call: u32,
     ) -> (Draw, Pass, StampSeat)
         requires may { MayCall self.now.lock pass call 1 }
-        requires seals { Seals self.now.context }
+        requires seals { CanSeal self.now.context }
         requires counter { self.now.lock.terms.counter ≡ counter.now.id }
         requires seat { IsNote counter.now.id seat }
         ensures { HasDrawn pass result.1 seat result.2 call result.0 }
@@ -143,7 +143,7 @@ impl SharedContext {
         checks: &mut Checks,
     ) -> (u64, u32, Pass, StampSeat)
         requires may { MayCall self.now.lock pass call (length items.now) }
-        requires opens { Opens self.now.context }
+        requires opens { CanOpen self.now.context }
         requires counter { self.now.lock.terms.counter ≡ counter.now.id }
         requires seat { IsNote counter.now.id seat }
         requires spans { All (ItemIsInPool (length pool.now)) items.now }

@@ -1,7 +1,7 @@
 //! Lanes that share a context in threads of their own, and messages from a sender to a recipient.
 
 ghost use Rattle.std.specs.Prelude.{◌≡◌, ◌+◌, ◌-◌, ◌<◌, ◌≤◌, [], All, IfOk, OnOk, length, vec_len};
-ghost use Rattle.hpke_context.specs.Contexts.{HasCipher, Seals, Opens};
+ghost use Rattle.hpke_context.specs.Contexts.{HasCipher, CanSeal, CanOpen};
 ghost use Rattle.speculative_open.specs.Tables.{ItemIsInPool};
 ghost use Rattle.context_books.specs.Openings.{IsTableFor};
 ghost use Rattle.turn_lock.specs.Passes.{AllOf};
@@ -77,7 +77,7 @@ fn draw_each<R: Wait>(
     counter: &StampCounter,
     lane: (Pass, StampSeat),
 ) -> Pass
-    requires seals { Seals context.now.context }
+    requires seals { CanSeal context.now.context }
     requires counter { context.now.lock.terms.counter ≡ counter.now.id }
     requires ready { MayDraw context.now.lock 0 1000 lane.0 × IsNote counter.now.id lane.1 }
     ensures { result.lock ≡ context.now.lock }
@@ -98,7 +98,7 @@ fn draw_all<R: Threads + Wait + Sync>(
     counter: &StampCounter,
     lanes: Vec<(Pass, StampSeat)>,
 ) -> Result<Vec<Pass>, OutOfMemory>
-    requires seals { Seals context.now.context }
+    requires seals { CanSeal context.now.context }
     requires counter { context.now.lock.terms.counter ≡ counter.now.id }
     requires ready { All (λ l. MayDraw context.now.lock 0 1000 l.0 × IsNote counter.now.id l.1) lanes.items }
     ensures { IfOk result (λ v. AllOf context.now.lock v.items × (vec_len v ≡ vec_len lanes)) }
@@ -107,7 +107,7 @@ fn draw_all<R: Threads + Wait + Sync>(
         rt,
         lanes,
         &|lane: (Pass, StampSeat)| -> Pass
-            requires { Seals context.now.context
+            requires { CanSeal context.now.context
                 × (context.now.lock.terms.counter ≡ counter.now.id)
                 × MayDraw context.now.lock 0 1000 lane.0 × IsNote counter.now.id lane.1 }
             ensures { result.lock ≡ context.entry.now.lock }
@@ -193,7 +193,7 @@ fn seal_one<R: Wait>(
     left: u32,
     aad: &[u8],
 ) -> Result<([u8; 45], (Pass, StampSeat)), Fail>
-    requires seals { Seals context.now.context }
+    requires seals { CanSeal context.now.context }
     requires counter { context.now.lock.terms.counter ≡ counter.now.id }
     requires may { MayDraw context.now.lock call left lane.0 × IsNote counter.now.id lane.1 }
     requires left { (0 < left) × (length aad.now ≡ 7) }
@@ -245,7 +245,7 @@ fn open_one<R: Threads + Wait + Sync>(
     pool: &[u8; 104],
     item: Item,
 ) -> Result<([u8; 29], (Pass, StampSeat)), Fail>
-    requires opens { Opens context.now.context }
+    requires opens { CanOpen context.now.context }
     requires counter { context.now.lock.terms.counter ≡ counter.now.id }
     requires may { MayDraw context.now.lock call left lane.0 × IsNote counter.now.id lane.1 }
     requires left { 0 < left }
