@@ -13,7 +13,8 @@ use Rattle.legal_journals.specs.Batches.{place}
 use Rattle.legal_journals.specs.Entries.{entry, entries_from, step_for, steps_from, numbers_from}
 use Rattle.legal_journals.specs.Guesses.{is_in_window, missed}
 use Rattle.aes_gcm.specs.Gcm.{Holds}
-use Rattle.speculative_open.specs.Tables.{IsChecked, Ciphertext, ciphertext, ciphertexts}
+use Rattle.call_places.specs.Messages.{SealedMessage, sealed_message, sealed_messages}
+use Rattle.speculative_open.specs.Tables.{IsChecked}
 use Rattle.context_books.specs.Books.{opened_at}
 use Rattle.context_books.specs.Openings.{unseals}
 use Rattle.context_books.proofs.Blocks.{entries-push}
@@ -58,13 +59,13 @@ told_in_window o guess limit i n below told = dite (dec_le n (guess + i))
 
 -- the item of this number, and what it asks
 pub item_at : (pool : List ℕ) (items : List spans.Item) (i : ℕ) (d : spans.Item) → i < length items
-    → slice_get (ciphertexts pool items) i ≡ Some (ciphertext pool (slice_index_or items i d))
+    → slice_get (sealed_messages pool items) i ≡ Some (sealed_message pool (slice_index_or items i d))
 item_at pool [] i d h = absurd (omega arith)
 item_at pool (x ∷ items) zero d h = refl
 item_at pool (x ∷ items) (suc i) d h = item_at pool items i d (omega arith)
 
 pub asked_at : (pool : List ℕ) (items : List spans.Item) (i : ℕ) (d : spans.Item) → i < length items
-    → slice_get (unseals pool items) i ≡ Some (let x : Ciphertext = ciphertext pool (slice_index_or items i d) in Unseal x.aad x.ct)
+    → slice_get (unseals pool items) i ≡ Some (let x : SealedMessage = sealed_message pool (slice_index_or items i d) in Unseal x.aad x.ct)
 asked_at pool [] i d h = absurd (omega arith)
 asked_at pool (x ∷ items) zero d h = refl
 asked_at pool (x ∷ items) (suc i) d h = asked_at pool items i d (omega arith)

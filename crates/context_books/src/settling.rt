@@ -4,7 +4,8 @@ ghost use Rattle.std.specs.Prelude.{◌≡◌, ◌↔◌, ◌+◌, ◌-◌, ◌<
 ghost use Rattle.call_places.specs.Entries.{own, seq_of, StampsBelow};
 ghost use Rattle.hpke_context.specs.Contexts.{HasCipher};
 ghost use Rattle.legal_journals.specs.Entries.{entries_from};
-ghost use Rattle.speculative_open.specs.Tables.{ItemIsInPool, ciphertext};
+ghost use Rattle.call_places.specs.Spans.{ItemIsInPool};
+ghost use Rattle.call_places.specs.Messages.{sealed_message};
 ghost use Rattle.context_books.specs.Books.{SameTerms};
 ghost use Rattle.context_books.specs.Openings.{opening_steps, opening_misses, OpensIn, IsTableFor};
 
@@ -84,9 +85,9 @@ fn verdict(
     requires cipher { HasCipher context.now }
     requires span { ItemIsInPool (length pool.now) item }
     requires known { IfSome known
-        (λ v. IsTrue v ↔ OpensIn context.now number (ciphertext pool.now item)) }
+        (λ v. IsTrue v ↔ OpensIn context.now number (sealed_message pool.now item)) }
     requires checks { checks.old < 2 ^ 64 - 1 }
-    ensures holds { IsTrue result ↔ OpensIn context.now number (ciphertext pool.now item) }
+    ensures holds { IsTrue result ↔ OpensIn context.now number (sealed_message pool.now item) }
     ensures checks { checks.new ≡ checks.old + cond (is_some known) 0 1 }
 {
     if let Some(holds) = known {

@@ -3,7 +3,7 @@
 
 ghost use Rattle.std.specs.Prelude.{◌≡◌, ◌≤◌, All, IfOk, length};
 ghost use Rattle.hpke_context.specs.Contexts.{HasCipher};
-ghost use Rattle.speculative_open.specs.Tables.{ItemIsInPool};
+ghost use Rattle.call_places.specs.Spans.{ItemIsInPool};
 ghost use Rattle.context_books.specs.Openings.{IsTableFor};
 
 use crate::{Book, Draw};

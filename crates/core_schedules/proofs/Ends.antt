@@ -37,7 +37,7 @@ module _ (batch : Batch) (ciphers : ℕ → Cipher) where
       let d = one_done (due_in batch ciphers w.history) l s s.to_come refl in
       omega arith
 
-  one_less : (w : Core) (l : ℕ) → left_at (happens batch ciphers w l) l ≤ left_at w l - 1
+  pub one_less : (w : Core) (l : ℕ) → left_at (happens batch ciphers w l) l ≤ left_at w l - 1
   one_less w l = one_less_at w l (slice_get w.lanes l) refl
 
   others_stay : (w : Core) (l k : ℕ) (o : Option Lane) → k ≢ l → left_at (happens_at batch ciphers w l o) k ≡ left_at w k
@@ -50,7 +50,7 @@ module _ (batch : Batch) (ciphers : ℕ → Cipher) where
     | inr ne ↦ (let a = others_stay w l k (slice_get w.lanes l) ne in omega arith)
   ]
 
-  no_more_after : (w : Core) (events : List ℕ) (k : ℕ) → left_at (all_happen batch ciphers w events) k ≤ left_at w k
+  pub no_more_after : (w : Core) (events : List ℕ) (k : ℕ) → left_at (all_happen batch ciphers w events) k ≤ left_at w k
   no_more_after w [] k = omega arith
   no_more_after w (l ∷ ls) k = let a = no_more_after (happens batch ciphers w l) ls k in let b = no_more w l k in omega arith
 
@@ -91,7 +91,7 @@ module _ (batch : Batch) (ciphers : ℕ → Cipher) where
       ap (λ (v : Core). left_at v (k + suc i)) (all_happen-append w (replicate n k) (to_the_ends (k + 1) lanes))
       ∙ subst (λ n. left_at (all_happen batch ciphers mid (to_the_ends (k + 1) lanes)) n ≡ 0) next rest
 
-start_left : (batch : Batch) (i : ℕ) → left_of (slice_get (map at_first batch) i) ≤ length (all_tasks 0 (lane_of batch i))
+pub start_left : (batch : Batch) (i : ℕ) → left_of (slice_get (map at_first batch) i) ≤ length (all_tasks 0 (lane_of batch i))
 start_left [] i = omega arith
 start_left (asks ∷ batch) zero = omega arith
 start_left (asks ∷ batch) (suc i) = start_left batch i

@@ -1,7 +1,8 @@
 -- A program that keeps a lane as its next call and the stage of that call does the core's steps.
 use Rattle.std.proofs.Common.{◌≡◌, ℕ, zero, suc, ◌+◌, List, [], ◌∷◌, ◌++◌, drop, sym, refl, ap, ◌∙◌, arith, Some, None}
 use Rattle.std.specs.Prelude.{slice_get}
-use Rattle.legal_journals.specs.Batches.{Ask, Nothing, ToSeal, ToOpen, ToOpenAll, SealedMessage, context_in, asked}
+use Rattle.call_places.specs.Messages.{SealedMessage}
+use Rattle.legal_journals.specs.Batches.{Ask, Nothing, ToSeal, ToOpen, ToOpenAll, context_in, asked}
 use Rattle.legal_journals.specs.Guesses.{guess_of}
 use Rattle.core_schedules.specs.Core.{all_tasks, Lane, Moved, step}
 use Rattle.core_schedules.proofs.Steps.{Stage, Fresh, HasGuess, HasTests, HasPlaces, tasks_at}

@@ -7,7 +7,8 @@ use Rattle.std.proofs.lemmas.List.Sums.{sum_by-cons}
 use Rattle.std.proofs.lemmas.Option.{slice_get_within}
 use Rattle.call_places.specs.declared.entries.Place.{Place}
 use Rattle.hpke_context.specs.Answers.{Cipher, run}
-use Rattle.legal_journals.specs.Batches.{Batch, Ask, Nothing, ToSeal, ToOpen, ToOpenAll, SealedMessage, Spot, spots, block, unseal, asked, all_asked, on, lane_of, items_of, IsServed}
+use Rattle.call_places.specs.Messages.{SealedMessage}
+use Rattle.legal_journals.specs.Batches.{Batch, Ask, Nothing, ToSeal, ToOpen, ToOpenAll, Spot, spots, block, unseal, asked, all_asked, on, lane_of, items_of, IsServed}
 use Rattle.legal_journals.specs.Legal.{OpensOn, Legal, replies, due_after}
 use Rattle.legal_journals.specs.Guesses as guesses
 use Rattle.legal_journals.specs.Guesses.{AllGuessed, guess_of, guess_count, guess_at}

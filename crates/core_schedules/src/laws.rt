@@ -3,7 +3,8 @@
 ghost use Rattle.std.specs.Prelude.{ℕ, ◌≡◌, ◌<◌, ◌≤◌, [], List, length, slice_get, Some};
 ghost use Rattle.call_places.specs.declared.entries.Place.{Place};
 ghost use Rattle.hpke_context.specs.Answers.{Cipher};
-ghost use Rattle.legal_journals.specs.Batches.{Batch, SealedMessage, ToOpenAll, lane_of, IsServed};
+ghost use Rattle.call_places.specs.Messages.{SealedMessage};
+ghost use Rattle.legal_journals.specs.Batches.{Batch, ToOpenAll, lane_of, IsServed};
 ghost use Rattle.legal_journals.specs.Legal.{Legal};
 ghost use Rattle.legal_journals.specs.Guesses.{AllGuessed};
 ghost use Rattle.legal_journals.specs.Histories.{LegalHistory, IsHistory, journals_of};

@@ -7,7 +7,8 @@ use Rattle.call_places.specs.declared.entries.Place.{Place}
 use Rattle.call_places.specs.declared.entries.Entry.{Entry}
 use Rattle.call_places.specs.Entries.{seq_of, own, mark_of}
 use Rattle.hpke_context.specs.Answers.{Cipher, Answer, run}
-use Rattle.legal_journals.specs.Batches.{Batch, ToOpenAll, SealedMessage, unseal, block, place, all_asked, on, own_places, lane_of, lane_places, items_of, item_or_none}
+use Rattle.call_places.specs.Messages.{SealedMessage}
+use Rattle.legal_journals.specs.Batches.{Batch, ToOpenAll, unseal, block, place, all_asked, on, own_places, lane_of, lane_places, items_of, item_or_none}
 use Rattle.legal_journals.specs.Legal.{StandTogether, Legal, is_same_place, reply_in, reply_of, due_after}
 use Rattle.legal_journals.specs.Guesses.{Guessed, missed, missed_in}
 use Rattle.legal_journals.specs.Histories.{mark, HaveConsecutiveStamps}

@@ -8,7 +8,8 @@ use Rattle.call_places.specs.declared.entries.Entry.{Entry}
 use Rattle.call_places.specs.declared.entries.Step.TheVariants.{Opened}
 use Rattle.call_places.specs.Entries.{own, IsBefore}
 use Rattle.hpke_context.specs.Answers.{Cipher}
-use Rattle.legal_journals.specs.Batches.{Ask, Nothing, ToSeal, ToOpen, ToOpenAll, SealedMessage, unseal, place, lane_of, lane_places}
+use Rattle.call_places.specs.Messages.{SealedMessage}
+use Rattle.legal_journals.specs.Batches.{Ask, Nothing, ToSeal, ToOpen, ToOpenAll, unseal, place, lane_of, lane_places}
 use Rattle.legal_journals.specs.Guesses.{guess_at}
 use Rattle.legal_journals.specs.Entries.{entry}
 use Rattle.legal_journals.specs.Rows.{toy, message, opening}

@@ -9,7 +9,8 @@ use Rattle.call_places.specs.declared.entries.Entry.{Entry}
 use Rattle.call_places.specs.declared.entries.Mark.{Mark}
 use Rattle.call_places.specs.Entries.{seq_of, own, IsBefore, mark_of, stamps_of, StampsRise}
 use Rattle.hpke_context.specs.Answers.{Item, Cipher, Answer, answer}
-use Rattle.legal_journals.specs.Batches.{Batch, ToOpenAll, SealedMessage, unseal, item_of, lane_of, lane_places}
+use Rattle.call_places.specs.Messages.{SealedMessage}
+use Rattle.legal_journals.specs.Batches.{Batch, ToOpenAll, unseal, item_of, lane_of, lane_places}
 use Rattle.legal_journals.specs.Guesses.{guess_count, guess_at, missed}
 use Rattle.legal_journals.specs.Entries.{step_for, steps_from, numbers_from, entries_from, entry_places, AtNumbers}
 

@@ -6,7 +6,8 @@ use Rattle.std.proofs.lemmas.List.{get_or_past, length-map}
 use Rattle.std.proofs.lemmas.Bool.{cases_lt}
 use Rattle.call_places.specs.declared.entries.Place.{Place}
 use Rattle.hpke_context.specs.Answers.{Item, Cipher}
-use Rattle.legal_journals.specs.Batches.{Batch, Ask, Nothing, ToSeal, ToOpen, ToOpenAll, SealedMessage, unseal, with_context, item_in_call, item_of, block, place, all_asked, on, own_places, lane_of, lane_places}
+use Rattle.call_places.specs.Messages.{SealedMessage}
+use Rattle.legal_journals.specs.Batches.{Batch, Ask, Nothing, ToSeal, ToOpen, ToOpenAll, unseal, with_context, item_in_call, item_of, block, place, all_asked, on, own_places, lane_of, lane_places}
 use Rattle.legal_journals.specs.Legal.{OpensOn, StandTogether, Legal, is_same_place}
 use Rattle.legal_journals.specs.Guesses.{Guessed, least_guess, greatest_guess}
 use Rattle.legal_journals.specs.Checks.{are_same, has_lanes, goes_on, goes_on_in, is_unbroken, is_legal, is_guessed}

@@ -2,12 +2,8 @@
 -- is asked.
 use Rattle.std.specs.Prelude.{ℕ, zero, suc, ◌≡◌, ◌+◌, ◌==◌, cond, List, [], ◌∷◌, ◌++◌, length, map, filter, slice_get, slice_index_or, Option, Some, None}
 use Rattle.call_places.specs.declared.entries.Place.{Place}
+use Rattle.call_places.specs.Messages.{SealedMessage}
 use Rattle.hpke_context.specs.Answers.{Item, Seal, Unseal}
-
--- a ciphertext with its associated data
-pub record SealedMessage : Type 0 where
-  pub aad : List ℕ
-  pub ct : List ℕ
 
 -- What a call asks: to seal a text, to open a ciphertext, or to open several, one after another. An
 -- export asks nothing that changes a context, and so does a call that is refused before a context

@@ -5,7 +5,8 @@ use Rattle.std.specs.List.{AllPairs}
 use Rattle.call_places.specs.declared.entries.Place.{Place}
 use Rattle.call_places.specs.Entries.{IsBefore}
 use Rattle.hpke_context.specs.Answers.{Cipher, Answer, Sealed_at, Opened_at, Failed_at, At_limit, run, due}
-use Rattle.legal_journals.specs.Batches.{Batch, SealedMessage, ToOpenAll, block, lane_of, lane_places, own_places, items_of, IsServed}
+use Rattle.call_places.specs.Messages.{SealedMessage}
+use Rattle.legal_journals.specs.Batches.{Batch, ToOpenAll, block, lane_of, lane_places, own_places, items_of, IsServed}
 
 -- ---- the order of a journal
 

@@ -4,7 +4,8 @@ use Rattle.std.specs.Prelude.{ℕ, ◌==◌, List, [], ◌∷◌, slice_index}
 use Rattle.call_places.specs.declared.entries.Place.{Place}
 use Rattle.call_places.specs.declared.entries.Mark.{Mark}
 use Rattle.hpke_context.specs.Answers.{Cipher, Item, Unseal}
-use Rattle.legal_journals.specs.Batches.{Batch, ToSeal, ToOpen, ToOpenAll, SealedMessage, place}
+use Rattle.call_places.specs.Messages.{SealedMessage}
+use Rattle.legal_journals.specs.Batches.{Batch, ToSeal, ToOpen, ToOpenAll, place}
 use Rattle.legal_journals.specs.Histories.{mark}
 
 -- A toy in place of an AEAD: a ciphertext is the list of the one number at which it opens, and its

@@ -4,7 +4,7 @@ ghost use Rattle.std.specs.Prelude.{◌≡◌, ◌+◌, ◌<◌, ◌≤◌, ◌^
 ghost use Rattle.call_places.specs.Entries.{stamps_of};
 ghost use Rattle.hpke_context.specs.Contexts.{CanSeal, CanOpen};
 ghost use Rattle.turn_lock.specs.Passes.{fresh_from, AllOf, IsShown, NoOthers};
-ghost use Rattle.speculative_open.specs.Tables.{ItemIsInPool};
+ghost use Rattle.call_places.specs.Spans.{ItemIsInPool};
 ghost use Rattle.context_books.specs.Openings.{opening_steps, opening_misses, IsTableFor};
 ghost use Rattle.shared_context.specs.Stamped.{IsNote};
 ghost use Rattle.shared_context.specs.Calls.{MayCall, HasDrawn, HasPeeked, HasCommitted};

@@ -5,7 +5,7 @@ ghost use Rattle.std.specs.List.{range_with_len};
 ghost use Rattle.call_places.specs.Entries.{own, seq_of};
 ghost use Rattle.hpke_context.specs.Contexts.{HasCipher};
 ghost use Rattle.legal_journals.specs.Entries.{entry, entries_from};
-ghost use Rattle.speculative_open.specs.Tables.{ItemIsInPool};
+ghost use Rattle.call_places.specs.Spans.{ItemIsInPool};
 ghost use Rattle.context_books.specs.Books.{drawn_step};
 ghost use Rattle.context_books.specs.Openings.{opening_steps, opening_misses, IsTableFor};
 ghost use Rattle.shared_context.specs.Stamped.{terms_of, IsNote, ComesAfter, IsStamped};

@@ -2,7 +2,7 @@
 
 ghost use Rattle.std.specs.Prelude.{◌≡◌, ◌+◌, ◌-◌, ◌<◌, ◌≤◌, [], All, IfOk, OnOk, length, vec_len};
 ghost use Rattle.hpke_context.specs.Contexts.{HasCipher, CanSeal, CanOpen};
-ghost use Rattle.speculative_open.specs.Tables.{ItemIsInPool};
+ghost use Rattle.call_places.specs.Spans.{ItemIsInPool};
 ghost use Rattle.context_books.specs.Openings.{IsTableFor};
 ghost use Rattle.turn_lock.specs.Passes.{AllOf};
 ghost use Rattle.shared_context.specs.Stamped.{IsNote};

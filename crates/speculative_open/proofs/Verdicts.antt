@@ -7,16 +7,17 @@ use Rattle.aes_gcm.specs.Gcm.{Holds}
 use Rattle.aes_gcm.specs.Hashed.{HashedView}
 use Rattle.key_schedule.specs.Nonces.{compute_nonce}
 use Rattle.call_places.specs.declared.spans.Item.{Item}
-use Rattle.speculative_open.specs.Tables.{Ciphertext, ciphertext, ciphertexts, OpensAt, IsRow, Fits}
+use Rattle.call_places.specs.Messages.{SealedMessage, sealed_message, sealed_messages}
+use Rattle.speculative_open.specs.Tables.{OpensAt, IsRow, Fits}
 
 -- verdict k of a row is right: it is that at the number guess + i - k, if the item is checked there
-abbrev pub IsRight : ℕ → ℕ → List ℕ → List ℕ → ℕ → Ciphertext → List Bool → ℕ → Type 0
+abbrev pub IsRight : ℕ → ℕ → List ℕ → List ℕ → ℕ → SealedMessage → List Bool → ℕ → Type 0
 IsRight guess limit key base_nonce i x row k =
     (n : ℕ) → n + k ≡ guess + i → k ≤ i → n ≤ limit
     → IsTrue (get_or row k false) ↔ OpensAt key base_nonce n x
 
 -- a row of four right verdicts is one of the item
-pub row_of_four : (guess limit : ℕ) (key base_nonce : List ℕ) (i : ℕ) (x : Ciphertext) (row : List Bool)
+pub row_of_four : (guess limit : ℕ) (key base_nonce : List ℕ) (i : ℕ) (x : SealedMessage) (row : List Bool)
     → ((k : ℕ) → k < 4 → IsRight guess limit key base_nonce i x row k) → IsRow guess limit key base_nonce i x row
 row_of_four guess limit key base_nonce i x row right n c =
     let most : n ≤ guess + i = c.0 in
@@ -24,7 +25,7 @@ row_of_four guess limit key base_nonce i x row right n c =
     right (guess + i - n) (omega arith) n (omega arith) (omega arith) c.2
 
 -- one verdict more, at a number where the item is checked
-pub right_more : (guess limit : ℕ) (key base_nonce : List ℕ) (i : ℕ) (x : Ciphertext) (row : List Bool) (m number : ℕ) (v : Bool)
+pub right_more : (guess limit : ℕ) (key base_nonce : List ℕ) (i : ℕ) (x : SealedMessage) (row : List Bool) (m number : ℕ) (v : Bool)
     → ((k : ℕ) → k < m → IsRight guess limit key base_nonce i x row k) → m < length row → number + m ≡ guess + i
     → IsTrue v ↔ OpensAt key base_nonce number x
     → (k : ℕ) → k < m + 1 → IsRight guess limit key base_nonce i x (set row m v) k
@@ -38,14 +39,14 @@ right_more guess limit key base_nonce i x row m number v right within is_number 
     (subst (λ p. IsTrue v ↔ OpensAt key base_nonce p x) same verdict))
 
 -- one verdict more, where the item isn't checked
-pub right_past : (guess limit : ℕ) (key base_nonce : List ℕ) (i : ℕ) (x : Ciphertext) (row : List Bool) (m : ℕ)
+pub right_past : (guess limit : ℕ) (key base_nonce : List ℕ) (i : ℕ) (x : SealedMessage) (row : List Bool) (m : ℕ)
     → ((k : ℕ) → k < m → IsRight guess limit key base_nonce i x row k) → (m ≤ i → limit + m < guess + i)
     → (k : ℕ) → k < m + 1 → IsRight guess limit key base_nonce i x row k
 right_past guess limit key base_nonce i x row m right past =
     below_more _ _ right (λ n e l w. let above : limit + m < guess + i = past l in absurd (omega arith))
 
 -- what the check of a hashed ciphertext tells
-pub opens_is : (key base_nonce : List ℕ) (n : ℕ) (x : Ciphertext) (h : HashedView) (aad ct nonce : List ℕ) (v : Bool)
+pub opens_is : (key base_nonce : List ℕ) (n : ℕ) (x : SealedMessage) (h : HashedView) (aad ct nonce : List ℕ) (v : Bool)
     → h ≡ record { key = key; aad = aad; ct = ct } → aad ≡ x.aad → ct ≡ x.ct → nonce ≡ compute_nonce base_nonce n
     → IsTrue v ↔ Holds h.key nonce h.aad h.ct → IsTrue v ↔ OpensAt key base_nonce n x
 opens_is key base_nonce n x h aad ct nonce v is is_aad is_ct is_nonce told =
@@ -54,7 +55,7 @@ opens_is key base_nonce n x h aad ct nonce v is is_aad is_ct is_nonce told =
     (subst (λ t. IsTrue v ↔ Holds key nonce aad t) is_ct
     (subst (λ (g : HashedView). IsTrue v ↔ Holds g.key nonce g.aad g.ct) is told)))
 
-item_of : (f : Item → Ciphertext) (o : Option Item) (x : Ciphertext) → option_map f o ≡ Some x
+item_of : (f : Item → SealedMessage) (o : Option Item) (x : SealedMessage) → option_map f o ≡ Some x
     → (item : Item) × (o ≡ Some item) × (f item ≡ x)
 item_of f None x is = absurd (none-some x is)
 item_of f (Some item) x is = (item, refl, same_Some (f item) x is)
@@ -63,9 +64,9 @@ item_of f (Some item) x is = (item, refl, same_Some (f item) x is)
 pub fits_taken : (room guess limit n : ℕ) (key base_nonce pool : List ℕ) (items : List Item) (made rest : List (List Bool))
     → length items ≤ length made → length items ≤ n
     → ((i : ℕ) (item : Item) → slice_get items i ≡ Some item
-    → IsRow guess limit key base_nonce i (ciphertext pool item) (slice_index_or made i []))
+    → IsRow guess limit key base_nonce i (sealed_message pool item) (slice_index_or made i []))
     → Fits (record { room = room; guess = guess; limit = limit; rows = take (length items) (take n (made ++ rest)) }) key base_nonce
-    (ciphertexts pool items)
+    (sealed_messages pool items)
 fits_taken room guess limit n key base_nonce pool items made rest size within right =
     let rows = take (length items) (take n (made ++ rest)) in
     let is_made : (i : ℕ) → i < length items → slice_index_or rows i [] ≡ slice_index_or made i [] =
@@ -75,16 +76,16 @@ fits_taken room guess limit n key base_nonce pool items made rest size within ri
     ∙ get_or_append_left made rest [] i (omega arith) in
     let long : length items ≤ length (take n (made ++ rest)) = omega (arith, length-take n (made ++ rest), length-append made rest) in
     record {
-      count = omega (arith, length-take-le (length items) (take n (made ++ rest)) long, length-map items (ciphertext pool));
+      count = omega (arith, length-take-le (length items) (take n (made ++ rest)) long, length-map items (sealed_message pool));
       each = λ i x is.
-          let item = item_of (ciphertext pool) (slice_get items i) x (sym (slice_get-map (ciphertext pool) items i) ∙ is) in
+          let item = item_of (sealed_message pool) (slice_get items i) x (sym (slice_get-map (sealed_message pool) items i) ∙ is) in
           let there : i < length items = slice_get_within items i item.0 item.1 in
           subst (λ y. IsRow guess limit key base_nonce i y (slice_index_or rows i [])) item.2
-          (subst (IsRow guess limit key base_nonce i (ciphertext pool item.0)) (sym (is_made i there)) (right i item.0 item.1));
+          (subst (IsRow guess limit key base_nonce i (sealed_message pool item.0)) (sym (is_made i there)) (right i item.0 item.1));
     }
 
 -- a row that is told under another name for its place
-pub row_moved : (guess limit : ℕ) (key base_nonce : List ℕ) (from to : ℕ) (x : Ciphertext) (row moved : List Bool)
+pub row_moved : (guess limit : ℕ) (key base_nonce : List ℕ) (from to : ℕ) (x : SealedMessage) (row moved : List Bool)
     → from ≡ to → row ≡ moved → IsRow guess limit key base_nonce from x row → IsRow guess limit key base_nonce to x moved
 row_moved guess limit key base_nonce from to x row moved place same right =
     subst (λ i. IsRow guess limit key base_nonce i x moved) place (subst (IsRow guess limit key base_nonce from x) same right)

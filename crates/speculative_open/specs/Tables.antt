@@ -3,29 +3,12 @@
 use Rattle.std.specs.Prelude.{ℕ, ◌≡◌, ◌+◌, ◌-◌, ◌≤◌, ◌↔◌, min, Bool, false, IsTrue, List, [], length, map, slice_get, slice_index_or, Some}
 use Rattle.aes_gcm.specs.Gcm.{Holds}
 use Rattle.key_schedule.specs.Nonces.{compute_nonce}
-use Rattle.call_places.specs.declared.spans.Item.{Item}
-use Rattle.call_places.specs.Spans.{IsInPool, span_bytes}
+use Rattle.call_places.specs.Messages.{SealedMessage}
 
--- ---- what is opened
-
--- a ciphertext with its associated data
-pub record Ciphertext : Type 0 where
-  pub aad : List ℕ
-  pub ct : List ℕ
-
--- the bytes that an item names
-abbrev pub ciphertext : List ℕ → Item → Ciphertext
-ciphertext pool item = record { aad = span_bytes pool item.aad; ct = span_bytes pool item.text }
-
-abbrev pub ciphertexts : List ℕ → List Item → List Ciphertext
-ciphertexts pool items = map (ciphertext pool) items
-
--- both spans of an item lie in a pool of so many bytes
-abbrev pub ItemIsInPool : ℕ → Item → Type 0
-ItemIsInPool size item = IsInPool size item.aad × IsInPool size item.text
+-- ---- verdicts
 
 -- GCM opens the ciphertext under the nonce of sequence number n: Open of RFC 9180, 5.2, doesn't fail
-abbrev pub OpensAt : List ℕ → List ℕ → ℕ → Ciphertext → Type 0
+abbrev pub OpensAt : List ℕ → List ℕ → ℕ → SealedMessage → Type 0
 OpensAt key base_nonce n x = Holds key (compute_nonce base_nonce n) x.aad x.ct
 
 -- ---- the table
@@ -48,7 +31,7 @@ abbrev pub verdict_at : ℕ → ℕ → List Bool → ℕ → Bool
 verdict_at guess i row n = slice_index_or row (guess + i - n) false
 
 -- row i tells whether item i opens, at each number at which the item is checked
-abbrev pub IsRow : ℕ → ℕ → List ℕ → List ℕ → ℕ → Ciphertext → List Bool → Type 0
+abbrev pub IsRow : ℕ → ℕ → List ℕ → List ℕ → ℕ → SealedMessage → List Bool → Type 0
 IsRow guess limit key base_nonce i x row =
     (n : ℕ) → IsChecked guess limit i n
     → IsTrue (verdict_at guess i row n) ↔ OpensAt key base_nonce n x
@@ -57,7 +40,7 @@ abbrev pub row_of : TableView → ℕ → List Bool
 row_of t i = slice_index_or t.rows i []
 
 -- the table is one of these items, under this key and base_nonce
-pub record Fits (t : TableView) (key base_nonce : List ℕ) (items : List Ciphertext) : Type 0 where
+pub record Fits (t : TableView) (key base_nonce : List ℕ) (items : List SealedMessage) : Type 0 where
   pub count : length t.rows ≡ length items
-  pub each : (i : ℕ) (x : Ciphertext) → slice_get items i ≡ Some x
+  pub each : (i : ℕ) (x : SealedMessage) → slice_get items i ≡ Some x
       → IsRow t.guess t.limit key base_nonce i x (row_of t i)

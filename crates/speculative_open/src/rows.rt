@@ -2,7 +2,9 @@
 
 ghost use Rattle.std.specs.Prelude.{◌≡◌, ◌≤◌, ◌<◌, ◌+◌, ◌↔◌, ℕ, All, IfSome, IsNone, length, slice_get, slice_index_or, [], Some};
 ghost use Rattle.call_places.specs.declared.spans.Item.{Item};
-ghost use Rattle.speculative_open.specs.Tables.{ciphertext, ItemIsInPool, IsChecked, IsRow};
+ghost use Rattle.call_places.specs.Messages.{sealed_message};
+ghost use Rattle.call_places.specs.Spans.{ItemIsInPool};
+ghost use Rattle.speculative_open.specs.Tables.{IsChecked, IsRow};
 
 use aes_gcm::GcmKey;
 use call_places::Item;
@@ -65,7 +67,7 @@ impl Opener<'_> {
     pub(crate) fn row<R: Threads>(&self, rt: &R, i: usize, item: Item) -> Row
         requires { ItemIsInPool (length self.now.pool.now) item }
         ensures { IsRow self.now.guess self.now.limit self.now.key.now self.now.base_nonce.now i
-            (ciphertext self.now.pool.now item) result }
+            (sealed_message self.now.pool.now item) result }
     {
         let hashed = self
             .key
@@ -86,7 +88,7 @@ impl Opener<'_> {
         ensures { (j : ℕ) (item : Item) → j < length rows.old
             → slice_get items.now (start + j) ≡ Some item
             → IsRow self.now.guess self.now.limit self.now.key.now self.now.base_nonce.now
-            (start + j) (ciphertext self.now.pool.now item) (slice_index_or rows.new j []) }
+            (start + j) (sealed_message self.now.pool.now item) (slice_index_or rows.new j []) }
     {
         for j in 0..rows.len() {
             rows[j] = self.row(rt, start + j, items[start + j]);
@@ -99,7 +101,7 @@ impl Opener<'_> {
         requires spans { All (ItemIsInPool (length self.now.pool.now)) items.now }
         ensures { (i : ℕ) (item : Item) → slice_get items.now i ≡ Some item
             → IsRow self.now.guess self.now.limit self.now.key.now self.now.base_nonce.now
-            i (ciphertext self.now.pool.now item) (slice_index_or rows.new i []) }
+            i (sealed_message self.now.pool.now item) (slice_index_or rows.new i []) }
     {
         thread::for_each_chunk_mut(
             rt,
@@ -117,7 +119,7 @@ impl Opener<'_> {
         requires spans { All (ItemIsInPool (length self.now.pool.now)) items.now }
         ensures { (i : ℕ) (item : Item) → slice_get items.now i ≡ Some item
             → IsRow self.now.guess self.now.limit self.now.key.now self.now.base_nonce.now
-            i (ciphertext self.now.pool.now item) (slice_index_or rows.new i []) }
+            i (sealed_message self.now.pool.now item) (slice_index_or rows.new i []) }
     {
         self.fill_pieces(rt, items, &mut rows[..items.len()]);
     }

@@ -1,7 +1,9 @@
 //! Tables of verdicts.
 
 ghost use Rattle.std.specs.Prelude.{◌≡◌, ◌≤◌, ◌<◌, ◌↔◌, ℕ, List, [], All, Some, IfOk, IfSome, IsNone, IsTrue, length, slice_get};
-ghost use Rattle.speculative_open.specs.Tables.{Ciphertext, ciphertexts, ItemIsInPool, OpensAt, IsChecked, verdict_at, row_of, Fits};
+ghost use Rattle.call_places.specs.Messages.{SealedMessage, sealed_messages};
+ghost use Rattle.call_places.specs.Spans.{ItemIsInPool};
+ghost use Rattle.speculative_open.specs.Tables.{OpensAt, IsChecked, verdict_at, row_of, Fits};
 
 use crate::rows::{BLANK, Opener, Row, place};
 use aes_gcm::GcmKey;
@@ -73,7 +75,7 @@ impl GuessTable {
         ensures limit { self.new.limit ≡ limit }
         ensures room { self.new.room ≡ self.old.room }
         ensures rows { length self.new.rows ≡ length items.now }
-        ensures fits { Fits self.new key.now base_nonce.now (ciphertexts pool.now items.now) }
+        ensures fits { Fits self.new key.now base_nonce.now (sealed_messages pool.now items.now) }
     {
         let opener = Opener {
             key,
@@ -100,7 +102,7 @@ impl GuessTable {
         requires row { i < length self.now.rows }
         ensures none { IsNone result ↔ ¬ IsChecked self.now.guess self.now.limit i n }
         ensures some { IfSome result (λ v. v ≡ verdict_at self.now.guess i (row_of self.now i) n) }
-        ensures tells { (key base_nonce : List ℕ) (items : List Ciphertext) (x : Ciphertext)
+        ensures tells { (key base_nonce : List ℕ) (items : List SealedMessage) (x : SealedMessage)
             → Fits self.now key base_nonce items → slice_get items i ≡ Some x
             → IfSome result (λ v. IsTrue v ↔ OpensAt key base_nonce n x) }
     {

@@ -1,7 +1,7 @@
 //! Published messages at guessed numbers, and windows that end at LIMIT.
 
 ghost use Rattle.std.specs.Prelude.{◌≡◌, ◌≤◌, ◌<◌, All, IfOk, length};
-ghost use Rattle.speculative_open.specs.Tables.{ItemIsInPool};
+ghost use Rattle.call_places.specs.Spans.{ItemIsInPool};
 
 use crate::GuessTable;
 use aes_gcm::GcmKey;

@@ -10,7 +10,7 @@ use Rattle.legal_journals.specs.Batches.{place}
 use Rattle.legal_journals.specs.Entries.{entry, step_for}
 use Rattle.legal_journals.specs.Guesses.{is_in_window}
 use Rattle.legal_journals.proofs.EntryNumbers.{seq_of-push, number_next}
-use Rattle.speculative_open.specs.Tables.{Ciphertext, ciphertext}
+use Rattle.call_places.specs.Messages.{SealedMessage, sealed_message}
 use Rattle.context_books.specs.Books.{opened_at}
 use Rattle.context_books.specs.Openings.{unseals, opening_steps, opening_misses, OpensIn}
 use Rattle.context_books.proofs.Stamps.{StampsBelow-weaker, StampsBelow-append}
@@ -29,7 +29,7 @@ at_most_one false = omega arith
 pub verdict-holds-requires-clause-known : goal.verdict-holds-requires-clause-known
 verdict-holds-requires-clause-known c =
     let l = c.loop-i in
-    let x : Ciphertext = ciphertext c.args.pool.now (slice_index_or c.args.items.now l.i no_item) in
+    let x : SealedMessage = sealed_message c.args.pool.now (slice_index_or c.args.items.now l.i no_item) in
     let told = c.look-known.ensures.tells _ _ _ x c.requires.table.fits (item_at c.args.pool.now c.args.items.now l.i no_item c.loop-i-test.true) in
     subst (λ (n : ℕ). IfSome c.look-known.result (λ v. IsTrue v ↔ OpensIn c.args.context.now n x)) (c.seq.ensures.seq ∙ sym c.seq-in-loop-i.ensures.seq) told
 
@@ -44,7 +44,7 @@ loop-i-preserved c =
     let cipher : Cipher = cipher_of context in
     let pool = c.args.pool.now in
     let items = c.args.items.now in
-    let x : Ciphertext = ciphertext pool (slice_index_or items n no_item) in
+    let x : SealedMessage = sealed_message pool (slice_index_or items n no_item) in
     let ask : Item = Unseal x.aad x.ct in
     let at = asked_at pool items n no_item c.loop-i-test.true in
     let size = l.auto.steps in

@@ -1,5 +1,5 @@
 use Rattle.std.proofs.Common.{◌<◌, length, arith, refl, ◌∙◌, length-set}
-use Rattle.speculative_open.specs.Tables.{ciphertext}
+use Rattle.call_places.specs.Messages.{sealed_message}
 use Rattle.speculative_open.proofs.Verdicts.{row_of_four, right_more, right_past, opens_is}
 use Rattle.speculative_open.proofs.rows.Opener.row.Goals as goal
 use Rattle.speculative_open.proofs.rows.Opener.row.Goals.{in-Some, in_default}
@@ -7,7 +7,7 @@ use Rattle.speculative_open.proofs.rows.Opener.row.Goals.{in-Some, in_default}
 pub loop-k-preserved : goal.loop-k-preserved
 loop-k-preserved g c =
     let self = c.args.self.now in
-    let x = ciphertext self.pool.now c.args.item in
+    let x = sealed_message self.pool.now c.args.item in
     let within : c.loop-k.k < length c.loop-k.row = omega arith in
     elim c.match-number.branch [
       | in-Some w ↦
@@ -29,5 +29,5 @@ loop-k-preserved g c =
 pub returns : goal.returns
 returns g c =
     let self = c.args.self.now in
-    row_of_four self.guess self.limit self.key.now self.base_nonce.now c.args.i (ciphertext self.pool.now c.args.item) c.loop-k.row
+    row_of_four self.guess self.limit self.key.now self.base_nonce.now c.args.i (sealed_message self.pool.now c.args.item) c.loop-k.row
     (λ k h. c.loop-k.invariant.right k (omega arith))
