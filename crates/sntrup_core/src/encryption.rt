@@ -28,22 +28,14 @@ fn round(number: i16) -> i32
 fn round_all(alloc: Global, list: &[i16]) -> Result<Vec<i32>, OutOfMemory>
     ensures { IfOk result (λ v. v.items ≡ map rounded list.now) }
 {
-    let mut numbers = Vec::with_capacity(alloc, list.len())?;
-    for number in list {
-        numbers.push(round(*number))?;
-    }
-    Ok(numbers)
+    list.iter().map(|number| round(*number)).collect(alloc)
 }
 
 // The centred residues modulo 3 of the numbers of the list.
 fn residues_3(alloc: Global, list: &[i16]) -> Result<Vec<i8>, OutOfMemory>
     ensures { IfOk result (λ v. v.items ≡ map (λ z. centred 3 z) list.now) }
 {
-    let mut numbers = Vec::with_capacity(alloc, list.len())?;
-    for number in list {
-        numbers.push(residue_3(*number))?;
-    }
-    Ok(numbers)
+    list.iter().map(|number| residue_3(*number)).collect(alloc)
 }
 
 /// Encrypt (NTRU Prime round 3): each coefficient of h r in R/q goes to the nearest multiple of 3.

@@ -3,24 +3,18 @@ use Rattle.std.specs.Int.{w8}
 use Rattle.std.specs.Int.RustNames.{FitsSigned}
 use Rattle.std.proofs.lemmas.Int.{to_z-of_z}
 use Rattle.ring_core.specs.Product.{coefficients}
-use Rattle.ring_core.specs.Bounds.{IsWithin}
 use Rattle.ring_core.proofs.Convolved.{Convolved-none, Convolved-more, Convolved-all}
-use Rattle.ring_lanes.proofs.SmallSums.{SmallSums-from, IsWithin-weaker}
 use Rattle.ring_lanes.proofs.narrow.add_rows.Goals as goal
 
 pub loop-i-init : goal.loop-i-init
-loop-i-init c =
-    SmallSums-from _ _ _ _ c.requires.small_small c.requires.long_small (Convolved-none _ _ _ c.requires.double c.requires.zeros)
+loop-i-init c = Convolved-none _ _ _ _ c.requires.double c.requires.zeros
 
 pub loop-i-preserved : goal.loop-i-preserved
 loop-i-preserved c =
     let fits : FitsSigned w8 (coefficients c.args.small.now c.loop-i.i) = search rules in
     let added = simp to_z-of_z at c.add_multiple.ensures in
-    let wide : IsWithin 4096 c.args.long.now = IsWithin-weaker 1 4096 c.args.long.now (omega arith) c.requires.long_small in
-    SmallSums-from _ _ _ _ c.requires.small_small c.requires.long_small (
-    Convolved-more c.args.small.now c.args.long.now c.loop-i.sums c.add_multiple.new.sums c.loop-i.i (c.loop-i.i + length c.args.long.now - c.loop-i.i) (omega arith) (omega arith) (omega arith) added c.requires.small_small wide c.loop-i.invariant.convolved
-    )
+    Convolved-more _ _ _ _ _ _ (c.loop-i.i + length c.args.long.now - c.loop-i.i) (omega arith) (omega arith) (omega arith) added c.requires.small_small c.requires.long_small c.loop-i.invariant
 
 pub returns-clause-sums : goal.returns-clause-sums
 returns-clause-sums c =
-    λ k l. Convolved-all _ _ _ c.loop-i.i k (omega arith) c.loop-i.invariant.convolved l
+    λ k l. Convolved-all _ _ _ _ c.loop-i.i k (omega arith) c.loop-i.invariant l

@@ -7,14 +7,14 @@ use Rattle.ring_core.proofs.Convolved.{Convolved-none, Convolved-more, Convolved
 use Rattle.ring_lanes.proofs.wide.add_rows.Goals as goal
 
 pub loop-i-init : goal.loop-i-init
-loop-i-init c = Convolved-none _ _ _ c.requires.double c.requires.zeros
+loop-i-init c = Convolved-none _ _ _ _ c.requires.double c.requires.zeros
 
 pub loop-i-preserved : goal.loop-i-preserved
 loop-i-preserved c =
     let fits : FitsSigned w8 (coefficients c.args.small.now c.loop-i.i) = search rules in
     let added = simp to_z-of_z at c.add_multiple.ensures in
-    Convolved-more _ _ _ _ _ (c.loop-i.i + length c.args.long.now - c.loop-i.i) (omega arith) (omega arith) (omega arith) added c.requires.small_small c.requires.long_small c.loop-i.invariant
+    Convolved-more _ _ _ _ _ _ (c.loop-i.i + length c.args.long.now - c.loop-i.i) (omega arith) (omega arith) (omega arith) added c.requires.small_small c.requires.long_small c.loop-i.invariant
 
 pub returns-clause-sums : goal.returns-clause-sums
 returns-clause-sums c =
-    λ k l. Convolved-all _ _ _ c.loop-i.i k (omega arith) c.loop-i.invariant l
+    λ k l. Convolved-all _ _ _ _ c.loop-i.i k (omega arith) c.loop-i.invariant l

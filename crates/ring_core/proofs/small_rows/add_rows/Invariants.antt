@@ -1,0 +1,5 @@
+use Rattle.ring_core.proofs.Convolved.{Convolved}
+use Rattle.ring_core.proofs.small_rows.add_rows.Given as goal
+
+abbrev pub invariant-loop-i : goal.invariant-loop-i
+invariant-loop-i l = Convolved 1 l.small l.long l.sums l.i
