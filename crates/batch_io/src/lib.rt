@@ -21,7 +21,7 @@ mod streams;
 #[cfg(test)]
 mod tests;
 
-pub use gates::FreeGate;
+pub use gates::{FreeGate, HoldGate};
 pub use memory::{MemorySink, MemorySource};
 pub use outside::{Gate, Got, Point, Sink, Source, Took};
 pub use pure::{PureSink, PureSource};

@@ -1,13 +1,13 @@
 ghost use Rattle.std.specs.Prelude.{◌≤◌, IfOk};
 
 use crate::{
-    FreeGate, Gate, Got, MemorySink, MemorySource, Point, PureSink, PureSource, Sink, Source,
-    StdSink, StdSource, Took,
+    FreeGate, Gate, Got, HoldGate, MemorySink, MemorySource, Point, PureSink, PureSource, Sink,
+    Source, StdSink, StdSource, Took,
 };
-use std::io;
 use std::io::{ErrorKind, Read, Write};
 use std::process::Abort;
 use std::test::Fail;
+use std::{io, thread};
 
 // All rows: own, counted by hand from the doc comments of `MemorySource` and `MemorySink`.
 
@@ -191,6 +191,31 @@ fn pure_ends_never_fail_and_the_free_gate_holds_nobody(rt: HostRuntime) -> Resul
     expect_writes(&rt, &mut PureSink::new(), &takes, b"batch", "pure sink");
     reach(&FreeGate::new());
     Ok(())
+}
+
+// Far more turns than another thread needs to come.
+const TURNS: u64 = 1_000_000_000;
+
+#[test]
+fn a_lane_is_held_until_the_other_has_answered(rt: HostRuntime) {
+    let gate = HoldGate::new(0, Point::Drawn, 1, TURNS);
+    let shared = &gate;
+    thread::join(
+        &rt,
+        || shared.reached(0, 0, Point::Drawn),
+        || shared.reached(1, 0, Point::Answered),
+    );
+    assert!(rt; !gate.gave_up());
+}
+
+#[test]
+fn a_lane_is_held_at_its_first_point_of_a_kind_alone(rt: HostRuntime) {
+    let gate = HoldGate::new(0, Point::Guessed, 1, 10);
+    gate.reached(0, 0, Point::Drawn);
+    gate.reached(2, 0, Point::Guessed);
+    assert!(rt; !gate.gave_up());
+    gate.reached(0, 1, Point::Guessed);
+    assert!(rt; gate.gave_up());
 }
 
 // A reader and a writer that answer as they are told, by one number a call: how many bytes are
