@@ -1,8 +1,8 @@
 #!/usr/bin/env python3
 """A peer for the benchmark: answers a batch with python's hashlib, hmac and `cryptography`.
 
-It reads well-formed batches of `share` lines in mode base and one lane, refuses no call, and writes
-the reply text. It shares no code with the program: KeySchedule, the contexts and Export are RFC 9180,
+It reads well-formed batches of version 1 with `share` lines in mode base, refuses no call, serves the
+lanes one after another, and writes the reply text. It shares no code with the program: KeySchedule, the contexts and Export are RFC 9180,
 5.1 to 5.3, written over RFC 5869. AES-GCM is that of `cryptography`, which is asked for only where a
 message is sealed or opened.
 """
@@ -88,28 +88,48 @@ def bytes_of(field):
     return b"" if field == "-" else bytes.fromhex(field)
 
 
+def missed(guess, numbers):
+    return sum(number not in range(guess + i - min(i, 3), guess + i + 1) for i, number in enumerate(numbers))
+
+
+def opening(context, fields):
+    """The lines of an `unsealall`: each pair by itself, and what the number due at first missed."""
+    guess, numbers, lines = context.seq, [], []
+    for aad, ct in zip(fields[::2], fields[1::2]):
+        numbers.append(context.seq)
+        lines.append(context.unseal(bytes_of(aad), bytes_of(ct)))
+    return lines + [f"batch {guess} {missed(guess, numbers)}"]
+
+
 def main():
-    contexts, journals, replies = [], [], []
+    contexts, journals, lines, lane, call = [], [], [], -1, 0
     for line in sys.stdin:
         word, *fields = line.split()
         if word == "share":
             _, kem, kdf, aead, secret, _, info, _, _, limit = fields
             contexts.append(Context(int(kem), int(kdf), int(aead), bytes_of(secret), bytes_of(info), int(limit)))
             journals.append([])
+            continue
+        if word == "lane":
+            lane, call = lane + 1, -1
+            lines.append(f"lane {lane}")
         elif word == "export":
             context, exporter_context, size = fields
-            replies.append("exported " + (contexts[int(context)].export(bytes_of(exporter_context), int(size)).hex() or "-"))
-        elif word in ("seal", "unseal"):
-            number, aad, text = int(fields[0]), bytes_of(fields[1]), bytes_of(fields[2])
-            journals[number].append(f"0 {len(replies)} 0")
-            call = contexts[number].seal if word == "seal" else contexts[number].unseal
-            replies.append(call(aad, text))
-    lines = ["hpkebatch 1"]
-    lines += [f"context {number} shared" for number in range(len(contexts))]
-    lines += ["lane 0"] + replies
+            lines.append("exported " + (contexts[int(context)].export(bytes_of(exporter_context), int(size)).hex() or "-"))
+        elif word in ("seal", "unseal", "unsealall"):
+            number, *texts = fields
+            context, journal = contexts[int(number)], journals[int(number)]
+            journal += [f"{lane} {call} {item}" for item in range(len(texts) // 2)]
+            if word == "unsealall":
+                lines += opening(context, texts)
+            else:
+                once = context.seal if word == "seal" else context.unseal
+                lines.append(once(*map(bytes_of, texts)))
+        call += 1
+    lines = ["hpkebatch 1", *(f"context {number} shared" for number in range(len(contexts))), *lines]
     for number, places in enumerate(journals):
-        lines += [f"journal {number}"] + places
-    sys.stdout.write("\n".join(lines + ["end", ""]))
+        lines += [f"journal {number}", *places]
+    sys.stdout.write("\n".join([*lines, "end", ""]))
 
 
 if __name__ == "__main__":

@@ -12,7 +12,7 @@ use Rattle.batch_plans.specs.declared.plan.ContextKind.{ContextKind}
 use Rattle.batch_plans.specs.declared.plan.ContextKind.TheVariants.{Share, Send, Recv}
 use Rattle.batch_plans.specs.declared.plan.ContextLine.{ContextLine}
 use Rattle.batch_plans.specs.declared.plan.CallLine.{CallLine}
-use Rattle.batch_plans.specs.declared.plan.CallLine.TheVariants.{Seal, Unseal, Export}
+use Rattle.batch_plans.specs.declared.plan.CallLine.TheVariants.{Seal, Unseal, UnsealAll, Export}
 use Rattle.batch_plans.specs.declared.replies.CallRefusal.{CallRefusal}
 use Rattle.batch_plans.specs.declared.replies.CallRefusal.TheVariants as refusals
 use Rattle.batch_plans.specs.Limits.{items_of}
@@ -46,16 +46,19 @@ abbrev pub export_refusal : ℕ → ℕ → Option CallRefusal
 export_refusal export_limit size =
     if nat_lt export_limit size then Some refusals.ExportSize else None
 
--- a call on a context that stands
-abbrev pub refusal_on : ContextLine → ℕ → CallLine → Option CallRefusal
-refusal_on line export_limit (Seal context item) = seal_refusal (context_role line.kind) line.aead
-refusal_on line export_limit (Unseal context item) = open_refusal (context_role line.kind) line.aead
-refusal_on line export_limit (Export context exporter size) = export_refusal export_limit size
+-- a call on a context of this role and cipher, which exports so many bytes at most
+abbrev pub refusal_by : Role → Aead → ℕ → CallLine → Option CallRefusal
+refusal_by role aead export_limit (Seal context item) = seal_refusal role aead
+refusal_by role aead export_limit (Unseal context item) = open_refusal role aead
+refusal_by role aead export_limit (UnsealAll context first count) = open_refusal role aead
+refusal_by role aead export_limit (Export context exporter size) =
+    export_refusal export_limit size
 
 -- CTX
 abbrev pub context_of : CallLine → ℕ
 context_of (Seal context item) = context
 context_of (Unseal context item) = context
+context_of (UnsealAll context first count) = context
 context_of (Export context exporter size) = context
 
 -- the context line of this number, where there is one and its context stands
@@ -66,7 +69,8 @@ standing_line contexts export_limits number =
 -- a call on a context that may not stand
 abbrev pub refusal_at : Option ContextLine → ℕ → CallLine → Option CallRefusal
 refusal_at None export_limit call = Some refusals.NoContext
-refusal_at (Some line) export_limit call = refusal_on line export_limit call
+refusal_at (Some line) export_limit call =
+    refusal_by (context_role line.kind) line.aead export_limit call
 
 -- why a call is refused, or that it is served
 abbrev pub refusal : List ContextLine → List ℕ → CallLine → Option CallRefusal
@@ -87,6 +91,8 @@ served_on contexts export_limits (Seal context item) =
     if_served (refusal contexts export_limits (Seal context item)) context
 served_on contexts export_limits (Unseal context item) =
     if_served (refusal contexts export_limits (Unseal context item)) context
+served_on contexts export_limits (UnsealAll context first count) =
+    if_served (refusal contexts export_limits (UnsealAll context first count)) context
 served_on contexts export_limits (Export context exporter size) = None
 
 -- so many items, where the context that serves them has this number

@@ -12,6 +12,8 @@ progress_of p =
       taken = p.taken;
       replies = take p.replied p.replies.items;
       left = vec_len p.replies - p.replied;
+      batches = take p.guessed p.batches.items;
+      batches_left = vec_len p.batches - p.guessed;
     }
 
 -- what is taken lies within the pool, and the span of each reply within what is taken
@@ -19,4 +21,5 @@ pub record IsProgress (p : Inside) : Type 0 where
   pub taken : p.taken ≤ vec_len p.pool
   pub few : vec_len p.pool < 2 ^ 32
   pub replied : p.replied ≤ vec_len p.replies
+  pub guessed : p.guessed ≤ vec_len p.batches
   pub range : All (IsInRange p.taken) (take p.replied p.replies.items)

@@ -1,6 +1,6 @@
 -- How large a batch may be, and what is known of the numbers and spans of its plan. Sizes are in
 -- bytes.
-use Rattle.std.specs.Prelude.{ℕ, ◌<◌, ◌≤◌, ◌^◌, List, length, sum_by, All, Option, IsSome}
+use Rattle.std.specs.Prelude.{ℕ, ◌≡◌, ◌⊎◌, ◌+◌, ◌<◌, ◌≤◌, ◌^◌, List, length, take, drop, sum_by, All, Option, IsSome}
 use Rattle.call_places.specs.declared.spans.Span.{Span}
 use Rattle.call_places.specs.declared.spans.Item.{Item}
 use Rattle.call_places.specs.Spans.{IsInPool}
@@ -26,7 +26,11 @@ abbrev pub most_contexts : ℕ
 most_contexts = 256
 
 abbrev pub most_lanes : ℕ
-most_lanes = 1
+most_lanes = 16
+
+-- the items of one opening of several messages
+abbrev pub most_opening : ℕ
+most_opening = 4096
 
 -- the items in all lanes
 abbrev pub most_items : ℕ
@@ -52,19 +56,27 @@ most_ciphertext = 1048592
 abbrev pub items_of : CallLine → ℕ
 items_of (calls.Seal context item) = 1
 items_of (calls.Unseal context item) = 1
+items_of (calls.UnsealAll context first count) = count
 items_of (calls.Export context exporter size) = 1
 
 -- the LEN of a call
 abbrev pub size_of : CallLine → ℕ
 size_of (calls.Seal context item) = 0
 size_of (calls.Unseal context item) = 0
+size_of (calls.UnsealAll context first count) = 0
 size_of (calls.Export context exporter size) = size
 
--- the size of a call's PT or CT
-abbrev pub text_size : CallLine → ℕ
-text_size (calls.Seal context item) = item.text.len
-text_size (calls.Unseal context item) = item.text.len
-text_size (calls.Export context exporter size) = 0
+-- so many of the plan's items, from this one on
+abbrev pub items_from : List Item → ℕ → ℕ → List Item
+items_from items first count = take count (drop first items)
+
+-- the size of a call's PT or CT; of an opening of several messages, of all its CT
+abbrev pub text_size : List Item → CallLine → ℕ
+text_size items (calls.Seal context item) = item.text.len
+text_size items (calls.Unseal context item) = item.text.len
+text_size items (calls.UnsealAll context first count) =
+    sum_by (λ item. item.text.len) (items_from items first count)
+text_size items (calls.Export context exporter size) = 0
 
 -- the items in all lanes
 abbrev pub all_items : List (List CallLine) → ℕ
@@ -75,8 +87,8 @@ abbrev pub all_sizes : List (List CallLine) → ℕ
 all_sizes lanes = sum_by (λ lane. sum_by size_of lane) lanes
 
 -- the sizes of the PT and CT of all lanes
-abbrev pub all_texts : List (List CallLine) → ℕ
-all_texts lanes = sum_by (λ lane. sum_by text_size lane) lanes
+abbrev pub all_texts : List Item → List (List CallLine) → ℕ
+all_texts items lanes = sum_by (λ lane. sum_by (text_size items) lane) lanes
 
 -- ---- what every plan that is read keeps
 
@@ -95,6 +107,9 @@ abbrev pub IsKeyWithin : Option (List ℕ) → ℕ → KeyLine → Type 0
 IsKeyWithin seed pool keys.Generate = IsSome seed
 IsKeyWithin seed pool (keys.Secret bytes) = IsField most_field pool bytes
 IsKeyWithin seed pool (keys.Peer bytes) = IsField most_field pool bytes
+IsKeyWithin seed pool keys.Generate857 = IsSome seed
+IsKeyWithin seed pool (keys.Secret857 bytes) = IsField most_field pool bytes
+IsKeyWithin seed pool (keys.Peer857 bytes) = IsField most_field pool bytes
 
 -- ENC over a pool of this length
 abbrev pub IsEncWithin : ℕ → EncField → Type 0
@@ -103,7 +118,8 @@ IsEncWithin pool (encs.Of number) = number ≤ 65535
 
 -- each kind of context, over a pool of this length; an encapsulation is made from a seed
 abbrev pub IsKindWithin : Option (List ℕ) → ℕ → ContextKind → Type 0
-IsKindWithin seed pool (kinds.Share role kem secret) = (kem < 2 ^ 16) × IsField most_field pool secret
+IsKindWithin seed pool (kinds.Share role kem secret) =
+    (kem < 2 ^ 16) × IsField most_field pool secret
 IsKindWithin seed pool (kinds.Send key) = (key ≤ 65535) × IsSome seed
 IsKindWithin seed pool (kinds.Recv key enc) = (key ≤ 65535) × IsEncWithin pool enc
 
@@ -116,24 +132,29 @@ pub record IsContextWithin (seed : Option (List ℕ)) (pool : ℕ) (line : Conte
   pub limit_least : 1 ≤ line.limit
   pub limit_most : line.limit < 2 ^ 64
 
--- a call line over a pool of this length
-abbrev pub IsCallWithin : ℕ → CallLine → Type 0
-IsCallWithin pool (calls.Seal context item) =
+-- a call line over so many items and a pool of this length
+abbrev pub IsCallWithin : ℕ → ℕ → CallLine → Type 0
+IsCallWithin items pool (calls.Seal context item) =
     (context ≤ 65535) × IsItemWithin most_plaintext pool item
-IsCallWithin pool (calls.Unseal context item) =
+IsCallWithin items pool (calls.Unseal context item) =
     (context ≤ 65535) × IsItemWithin most_ciphertext pool item
-IsCallWithin pool (calls.Export context exporter size) =
+IsCallWithin items pool (calls.UnsealAll context first count) =
+    (context ≤ 65535) × (1 ≤ count) × (count ≤ most_opening) × (first + count ≤ items)
+IsCallWithin items pool (calls.Export context exporter size) =
     (context ≤ 65535) × IsField most_field pool exporter × (size ≤ 65535)
 
 -- the counts of a plan, and each of its lines. The texts of its calls share no byte of the pool
 pub record IsWithinLimits (plan : Plan) : Type 0 where
+  pub version : (plan.version ≡ 1) ⊎ (plan.version ≡ 2)
   pub pool : length plan.pool ≤ most_input
   pub keys : length plan.keys ≤ most_keys
   pub contexts : length plan.contexts ≤ most_contexts
   pub lanes : length plan.lanes ≤ most_lanes
   pub items : all_items plan.lanes ≤ most_items
   pub exported : all_sizes plan.lanes ≤ most_exported
-  pub texts : all_texts plan.lanes ≤ length plan.pool
+  pub texts : all_texts plan.items plan.lanes ≤ length plan.pool
   pub key_lines : All (IsKeyWithin plan.seed (length plan.pool)) plan.keys
   pub context_lines : All (IsContextWithin plan.seed (length plan.pool)) plan.contexts
-  pub call_lines : All (All (IsCallWithin (length plan.pool))) plan.lanes
+  pub item_count : length plan.items ≤ most_items
+  pub item_list : All (IsItemWithin most_ciphertext (length plan.pool)) plan.items
+  pub call_lines : All (All (IsCallWithin (length plan.items) (length plan.pool))) plan.lanes

@@ -2,7 +2,8 @@
 
 ghost use Rattle.std.specs.Prelude.{◌≡◌, ◌<◌, length, None, MatchOption, IfSome, Some, slice_index};
 ghost use Rattle.batch_plans.specs.Calls.{cipher_refusal, seal_refusal, open_refusal};
-ghost use Rattle.batch_plans.specs.Calls.{context_of, standing_line, refusal, served_on};
+ghost use Rattle.batch_plans.specs.Calls.{refusal_by, context_of, standing_line, refusal};
+ghost use Rattle.batch_plans.specs.Calls.{served_on};
 
 use crate::plan::{CallLine, ContextLine};
 use crate::replies::CallRefusal;
@@ -24,15 +25,25 @@ pub fn call_refusal(
     let Some((line, export_limit)) = standing_line(contexts, export_limits, context_of(call)) else {
         return Some(CallRefusal::NoContext);
     };
+    refusal_by(line.kind.role(), line.aead, export_limit, call)
+}
+
+/// Why a context of this role and cipher, which exports `export_limit` bytes at most, refuses a
+/// call that names it. Without a refusal the call is served.
+///
+/// The first cause that holds is answered, in the order of [`CallRefusal`]. Takes no memory.
+pub fn refusal_by(role: Role, aead: Aead, export_limit: u32, call: &CallLine) -> Option<CallRefusal>
+    ensures { result ≡ refusal_by role aead export_limit call.now }
+{
     match *call {
-        CallLine::Seal { .. } => seal_refusal(line.kind.role(), line.aead),
-        CallLine::Unseal { .. } => open_refusal(line.kind.role(), line.aead),
+        CallLine::Seal { .. } => seal_refusal(role, aead),
+        CallLine::Unseal { .. } | CallLine::UnsealAll { .. } => open_refusal(role, aead),
         CallLine::Export { size, .. } if size > export_limit => Some(CallRefusal::ExportSize),
         CallLine::Export { .. } => None,
     }
 }
 
-/// The number of the context that seals or opens the item of a call, where it is served.
+/// The number of the context that seals or opens the items of a call, where it is served.
 pub(crate) fn served_on(
     contexts: &[ContextLine],
     export_limits: &[u32],
@@ -43,7 +54,9 @@ pub(crate) fn served_on(
 {
     match *call {
         CallLine::Export { .. } => None,
-        CallLine::Seal { context, .. } | CallLine::Unseal { context, .. } => {
+        CallLine::Seal { context, .. }
+        | CallLine::Unseal { context, .. }
+        | CallLine::UnsealAll { context, .. } => {
             match call_refusal(contexts, export_limits, call) {
                 None => Some(context),
                 Some(_) => None,
@@ -52,12 +65,14 @@ pub(crate) fn served_on(
     }
 }
 
-fn context_of(call: &CallLine) -> u32
+/// CTX, the number of the context that a call names.
+pub fn context_of(call: &CallLine) -> u32
     ensures { result ≡ context_of call.now }
 {
     match *call {
         CallLine::Seal { context, .. }
         | CallLine::Unseal { context, .. }
+        | CallLine::UnsealAll { context, .. }
         | CallLine::Export { context, .. } => context,
     }
 }

@@ -5,19 +5,23 @@ ghost use Rattle.std.specs.Prelude.{replicate, sum_by, slice_index, IfOk};
 ghost use Rattle.std.specs.List.{range_with_len};
 ghost use Rattle.batch_plans.specs.Limits.{items_of, all_items};
 ghost use Rattle.batch_plans.specs.Calls.{items_on, all_items_on};
-ghost use Rattle.batch_plans.specs.Room.{blank_place, journal_room};
+ghost use Rattle.batch_plans.specs.Room.{blank_mark, journal_room};
 
 use crate::calls::served_on;
+use crate::items::items_of;
 use crate::lists::PlainList;
 use crate::plan::{CallLine, ContextLine, LaneLines};
 use crate::replies::JournalList;
-use call_places::Place;
+use call_places::{Mark, Place};
 use std::alloc::{AllocError, Global};
 
-const BLANK_PLACE: Place = Place {
-    lane: 0,
-    call: 0,
-    item: 0,
+const BLANK_MARK: Mark = Mark {
+    place: Place {
+        lane: 0,
+        call: 0,
+        item: 0,
+    },
+    stamp: 0,
 };
 
 // Adds the items of a call to the count of the context that serves it.
@@ -29,7 +33,7 @@ fn count_call(contexts: &[ContextLine], export_limits: &[u32], call: &CallLine, 
         ≡ slice_index counts.old k + items_on contexts.now export_limits.now k call.now }
 {
     if let Some(context) = served_on(contexts, export_limits, call) {
-        counts[context as usize] += 1;
+        counts[context as usize] += items_of(call);
     }
 }
 
@@ -70,11 +74,11 @@ fn counts_of(
     Ok(counts)
 }
 
-fn journal(alloc: Global, count: u32) -> Result<PlainList<Place>, AllocError>
-    ensures { IfOk result (λ journal. journal ≡ replicate count blank_place) }
+fn journal(alloc: Global, count: u32) -> Result<PlainList<Mark>, AllocError>
+    ensures { IfOk result (λ journal. journal ≡ replicate count blank_mark) }
 {
-    let places = vec![in alloc; BLANK_PLACE; count as usize]?;
-    Ok(PlainList::from_vec(places))
+    let marks = vec![in alloc; BLANK_MARK; count as usize]?;
+    Ok(PlainList::from_vec(marks))
 }
 
 /// The journals before the lanes are served. The calls are gone through once.

@@ -5,14 +5,16 @@
 //! `specs/Limits.antt` says what holds of every plan that a text spells.
 //!
 //! [`call_refusal`] tells which calls are served by the contexts that stand, as `refusal` of
-//! `specs/Calls.antt` defines it. [`Answers`] have room for all replies and journals before the
-//! first call is answered, by `specs/Room.antt`.
+//! `specs/Calls.antt` defines it. [`Answers`] have room for all replies, guesses and journals before
+//! the first call is answered, by `specs/Room.antt`, and a [`LaneProgress`] fills those of a lane
+//! by `specs/Progress.antt`.
 //!
 //! A contract sees each list as the list of its items. Which text spells a plan, how answers are
 //! printed, and what a call does that is served is not known here.
 #![tactic(auto)]
 
 mod calls;
+mod items;
 mod journals;
 pub mod limits;
 mod lists;
@@ -21,7 +23,8 @@ mod progress;
 mod replies;
 mod room;
 
-pub use calls::call_refusal;
+pub use calls::{call_refusal, context_of, refusal_by};
+pub use items::{items_from, items_of};
 pub use lists::PlainList;
 pub use plan::{
     ByteList, CallLine, ContextKind, ContextLine, ContextLines, EncField, ItemList, KeyLine,
@@ -29,6 +32,6 @@ pub use plan::{
 };
 pub use progress::LaneProgress;
 pub use replies::{
-    Answers, CallRefusal, ContextRefusal, ContextReplies, ContextReply, JournalList, KeyRefusal,
-    KeyReplies, KeyReply, LaneAnswerList, LaneAnswers, Reply, ReplyList,
+    Answers, Batch, BatchList, CallRefusal, ContextRefusal, ContextReplies, ContextReply,
+    JournalList, KeyRefusal, KeyReplies, KeyReply, LaneAnswerList, LaneAnswers, Reply, ReplyList,
 };

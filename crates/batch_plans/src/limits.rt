@@ -9,6 +9,12 @@ pub const MOST_KEYS: usize = 64;
 /// The context lines.
 pub const MOST_CONTEXTS: usize = 256;
 
+/// The lanes.
+pub const MOST_LANES: usize = 16;
+
+/// The items of one call that opens several.
+pub const MOST_OPENING: usize = 4_096;
+
 /// The items in all lanes.
 pub const MOST_ITEMS: usize = 65_536;
 

@@ -17,7 +17,7 @@ pub type KeyLines = PlainList<KeyLine>;
 /// The context lines of a batch, which are numbered from 0.
 pub type ContextLines = PlainList<ContextLine>;
 
-/// The items of the calls that have several.
+/// The items of all calls that open several, in the order of the text.
 pub type ItemList = PlainList<Item>;
 
 /// The lanes of a batch, each the list of its calls. Both are numbered from 0.
@@ -26,6 +26,8 @@ pub type LaneLines = PlainList<PlainList<CallLine>>;
 /// A whole batch, as its text spells it.
 #[derive(Drop)]
 pub struct Plan {
+    /// The version of the batch text, 1 or 2.
+    pub version: u8,
     /// The seed of all random bytes, where the batch gives one.
     pub seed: Option<[u8; 32]>,
     /// The bytes of all bytes fields, one after the other in the order of the text.
@@ -36,7 +38,7 @@ pub struct Plan {
     pub lanes: LaneLines,
 }
 
-/// A key pair of a KEM, or the public half of one.
+/// A key pair of a KEM, sntrup761 or sntrup857, or the public half of one.
 #[derive(Clone, Copy, Debug, PartialEq, Eq)]
 pub enum KeyLine {
     /// A pair made from the seed.
@@ -45,6 +47,12 @@ pub enum KeyLine {
     Secret(Span),
     /// Another's public key.
     Peer(Span),
+    /// A pair of sntrup857, made from the seed.
+    Generate857,
+    /// The pair of this private key of sntrup857.
+    Secret857(Span),
+    /// Another's public key of sntrup857.
+    Peer857(Span),
 }
 
 /// Where a recipient finds the encapsulation that it decapsulates.
@@ -106,6 +114,13 @@ pub enum CallLine {
     Unseal {
         context: u32,
         item: Item,
+    },
+    /// `ContextR.Open(aad, ct)` (RFC 9180, 5.2) of `count` of the plan's items from `first` on, one
+    /// after another.
+    UnsealAll {
+        context: u32,
+        first: u32,
+        count: u32,
     },
     /// `Context.Export(exporter_context, L)` (RFC 9180, 5.3), with `size` as L, in bytes.
     Export {

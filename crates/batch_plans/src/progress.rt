@@ -5,7 +5,7 @@ ghost use Rattle.std.specs.Borrow.{sem};
 ghost use Rattle.batch_plans.specs.Replies.{IsInRange, IsPrintable};
 
 use crate::lists::PlainList;
-use crate::replies::{LaneAnswers, Reply};
+use crate::replies::{Batch, LaneAnswers, Reply};
 use call_places::Span;
 use std::marker::Model;
 
@@ -14,16 +14,19 @@ use std::marker::Model;
 /// A reply with bytes first takes room for them, which lies behind the room of the replies before
 /// it; the bytes are written to that part of the pool, and then the reply is put behind those
 /// before it. The span of a reply that was put lies in the room that was taken by then, so what is
-/// written to room that is taken later changes no earlier reply.
+/// written to room that is taken later changes no earlier reply. Guesses stand in a list of their
+/// own.
 ///
-/// A contract sees the pool, how much of it is taken, the replies that were put, and how many are
-/// still to come. Nothing here takes memory.
+/// A contract sees the pool, how much of it is taken, the replies and the guesses that were put,
+/// and how many of each are still to come. Nothing here takes memory.
 #[derive(Drop)]
 pub struct LaneProgress {
     pool: Vec<u8>,
     taken: usize,
     replies: Vec<Reply>,
     replied: usize,
+    batches: Vec<Batch>,
+    guessed: usize,
 }
 
 impl Model for LaneProgress {
@@ -39,7 +42,7 @@ impl Model for LaneProgress {
 }
 
 impl LaneProgress {
-    ghost use Rattle.batch_plans.specs.Progress.{begun, with_room, with_reply};
+    ghost use Rattle.batch_plans.specs.Progress.{begun, with_room, with_reply, with_batch};
     ghost use Rattle.batch_plans.specs.Lending.{LendsPool};
 
     /// The answers of a lane before its first call.
@@ -47,12 +50,18 @@ impl LaneProgress {
         requires { length answers.pool < 2 ^ 32 }
         ensures { result ≡ begun answers }
     {
-        let LaneAnswers { pool, replies } = answers;
+        let LaneAnswers {
+            pool,
+            replies,
+            batches,
+        } = answers;
         LaneProgress {
             pool: pool.into_vec(),
             taken: 0,
             replies: replies.into_vec(),
             replied: 0,
+            batches: batches.into_vec(),
+            guessed: 0,
         }
     }
 
@@ -88,17 +97,34 @@ impl LaneProgress {
         self.replied += 1;
     }
 
-    /// The answers, when each reply was put.
+    /// Puts what the next opening of several messages guessed.
+    pub fn put_batch(&mut self, batch: Batch)
+        requires { 0 < self.old.batches_left }
+        ensures { self.new ≡ with_batch self.old batch }
+    {
+        self.batches[self.guessed] = batch;
+        self.guessed += 1;
+    }
+
+    /// The answers, when each reply and each guess was put.
     pub fn finish(self) -> LaneAnswers
-        requires { self.left ≡ 0 }
+        requires replies { self.left ≡ 0 }
+        requires batches { self.batches_left ≡ 0 }
         ensures pool { result.pool ≡ self.pool }
         ensures replies { result.replies ≡ self.replies }
+        ensures batches { result.batches ≡ self.batches }
         ensures printable { IsPrintable result }
     {
-        let LaneProgress { pool, replies, .. } = self;
+        let LaneProgress {
+            pool,
+            replies,
+            batches,
+            ..
+        } = self;
         LaneAnswers {
             pool: PlainList::from_vec(pool),
             replies: PlainList::from_vec(replies),
+            batches: PlainList::from_vec(batches),
         }
     }
 }

@@ -2,7 +2,7 @@
 
 use crate::lists::PlainList;
 use crate::plan::ByteList;
-use call_places::{Place, Span};
+use call_places::{Mark, Span};
 
 /// The replies to the key lines, in their order.
 pub type KeyReplies = PlainList<KeyReply>;
@@ -10,14 +10,19 @@ pub type KeyReplies = PlainList<KeyReply>;
 /// The replies to the context lines, in their order.
 pub type ContextReplies = PlainList<ContextReply>;
 
-/// The replies of a lane, in the order of its calls and of the items of each call.
+/// The replies of a lane, in the order of its calls and of the items of each call. A call that was
+/// refused has one.
 pub type ReplyList = PlainList<Reply>;
+
+/// What the openings of several messages of a lane guessed, in the order of its calls. One that was
+/// refused has none.
+pub type BatchList = PlainList<Batch>;
 
 /// The answers of the lanes, in their order.
 pub type LaneAnswerList = PlainList<LaneAnswers>;
 
 /// The journals of the contexts, in the order of the context lines.
-pub type JournalList = PlainList<PlainList<Place>>;
+pub type JournalList = PlainList<PlainList<Mark>>;
 
 /// The reply to a key line. A public and a secret key are in the encoding of the KEM.
 #[derive(Drop)]
@@ -110,17 +115,27 @@ pub enum Reply {
     Refused(CallRefusal),
 }
 
-/// What a lane is answered with: its replies, and the bytes that they name.
+/// What an opening of several messages guessed of its context.
+#[derive(Clone, Copy, Debug, PartialEq, Eq)]
+pub struct Batch {
+    /// The sequence number that it expected at its first message.
+    pub guess: u64,
+    /// How many of its messages had numbers that it hadn't tested.
+    pub missed: u32,
+}
+
+/// What a lane is answered with: its replies, the bytes that they name, and its guesses.
 #[derive(Drop)]
 pub struct LaneAnswers {
     pub pool: ByteList,
     pub replies: ReplyList,
+    pub batches: BatchList,
 }
 
 /// What a batch is answered with.
 ///
 /// A journal has the places of the seals and opens that its context served, in the order in which
-/// it served them; that of a refused context is empty.
+/// it served them, each with its stamp; that of a refused context is empty.
 #[derive(Drop)]
 pub struct Answers {
     pub keys: KeyReplies,

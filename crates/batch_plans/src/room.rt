@@ -1,92 +1,156 @@
 //! Room for the replies of a plan.
 
-ghost use Rattle.std.specs.Prelude.{◌≡◌, ◌<◌, ◌^◌, map, sum_by, IfOk};
-ghost use Rattle.batch_plans.specs.Limits.{IsWithinLimits};
-ghost use Rattle.batch_plans.specs.Room.{served_room, call_room, lane_room};
-ghost use Rattle.batch_plans.specs.Room.{room_for, most_room, all_most_room};
+ghost use Rattle.std.specs.Prelude.{◌≡◌, ◌<◌, ◌^◌, length, map, sum_by, IfOk};
+ghost use Rattle.batch_plans.specs.Limits.{IsCallWithin, IsWithinLimits};
+ghost use Rattle.batch_plans.specs.Room.{opened_room, served_room, served_batches};
+ghost use Rattle.batch_plans.specs.Room.{call_room, call_replies, call_batches, lane_room};
+ghost use Rattle.batch_plans.specs.Room.{room_for, most_room, IsLaneWithin};
 
 use crate::calls::call_refusal;
+use crate::items::{items_from, items_of};
 use crate::journals::journals_room;
 use crate::lists::PlainList;
-use crate::plan::{CallLine, ContextLine, LaneLines, Plan};
-use crate::replies::{Answers, ContextReplies, KeyReplies, LaneAnswerList, LaneAnswers, Reply};
+use crate::plan::{CallLine, Plan};
+use crate::replies::{
+    Answers, Batch, ContextReplies, KeyReplies, LaneAnswerList, LaneAnswers, Reply,
+};
+use call_places::Item;
 use std::alloc::{AllocError, Global};
 
 const TAG_SIZE: usize = 16;
 
-// The room of the reply to a call that is served.
-fn served_room(call: &CallLine) -> usize
-    ensures { result ≡ served_room call.now }
+const BLANK_BATCH: Batch = Batch {
+    guess: 0,
+    missed: 0,
+};
+
+// The room of the plaintext of an item.
+fn opened_room(item: &Item) -> usize
+    ensures { result ≡ opened_room item.now }
+{
+    (item.text.len as usize).saturating_sub(TAG_SIZE)
+}
+
+// The room of the plaintexts of an opening of several messages.
+fn opening_room(items: &[Item]) -> usize
+    requires { sum_by opened_room items.now < 2 ^ 32 }
+    ensures { result ≡ sum_by opened_room items.now }
+{
+    items.iter().map(opened_room).sum()
+}
+
+// The room of the replies to a call that is served.
+fn served_room(plan: &Plan, call: &CallLine) -> usize
+    requires within { IsCallWithin (length plan.now.items) (length plan.now.pool) call.now }
+    requires small { most_room plan.now.items call.now < 2 ^ 32 }
+    ensures { result ≡ served_room plan.now.items call.now }
 {
     match *call {
         CallLine::Seal { item, .. } => item.text.len as usize + TAG_SIZE,
-        CallLine::Unseal { item, .. } => (item.text.len as usize).saturating_sub(TAG_SIZE),
+        CallLine::Unseal { item, .. } => opened_room(&item),
+        CallLine::UnsealAll { first, count, .. } => {
+            opening_room(items_from(plan.items.as_slice(), first, count))
+        }
         CallLine::Export { size, .. } => size as usize,
     }
 }
 
-// The room of a call's reply.
-fn call_room(contexts: &[ContextLine], export_limits: &[u32], call: &CallLine) -> usize
-    ensures { result ≡ call_room contexts.now export_limits.now call.now }
+// How many guesses a call keeps that is served.
+fn served_batches(call: &CallLine) -> usize
+    ensures { result ≡ served_batches call.now }
 {
-    match call_refusal(contexts, export_limits, call) {
-        None => served_room(call),
-        Some(_) => 0,
+    match *call {
+        CallLine::UnsealAll { .. } => 1,
+        CallLine::Seal { .. } | CallLine::Unseal { .. } | CallLine::Export { .. } => 0,
     }
 }
 
-// The room of all replies of a lane.
-#[tactic(auto, using(crate::proofs::Rooms::room_facts))]
-fn room_of_calls(contexts: &[ContextLine], export_limits: &[u32], calls: &[CallLine]) -> usize
-    requires { sum_by most_room calls.now < 2 ^ 32 }
-    ensures { result ≡ sum_by (call_room contexts.now export_limits.now) calls.now }
+// How many bytes, replies and guesses some calls need.
+#[derive(Clone, Copy, Default)]
+struct Needs {
+    room: usize,
+    replies: usize,
+    batches: usize,
+}
+
+fn call_needs(plan: &Plan, export_limits: &[u32], call: &CallLine) -> Needs
+    requires within { IsCallWithin (length plan.now.items) (length plan.now.pool) call.now }
+    requires small { most_room plan.now.items call.now < 2 ^ 32 }
+    ensures room { result.room ≡ call_room plan.now export_limits.now call.now }
+    ensures replies { result.replies ≡ call_replies plan.now export_limits.now call.now }
+    ensures batches { result.batches ≡ call_batches plan.now export_limits.now call.now }
 {
-    let mut room = 0;
-    'calls: for call in calls {
-        room += call_room(contexts, export_limits, call);
+    match call_refusal(plan.contexts.as_slice(), export_limits, call) {
+        None => Needs {
+            room: served_room(plan, call),
+            replies: items_of(call) as usize,
+            batches: served_batches(call),
+        },
+        Some(_) => Needs {
+            room: 0,
+            replies: 1,
+            batches: 0,
+        },
     }
-    room
+}
+
+#[tactic(auto, using(crate::proofs::Rooms::needs_facts))]
+fn lane_needs(plan: &Plan, export_limits: &[u32], calls: &[CallLine]) -> Needs
+    requires { IsLaneWithin plan.now calls.now }
+    ensures room { result.room ≡ sum_by (call_room plan.now export_limits.now) calls.now }
+    ensures replies { result.replies ≡ sum_by (call_replies plan.now export_limits.now) calls.now }
+    ensures batches { result.batches ≡ sum_by (call_batches plan.now export_limits.now) calls.now }
+{
+    let mut needs = Needs::default();
+    'calls: for call in calls {
+        let more = call_needs(plan, export_limits, call);
+        needs.room += more.room;
+        needs.replies += more.replies;
+        needs.batches += more.batches;
+    }
+    needs
 }
 
 fn lane_room(
     alloc: Global,
-    contexts: &[ContextLine],
+    plan: &Plan,
     export_limits: &[u32],
     calls: &[CallLine],
 ) -> Result<LaneAnswers, AllocError>
-    requires { sum_by most_room calls.now < 2 ^ 32 }
-    ensures { IfOk result (λ lane. lane ≡ lane_room contexts.now export_limits.now calls.now) }
+    requires { IsLaneWithin plan.now calls.now }
+    ensures { IfOk result (λ lane. lane ≡ lane_room plan.now export_limits.now calls.now) }
 {
-    let pool = vec![in alloc; 0u8; room_of_calls(contexts, export_limits, calls)]?;
-    let replies = vec![in alloc; Reply::Blank; calls.len()]?;
+    let needs = lane_needs(plan, export_limits, calls);
+    let pool = vec![in alloc; 0u8; needs.room]?;
+    let replies = vec![in alloc; Reply::Blank; needs.replies]?;
+    let batches = vec![in alloc; BLANK_BATCH; needs.batches]?;
     Ok(LaneAnswers {
         pool: PlainList::from_vec(pool),
         replies: PlainList::from_vec(replies),
+        batches: PlainList::from_vec(batches),
     })
 }
 
-#[tactic(auto, using(crate::proofs::Rooms::room_facts))]
 fn lanes_room(
     alloc: Global,
-    contexts: &[ContextLine],
+    plan: &Plan,
     export_limits: &[u32],
-    lanes: &LaneLines,
 ) -> Result<LaneAnswerList, AllocError>
-    requires { all_most_room lanes.now < 2 ^ 32 }
+    requires { IsWithinLimits plan.now }
     ensures { IfOk result (λ rooms.
-        rooms ≡ map (lane_room contexts.now export_limits.now) lanes.now) }
+        rooms ≡ map (lane_room plan.now export_limits.now) plan.now.lanes) }
 {
     let mut rooms = Vec::new(alloc);
-    'lanes: for calls in lanes.as_slice() {
-        rooms.push(lane_room(alloc, contexts, export_limits, calls.as_slice())?)?;
+    'lanes: for calls in plan.lanes.as_slice() {
+        rooms.push(lane_room(alloc, plan, export_limits, calls.as_slice())?)?;
     }
     Ok(PlainList::from_vec(rooms))
 }
 
 impl Answers {
-    /// The answers of a plan before its lanes are served: each reply is `Blank`, each place of a
-    /// journal is 0 in all three numbers, and all room that replies and journals will need is
-    /// taken.
+    /// The answers of a plan before its lanes are served: each reply is `Blank`, each guess and each
+    /// mark of a journal is 0 in all its numbers, and all room that replies, guesses and journals
+    /// will need is taken.
     ///
     /// `keys` and `contexts` are the replies of the set-up. `export_limits` has for each context
     /// the most bytes that it exports, 255·Nh (RFC 9180, 5.3), and 0 where it was refused. Takes
@@ -102,9 +166,8 @@ impl Answers {
         ensures { IfOk result (λ answers.
             answers ≡ room_for plan.now keys contexts export_limits.now) }
     {
-        let lines = plan.contexts.as_slice();
-        let lanes = lanes_room(alloc, lines, export_limits, &plan.lanes)?;
-        let journals = journals_room(alloc, lines, export_limits, &plan.lanes)?;
+        let lanes = lanes_room(alloc, plan, export_limits)?;
+        let journals = journals_room(alloc, plan.contexts.as_slice(), export_limits, &plan.lanes)?;
         Ok(Answers {
             keys,
             contexts,

@@ -1,9 +1,2 @@
-pub mod Begins
-pub mod Here
-pub mod Lanes
-pub mod Loops
-pub mod Served
-pub mod Single
-pub mod Stands
-pub mod Texts
 pub mod Whole
+pub mod Texts

@@ -1,35 +1,53 @@
--- The text of the answers to a plan.
-use Rattle.std.proofs.Common.{◌≡◌, ◌≤◌, List, [], ◌++◌, length, map, take, ap, ◌∙◌, append-nil, arith}
-use Rattle.std.specs.List.{refill}
-use Rattle.std.proofs.lemmas.List.{drop_all, take_all}
+-- Answers that are those of a rehearsal have its text.
+use Rattle.std.proofs.Common.{◌≡◌, ℕ, List, Option, subst}
+use Rattle.std.specs.List.{concat}
+use Rattle.hpke_context.specs.Contexts.{ContextView}
 use Rattle.batch_plans.specs.declared.plan.Plan.{Plan}
+use Rattle.batch_plans.specs.declared.replies.KeyReply.{KeyReply}
+use Rattle.batch_plans.specs.declared.replies.ContextReply.{ContextReply}
 use Rattle.batch_plans.specs.declared.replies.Answers.{Answers}
-use Rattle.request_frames.specs.ReplyText.{answers_text, lane_replies}
-use Rattle.batch_runner.specs.SetUp.{contexts_of, context_reply}
-use Rattle.batch_runner.specs.Text.{plan_text, all_lane_lines, IsReply}
-use Rattle.batch_runner.specs.Serving.{journals_of}
-use Rattle.batch_runner.proofs.Begins.{all_legal}
+use Rattle.batch_plans.specs.Limits.{IsWithinLimits}
+use Rattle.reply_texts.specs.ReplyText.{reply_lines, answers_text}
+use Rattle.due_replies.specs.Standing.{AreOfLines}
+use Rattle.due_replies.specs.Runs.{run_text}
+use Rattle.context_table.specs.SetUp.{IsSetUp}
+use Rattle.context_core.specs.Rehearsals.{rehearsed, AreAnswersOf}
+use Rattle.context_core.proofs.Allowed.{allowed}
+use Rattle.batch_runner.specs.Text.{IsReply, IsRehearsal}
 
--- a list that was written over as a whole
-pub refill_all : {X : Type 0} (xs ys : List X) → length ys ≡ length xs → refill (length xs) xs ys ≡ ys
-refill_all xs ys same =
-    ap (λ zs. take (length xs) (ys ++ zs)) (drop_all (length ys) xs (omega (arith, same)))
-    ∙ ap (take (length xs)) (append-nil ys)
-    ∙ take_all (length xs) ys (omega (arith, same))
+-- keys and contexts are answered as the set-up says, and the lanes as the rehearsal over its contexts
+pub record IsRehearsed (plan : Plan) (keys : List KeyReply) (contexts : List ContextReply)
+    (standing : List (Option ContextView)) (schedule : List ℕ) (answers : Answers) : Type 0 where
+  pub set_up : IsSetUp plan keys contexts standing
+  pub lines : AreOfLines plan.contexts standing
+  pub lanes : AreAnswersOf (rehearsed plan standing schedule) answers
+  pub keys_are : answers.keys ≡ keys
+  pub contexts_are : answers.contexts ≡ contexts
 
-text_parts : (plan : Plan) (answers : Answers)
-    → answers.keys ≡ [] → answers.contexts ≡ map context_reply (contexts_of plan)
-    → map lane_replies answers.lanes ≡ all_lane_lines plan (journals_of plan) 0 plan.lanes
-    → answers.journals ≡ journals_of plan
-    → answers_text answers ≡ plan_text plan (journals_of plan)
-unfolding plan_text
-text_parts plan answers keys replies lanes journals = cc
+module _ (plan : Plan) (keys : List KeyReply) (contexts : List ContextReply)
+    (standing : List (Option ContextView)) (schedule : List ℕ) (answers : Answers)
+    (t : IsRehearsed plan keys contexts standing schedule answers) where
+  text : answers_text plan answers ≡ run_text keys contexts (rehearsed plan standing schedule)
+  text = λ i. concat (reply_lines plan.version (t.keys_are i) (t.contexts_are i) (t.lanes.lanes i)
+      (t.lanes.journals i))
 
--- the text of answers whose parts are those of the plan
-pub is_reply : (plan : Plan) (answers : Answers) → length plan.lanes ≤ 1
-    → answers.keys ≡ [] → answers.contexts ≡ map context_reply (contexts_of plan)
-    → map lane_replies answers.lanes ≡ all_lane_lines plan (journals_of plan) 0 plan.lanes
-    → answers.journals ≡ journals_of plan
-    → IsReply plan (answers_text answers)
-is_reply plan answers few keys replies lanes journals =
-    (journals_of plan, all_legal plan few, text_parts plan answers keys replies lanes journals)
+  pub is_rehearsal : IsRehearsal plan schedule (answers_text plan answers)
+  is_rehearsal = record {
+    keys = keys;
+    contexts = contexts;
+    standing = standing;
+    set_up = t.set_up;
+    text_is = text;
+  }
+
+  pub is_reply : IsWithinLimits plan → IsReply plan (answers_text plan answers)
+  is_reply within = record {
+    keys = keys;
+    contexts = contexts;
+    standing = standing;
+    set_up = t.set_up;
+    journals = (rehearsed plan standing schedule).journals;
+    guesses = (rehearsed plan standing schedule).guesses;
+    allowed = allowed plan standing schedule within t.lines;
+    text_is = text;
+  }

@@ -1,51 +1,64 @@
--- The text that a run writes.
-use Rattle.std.specs.Prelude.{◌≡◌, ℕ, ◌+◌, ◌<◌, List, [], ◌∷◌, map, length, Result, Ok, Err}
-use Rattle.call_places.specs.declared.entries.Place.{Place}
-use Rattle.legal_journals.specs.Legal.{Legal}
-use Rattle.batch_plans.specs.declared.plan.Plan.{Plan}
-use Rattle.batch_plans.specs.declared.plan.CallLine.{CallLine}
+-- The text that a command writes for an input.
+use Rattle.std.specs.Prelude.{◌≡◌, ℕ, List, Option, Result, Ok, Err}
+use Rattle.call_places.specs.declared.entries.Mark.{Mark}
 use Rattle.field_text.specs.declared.faults.BadBatch.{BadBatch}
+use Rattle.hpke_context.specs.Contexts.{ContextView}
+use Rattle.batch_plans.specs.declared.plan.Plan.{Plan}
+use Rattle.batch_plans.specs.declared.replies.KeyReply.{KeyReply}
+use Rattle.batch_plans.specs.declared.replies.ContextReply.{ContextReply}
+use Rattle.reply_texts.specs.ReplyText.{bad_text}
 use Rattle.request_frames.specs.Batch.{batch}
-use Rattle.request_frames.specs.ReplyText.{numbered, reply_text, bad_text}
-use Rattle.batch_runner.specs.SetUp.{contexts_of, context_reply}
-use Rattle.batch_runner.specs.Calls.{batch_of, journal_at, call_line}
+use Rattle.due_replies.specs.Runs.{Run, IsAllowed, run_text}
+use Rattle.context_table.specs.SetUp.{IsSetUp}
+use Rattle.context_core.specs.Rehearsals.{rehearsed}
+use Rattle.batch_words.specs.declared.commands.Command.{Command}
+use Rattle.batch_words.specs.declared.commands.Command.TheVariants as commands
 
--- ---- the replies to a plan
+-- ---- the reply to a plan
 
--- the reply lines of a lane
-abbrev pub lane_lines : Plan → List (List Place) → ℕ → List CallLine → List ℕ
-lane_lines plan journals lane calls = numbered (call_line plan journals lane) 0 calls
+-- `run`: the text replies to the plan's set-up, and to its calls along journals and guesses, which it
+-- prints. The journals are legal, and each guess may have been made.
+pub record IsReply (plan : Plan) (text : List ℕ) : Type 0 where
+  pub keys : List KeyReply
+  pub contexts : List ContextReply
+  pub standing : List (Option ContextView)
+  pub set_up : IsSetUp plan keys contexts standing
+  pub journals : List (List Mark)
+  pub guesses : List (List ℕ)
+  pub allowed : IsAllowed (record {
+    plan = plan;
+    contexts = standing;
+    journals = journals;
+    guesses = guesses;
+  })
+  pub text_is : text ≡ run_text keys contexts (record {
+    plan = plan;
+    contexts = standing;
+    journals = journals;
+    guesses = guesses;
+  })
 
--- those of all lanes, from this lane on
-unfoldable pub all_lane_lines : Plan → List (List Place) → ℕ → List (List CallLine) → List (List ℕ)
-all_lane_lines plan journals lane [] = []
-all_lane_lines plan journals lane (calls ∷ more) =
-    lane_lines plan journals lane calls ∷ all_lane_lines plan journals (lane + 1) more
+-- `rehearse`: the text replies to the plan's set-up, and to its calls where the lanes take their steps
+-- by this schedule. A plan has one set-up, so it has one such text.
+pub record IsRehearsal (plan : Plan) (schedule text : List ℕ) : Type 0 where
+  pub keys : List KeyReply
+  pub contexts : List ContextReply
+  pub standing : List (Option ContextView)
+  pub set_up : IsSetUp plan keys contexts standing
+  pub text_is : text ≡ run_text keys contexts (rehearsed plan standing schedule)
 
--- The reply text of a plan with these journals, one for each context: its set-up, its calls, each
--- answered at its place in its journal, and the journals.
-unfoldable pub plan_text : Plan → List (List Place) → List ℕ
-plan_text plan journals =
-    reply_text [] (map context_reply (contexts_of plan)) (all_lane_lines plan journals 0 plan.lanes)
-    journals
-
--- each context has a legal journal; that of one that was refused is empty
-pub record AreLegal (plan : Plan) (journals : List (List Place)) : Type 0 where
-  pub count : length journals ≡ length plan.contexts
-  pub legal : (context : ℕ) → context < length plan.contexts → Legal (batch_of plan) context (journal_at journals context)
-
--- the text replies to the plan: it is that of legal journals
-abbrev pub IsReply : Plan → List ℕ → Type 0
-IsReply plan text =
-    (journals : List (List Place)) × AreLegal plan journals × (text ≡ plan_text plan journals)
+-- a command replies to the plan by this text
+abbrev pub IsReplyBy : Command → Plan → List ℕ → Type 0
+IsReplyBy (commands.Run workers mult) plan text = IsReply plan text
+IsReplyBy (commands.Rehearse schedule) plan text = IsRehearsal plan schedule text
 
 -- ---- the text that is due
 
 -- the replies to a plan, or the first bad line
-abbrev pub IsDueFor : Result Plan BadBatch → List ℕ → Type 0
-IsDueFor (Ok plan) text = IsReply plan text
-IsDueFor (Err bad) text = text ≡ bad_text bad
+abbrev pub IsDueFor : Command → Result Plan BadBatch → List ℕ → Type 0
+IsDueFor command (Ok plan) text = IsReplyBy command plan text
+IsDueFor command (Err bad) text = text ≡ bad_text bad
 
--- the text may be written for this input
-abbrev pub IsDue : List ℕ → List ℕ → Type 0
-IsDue input text = IsDueFor (batch input) text
+-- the command may write the text for this input
+abbrev pub IsDue : Command → List ℕ → List ℕ → Type 0
+IsDue command input text = IsDueFor command (batch input) text

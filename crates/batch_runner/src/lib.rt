@@ -2,11 +2,11 @@
 //!
 //! [`serve_words`] reads a batch from a [`Source`](batch_io::Source) and writes one text to a
 //! [`Sink`](batch_io::Sink). The order of work is: the words; reading; the grammar; the set-up of
-//! the contexts (RFC 9180, 5.1); taking all memory for the replies and the journals; the calls
-//! (RFC 9180, 5.2 and 5.3), the lanes one after another; writing. The text is one that `IsDue` of
-//! `specs/Text.antt` allows for the input: the replies to the batch, each seal and each opening
-//! answered as the sequential context answers at its place in its context's journal, and those
-//! journals, which are legal.
+//! keys and contexts (RFC 9180, 5.1); taking all memory for the replies and the journals; the calls
+//! (RFC 9180, 5.2 and 5.3); writing. The text is one that `IsDue` of `specs/Text.antt` allows for
+//! the command and the input: the replies to the batch, each seal and each opening answered as the
+//! sequential context answers at its place in its context's journal, and those journals, which are
+//! legal.
 //!
 //! A contract sees the two ends as the bytes that they tell and as their counts of faults. Each
 //! [`Outcome`] has its cause there, and want of memory alone is free. What standard input and
@@ -16,13 +16,12 @@
 mod answering;
 mod outcomes;
 mod reading;
-mod replies;
 mod serving;
-mod set_up;
-mod standing;
 
 pub use outcomes::{Outcome, status};
 pub use serving::{serve_pure, serve_words};
 
+#[cfg(test)]
+mod runs;
 #[cfg(test)]
 mod tests;

@@ -9,71 +9,45 @@ ghost use Rattle.field_text.specs.declared.reasons.Reason.{Reason};
 ghost use Rattle.field_text.specs.Printing.{AppendsPrefix};
 ghost use Rattle.request_frames.specs.Batch.{Spells, BadAt, batch};
 ghost use Rattle.batch_plans.specs.Limits.{IsWithinLimits};
-ghost use Rattle.request_frames.specs.ReplyText.{answers_text, bad_text, IsAnswered};
+ghost use Rattle.reply_texts.specs.ReplyText.{answers_text, bad_text};
 ghost use Rattle.batch_runner.specs.Input.{IsInput, input_limit};
 ghost use Rattle.batch_runner.specs.Outcomes.{outcome_for};
-ghost use Rattle.batch_runner.specs.Text.{IsReply, IsDue};
+ghost use Rattle.batch_runner.specs.Text.{IsReplyBy, IsDue};
+ghost use Rattle.batch_words.specs.declared.commands.Command.{Command as Command_};
 ghost use Rattle.batch_words.specs.Words.{command_of};
 
-use crate::answering::Service;
+use crate::answering::answers_to;
 use crate::outcomes::Outcome;
 use crate::reading::{ReadStop, read_input};
-use crate::set_up::{context_replies, export_limits, set_up};
-use crate::standing::all_begun;
-use aes_gcm::Checks;
 use batch_io::{Gate, PureSink, PureSource, Sink, Source};
 use batch_words::{Command, read_words};
 use request_frames::{
-    Answers, BadBatch, PlainList, Plan, Printed, ReadBatchFault, print_answers, print_bad,
-    read_batch,
+    BadBatch, Plan, Printed, ReadBatchFault, print_answers, print_bad, read_batch,
 };
-use std::alloc::{AllocError, Global};
+use std::alloc::Global;
 use std::sync::Wait;
 use std::thread::Threads;
 
-// The answers to a plan. All memory is taken before the first call is answered.
-fn answers_to(alloc: Global, plan: &Plan, checks: Checks) -> Result<Answers, AllocError>
-    requires within { IsWithinLimits plan.now }
-    requires keyless { plan.now.keys ≡ [] }
-    requires count { checks ≡ 0 }
-    ensures text { IfOk result (λ answers. IsReply plan.now (answers_text answers)) }
-    ensures answered { IfOk result (IsAnswered plan.now) }
-{
-    let contexts = set_up(alloc, plan)?;
-    let replies = context_replies(alloc, &contexts)?;
-    let limits = export_limits(alloc, &contexts)?;
-    let slots = all_begun(alloc, contexts)?;
-    let keys = PlainList::from_vec(Vec::new(alloc));
-    let mut answers = Answers::for_plan(alloc, plan, keys, replies, &limits)?;
-    let mut service = Service {
-        plan,
-        export_limits: &limits,
-        slots,
-        journals: answers.journals.into_vec(),
-        filled: 0,
-        checks,
-    };
-    service.answer_lanes(answers.lanes.as_mut_slice());
-    answers.journals = PlainList::from_vec(service.journals);
-    Ok(answers)
-}
-
 // Writes the replies to a plan.
-fn reply_to<K: Sink>(alloc: Global, plan: &Plan, checks: Checks, sink: &mut K) -> Outcome
-    requires within { IsWithinLimits plan.now }
-    requires keyless { plan.now.keys ≡ [] }
-    requires count { checks ≡ 0 }
+fn reply_to<R: Threads + Sync, K: Sink>(
+    rt: &R,
+    alloc: Global,
+    plan: &Plan,
+    command: &Command,
+    sink: &mut K,
+) -> Outcome
+    requires { IsWithinLimits plan.now }
     ensures outcomes { (result ≡ Outcome.Done) ⊎ (result ≡ Outcome.WriteFault)
         ⊎ (result ≡ Outcome.OutOfMemory) }
-    ensures done { result ≡ Outcome.Done → (text : List ℕ) × IsReply plan.now text
+    ensures done { result ≡ Outcome.Done → (text : List ℕ) × IsReplyBy command.now plan.now text
         × Appends (K.written sink.old) (K.written sink.new) text }
-    ensures cut { result ≡ Outcome.WriteFault → (text : List ℕ) × IsReply plan.now text
+    ensures cut { result ≡ Outcome.WriteFault → (text : List ℕ) × IsReplyBy command.now plan.now text
         × AppendsPrefix (K.written sink.old) (K.written sink.new) text }
     ensures failed { result ≡ Outcome.WriteFault → Rose (K.faults sink.old) (K.faults sink.new) }
     ensures no_fault { result ≢ Outcome.WriteFault → K.faults sink.new ≡ K.faults sink.old }
     ensures unwritten { result ≡ Outcome.OutOfMemory → sink.new ≡ sink.old }
 {
-    let Ok(answers) = answers_to(alloc, plan, checks) else {
+    let Ok(answers) = answers_to(rt, alloc, plan, command) else {
         return Outcome::OutOfMemory;
     };
     match print_answers(plan, &answers, sink) {
@@ -103,20 +77,27 @@ fn tell_bad<K: Sink>(bad: &BadBatch, sink: &mut K) -> Outcome
 }
 
 // Writes a text that is due for an input.
-fn answer_input<K: Sink>(alloc: Global, input: &[u8], checks: Checks, sink: &mut K) -> Outcome
-    requires { checks ≡ 0 }
+fn answer_input<R: Threads + Sync, K: Sink>(
+    rt: &R,
+    alloc: Global,
+    input: &[u8],
+    command: &Command,
+    sink: &mut K,
+) -> Outcome
     ensures outcomes { (result ≡ outcome_for (batch input.now)) ⊎ (result ≡ Outcome.WriteFault)
         ⊎ (result ≡ Outcome.OutOfMemory) }
-    ensures whole { result ≡ outcome_for (batch input.now) → (text : List ℕ) × IsDue input.now text
+    ensures whole { result ≡ outcome_for (batch input.now) → (text : List ℕ)
+        × IsDue command.now input.now text
         × Appends (K.written sink.old) (K.written sink.new) text }
-    ensures cut { result ≡ Outcome.WriteFault → (text : List ℕ) × IsDue input.now text
+    ensures cut { result ≡ Outcome.WriteFault → (text : List ℕ)
+        × IsDue command.now input.now text
         × AppendsPrefix (K.written sink.old) (K.written sink.new) text }
     ensures failed { result ≡ Outcome.WriteFault → Rose (K.faults sink.old) (K.faults sink.new) }
     ensures no_fault { result ≢ Outcome.WriteFault → K.faults sink.new ≡ K.faults sink.old }
     ensures unwritten { result ≡ Outcome.OutOfMemory → sink.new ≡ sink.old }
 {
     match read_batch(alloc, input) {
-        Ok(plan) => reply_to(alloc, &plan, checks, sink),
+        Ok(plan) => reply_to(rt, alloc, &plan, command, sink),
         Err(fault) => match fault {
             ReadBatchFault::Bad(bad) => tell_bad(&bad, sink),
             ReadBatchFault::OutOfMemory => Outcome::OutOfMemory,
@@ -124,22 +105,27 @@ fn answer_input<K: Sink>(alloc: Global, input: &[u8], checks: Checks, sink: &mut
     }
 }
 
-// The command `run`: reads a batch and answers it.
-fn run<S: Source, K: Sink>(alloc: Global, source: &mut S, sink: &mut K, checks: Checks) -> Outcome
-    requires { checks ≡ 0 }
+// Reads a batch and answers it by a command.
+fn answer<R: Threads + Sync, S: Source, K: Sink>(
+    rt: &R,
+    alloc: Global,
+    command: &Command,
+    source: &mut S,
+    sink: &mut K,
+) -> Outcome
     ensures usage { result ≢ Outcome.Usage }
     ensures done { result ≡ Outcome.Done → (input : List ℕ)
         × IsInput (S.left source.old) (S.left source.new) input × IsOk (batch input)
-        × (text : List ℕ) × IsDue input text
+        × (text : List ℕ) × IsDue command.now input text
         × Appends (K.written sink.old) (K.written sink.new) text }
     ensures bad { (line : ℕ) (reason : Reason) → result ≡ Outcome.BadBatch line reason
         → (input : List ℕ) × IsInput (S.left source.old) (S.left source.new) input
         × BadAt input line reason
-        × (text : List ℕ) × IsDue input text
+        × (text : List ℕ) × IsDue command.now input text
         × Appends (K.written sink.old) (K.written sink.new) text }
     ensures cut { result ≡ Outcome.WriteFault → (input : List ℕ)
         × IsInput (S.left source.old) (S.left source.new) input
-        × (text : List ℕ) × IsDue input text
+        × (text : List ℕ) × IsDue command.now input text
         × AppendsPrefix (K.written sink.old) (K.written sink.new) text }
     ensures unwritten { (result ≡ Outcome.ReadFault) ⊎ (result ≡ Outcome.OutOfMemory)
         → sink.new ≡ sink.old }
@@ -159,7 +145,7 @@ fn run<S: Source, K: Sink>(alloc: Global, source: &mut S, sink: &mut K, checks: 
         → (result ≡ outcome_for (batch input)) ⊎ (result ≡ Outcome.OutOfMemory) }
 {
     match read_input(alloc, source) {
-        Ok(input) => answer_input(alloc, &input, checks, sink),
+        Ok(input) => answer_input(rt, alloc, &input, command, sink),
         Err(ReadStop::Fault) => Outcome::ReadFault,
         Err(ReadStop::OutOfMemory) => Outcome::OutOfMemory,
     }
@@ -169,11 +155,12 @@ fn run<S: Source, K: Sink>(alloc: Global, source: &mut S, sink: &mut K, checks: 
 /// `sink`, and tells how the run ended. `words` doesn't hold the program's name.
 ///
 /// The command grammar is `command_of` of batch_words. A text is due where `IsDue` of
-/// `specs/Text.antt` says so: the replies to the batch with legal journals of its contexts, which
-/// the text itself prints, or the first bad line of the input. At most 67,108,865 bytes are taken,
-/// each turn of the reading takes one at least, and all memory that the answers need is taken
-/// before the first call is answered. The lanes are served one after another, however many workers
-/// the words ask for, and `gate` is told nothing.
+/// `specs/Text.antt` says so: for `run` the replies to the batch along legal journals of its
+/// contexts, which the text itself prints; for `rehearse` the replies along the journals of its
+/// schedule; and for either the first bad line of an input that is no batch. At most 67,108,865
+/// bytes are taken, each turn of the reading takes one at least, and all memory that the answers
+/// need is taken before the first call is answered. `run` serves the lanes one after another,
+/// however many workers the words ask for, and `gate` is told nothing.
 ///
 /// The input is what the source tells, and the text written what the sink tells; over ends that
 /// tell nothing the clauses speak of the outcomes and the counts of faults alone.
@@ -191,18 +178,20 @@ pub fn serve_words<R: Threads + Wait + Sync, S: Source, K: Sink, G: Gate + Sync>
         → (source.new ≡ source.old) × (sink.new ≡ sink.old) }
 
     // What was written, for the input that was read.
-    ensures done { result ≡ Outcome.Done → (input : List ℕ)
+    ensures done { result ≡ Outcome.Done → (command : Command_)
+        × (command_of (map string_bytes words.now) ≡ Some command) × (input : List ℕ)
         × IsInput (S.left source.old) (S.left source.new) input × IsOk (batch input)
-        × (text : List ℕ) × IsDue input text
+        × (text : List ℕ) × IsDue command input text
         × Appends (K.written sink.old) (K.written sink.new) text }
     ensures bad { (line : ℕ) (reason : Reason) → result ≡ Outcome.BadBatch line reason
         → (input : List ℕ) × IsInput (S.left source.old) (S.left source.new) input
         × BadAt input line reason
-        × (text : List ℕ) × IsDue input text
-        × Appends (K.written sink.old) (K.written sink.new) text }
-    ensures cut { result ≡ Outcome.WriteFault → (input : List ℕ)
+        × Appends (K.written sink.old) (K.written sink.new)
+        (bad_text (record { line = line; reason = reason })) }
+    ensures cut { result ≡ Outcome.WriteFault → (command : Command_)
+        × (command_of (map string_bytes words.now) ≡ Some command) × (input : List ℕ)
         × IsInput (S.left source.old) (S.left source.new) input
-        × (text : List ℕ) × IsDue input text
+        × (text : List ℕ) × IsDue command input text
         × AppendsPrefix (K.written sink.old) (K.written sink.new) text }
     ensures unwritten { (result ≡ Outcome.ReadFault) ⊎ (result ≡ Outcome.OutOfMemory)
         → sink.new ≡ sink.old }
@@ -229,7 +218,7 @@ pub fn serve_words<R: Threads + Wait + Sync, S: Source, K: Sink, G: Gate + Sync>
         → (result ≡ outcome_for (batch input)) ⊎ (result ≡ Outcome.OutOfMemory) }
 {
     match read_words(alloc, words) {
-        Ok(Some(Command::Run { .. })) => run(alloc, source, sink, Checks::new(rt)),
+        Ok(Some(command)) => answer(rt, alloc, &command, source, sink),
         Ok(None) => Outcome::Usage,
         Err(_) => Outcome::OutOfMemory,
     }

@@ -1,5 +1,6 @@
-//! Whole runs over memory. The replies come from RFC 9180's vectors and from the formats' tables.
+//! Whole runs over memory.
 
+use crate::runs::{BAD, EXCHANGES, RUNS, SCHEDULED};
 use crate::{Outcome, serve_pure, serve_words, status};
 use batch_io::{FreeGate, MemorySink, MemorySource, PureSink, PureSource};
 use request_frames::Reason;
@@ -7,200 +8,6 @@ use std::alloc::Global;
 use std::sync::Wait;
 use std::test::Fail;
 use std::thread::Threads;
-
-// A whole batch over a source that gives `step` bytes a call, and the text that it is answered.
-struct Run {
-    source: &'static str,
-    input: &'static str,
-    step: usize,
-    reply: &'static str,
-}
-
-const RUNS: [Run; 13] = [
-    Run {
-        source: "own: the shortest batch, a byte a call",
-        input: "hpkebatch 1\nend\n",
-        step: 1,
-        reply: "hpkebatch 1\nend\n",
-    },
-    Run {
-        source: "RFC 9180, A.1.1.1, sequence numbers 0 and 1",
-        input: "hpkebatch 1\nshare send 32 1 1 fe0e18c9f024ce43799ae393c7e8fe8fce9d218875e8227b0187c04e7d2ea1fc base 4f6465206f6e2061204772656369616e2055726e - - 2\nlane\nseal 0 436f756e742d30 4265617574792069732074727574682c20747275746820626561757479\nseal 0 436f756e742d31 4265617574792069732074727574682c20747275746820626561757479\nend\n",
-        step: 3,
-        reply: "hpkebatch 1\ncontext 0 shared\nlane 0\nsealed 0 f938558b5d72f1a23810b4be2ab4f84331acc02fc97babc53a52ae8218a355a96d8770ac83d07bea87e13c512a\nsealed 1 af2d7e9ac9ae7e270f46ba1f975be53c09f8d875bdc8535458c2494e8a6eab251c03d0c22a56b8ca42c2063b84\njournal 0\n0 0 0\n0 1 0\nend\n",
-    },
-    Run {
-        source: "RFC 9180, A.1.1.2",
-        input: "hpkebatch 1\nshare send 32 1 1 fe0e18c9f024ce43799ae393c7e8fe8fce9d218875e8227b0187c04e7d2ea1fc base 4f6465206f6e2061204772656369616e2055726e - - 1\nlane\nexport 0 - 32\nexport 0 00 32\nexport 0 54657374436f6e74657874 32\nend\n",
-        step: 3,
-        reply: "hpkebatch 1\ncontext 0 shared\nlane 0\nexported 3853fe2b4035195a573ffc53856e77058e15d9ea064de3e59f4961d0095250ee\nexported 2e8f0b54673c7029649d4eb9d5e33bf1872cf76d623ff164ac185da9e88c21a5\nexported e9e43065102c3836401bed8c3c3c75ae46be1639869391d62c61f1ec7af54931\njournal 0\nend\n",
-    },
-    Run {
-        source: "the key and base_nonce of RFC 9180, A.1.2, under Python's cryptography 48.0.0, \
-            and the exports of A.1.2.2, by the recipient",
-        input: "hpkebatch 1\nshare recv 32 1 1 727699f009ffe3c076315019c69648366b69171439bd7dd0807743bde76986cd psk 4f6465206f6e2061204772656369616e2055726e 0247fd33b913760fa1fa51e1892d9f307fbe65eb171e8132c2af18555a738b82 456e6e796e20447572696e206172616e204d6f726961 9\nlane\nunseal 0 436f756e742d30 e52c6fed7f758d0cf7145689f21bc1be6ec9ea097fef4e959440012f4feb73fb611b946199e681f4cfc34db8ea\nexport 0 - 32\nunseal 0 436f756e742d31 49f3b19b28a9ea9f43e8c71204c00d4a490ee7f61387b6719db765e948123b45b61633ef059ba22cd62437c8ba\nexport 0 54657374436f6e74657874 32\nend\n",
-        step: 4096,
-        reply: "hpkebatch 1\ncontext 0 shared\nlane 0\nopened 0 4265617574792069732074727574682c20747275746820626561757479\nexported dff17af354c8b41673567db6259fd6029967b4e1aad13023c2ae5df8f4f43bf6\nopened 1 4265617574792069732074727574682c20747275746820626561757479\nexported 8aff52b45a1be3a734bc7a41e20b4e055ad4c4d22104b0c20285a7c4302401cd\njournal 0\n0 0 0\n0 2 0\nend\n",
-    },
-    Run {
-        source: "the key and base_nonce of RFC 9180, A.4.1 and A.6.1, \
-            under Python's cryptography 48.0.0",
-        input: "hpkebatch 1\nshare send 16 3 1 02f584736390fc93f5b4ad039826a3fa08e9911bd1215a3db8e8791ba533cafd base 4f6465206f6e2061204772656369616e2055726e - - 2\nshare send 18 3 2 776ab421302f6eff7d7cb5cb1adaea0cd50872c71c2d63c30c4f1d5e43653336fef33b103c67e7a98add2d3b66e2fda95b5b2a667aa9dac7e59cc1d46d30e818 base 4f6465206f6e2061204772656369616e2055726e - - 2\nlane\nseal 1 436f756e742d30 4265617574792069732074727574682c20747275746820626561757479\nseal 0 436f756e742d30 4265617574792069732074727574682c20747275746820626561757479\nexport 1 - 32\nseal 0 436f756e742d31 4265617574792069732074727574682c20747275746820626561757479\nexport 0 - 32\nend\n",
-        step: 4096,
-        reply: "hpkebatch 1\ncontext 0 shared\ncontext 1 shared\nlane 0\nsealed 0 170f8beddfe949b75ef9c387e201baf4132fa7374593dfafa90768788b7b2b200aafcc6d80ea4c795a7c5b841a\nsealed 0 d3cf4984931484a080f74c1bb2a6782700dc1fef9abe8442e44a6f09044c88907200b332003543754eb51917ba\nexported 05e2e5bd9f0c30832b80a279ff211cc65eceb0d97001524085d609ead60d0412\nsealed 1 d14414555a47269dfead9fbf26abb303365e40709a4ed16eaefe1f2070f1ddeb1bdd94d9e41186f124e0acc62d\nexported a32186b8946f61aeead1c093fe614945f85833b165b28c46bf271abf16b57208\njournal 0\n0 1 0\n0 3 0\njournal 1\n0 0 0\nend\n",
-    },
-    Run {
-        source: "RFC 9180, A.1.1.1, and a seal at LIMIT",
-        input: "hpkebatch 1\nshare send 32 1 1 fe0e18c9f024ce43799ae393c7e8fe8fce9d218875e8227b0187c04e7d2ea1fc base 4f6465206f6e2061204772656369616e2055726e - - 1\nlane\nseal 0 436f756e742d30 4265617574792069732074727574682c20747275746820626561757479\nseal 0 436f756e742d30 4265617574792069732074727574682c20747275746820626561757479\nend\n",
-        step: 4096,
-        reply: "hpkebatch 1\ncontext 0 shared\nlane 0\nsealed 0 f938558b5d72f1a23810b4be2ab4f84331acc02fc97babc53a52ae8218a355a96d8770ac83d07bea87e13c512a\nlimit\njournal 0\n0 0 0\n0 1 0\nend\n",
-    },
-    Run {
-        source: "RFC 9180, A.1.1.1, and openings at LIMIT, the second with its last bit changed",
-        input: "hpkebatch 1\nshare recv 32 1 1 fe0e18c9f024ce43799ae393c7e8fe8fce9d218875e8227b0187c04e7d2ea1fc base 4f6465206f6e2061204772656369616e2055726e - - 1\nlane\nunseal 0 436f756e742d30 f938558b5d72f1a23810b4be2ab4f84331acc02fc97babc53a52ae8218a355a96d8770ac83d07bea87e13c512a\nunseal 0 436f756e742d31 af2d7e9ac9ae7e270f46ba1f975be53c09f8d875bdc8535458c2494e8a6eab251c03d0c22a56b8ca42c2063b84\nunseal 0 436f756e742d31 af2d7e9ac9ae7e270f46ba1f975be53c09f8d875bdc8535458c2494e8a6eab251c03d0c22a56b8ca42c2063b85\nend\n",
-        step: 4096,
-        reply: "hpkebatch 1\ncontext 0 shared\nlane 0\nopened 0 4265617574792069732074727574682c20747275746820626561757479\nlimit\nfailed 1\njournal 0\n0 0 0\n0 1 0\n0 2 0\nend\n",
-    },
-    Run {
-        source: "own: a failed opening uses no number",
-        input: "hpkebatch 1\nshare recv 32 1 1 fe0e18c9f024ce43799ae393c7e8fe8fce9d218875e8227b0187c04e7d2ea1fc base 4f6465206f6e2061204772656369616e2055726e - - 9\nlane\nunseal 0 436f756e742d30 f938558b5d72f1a23810b4be2ab4f84331acc02fc97babc53a52ae8218a355a96d8770ac83d07bea87e13c512b\nunseal 0 436f756e742d31 af2d7e9ac9ae7e270f46ba1f975be53c09f8d875bdc8535458c2494e8a6eab251c03d0c22a56b8ca42c2063b84\nunseal 0 436f756e742d30 f938558b5d72f1a23810b4be2ab4f84331acc02fc97babc53a52ae8218a355a96d8770ac83d07bea87e13c512a\nend\n",
-        step: 4096,
-        reply: "hpkebatch 1\ncontext 0 shared\nlane 0\nfailed 0\nfailed 0\nopened 0 4265617574792069732074727574682c20747275746820626561757479\njournal 0\n0 0 0\n0 1 0\n0 2 0\nend\n",
-    },
-    Run {
-        source: "own: the greatest LIMIT",
-        input: "hpkebatch 1\nshare send 32 1 1 fe0e18c9f024ce43799ae393c7e8fe8fce9d218875e8227b0187c04e7d2ea1fc base 4f6465206f6e2061204772656369616e2055726e - - 18446744073709551615\nend\n",
-        step: 4096,
-        reply: "hpkebatch 1\ncontext 0 shared\njournal 0\nend\n",
-    },
-    Run {
-        source: "own: each refusal of a context, and a call on one of them",
-        input: "hpkebatch 1\nshare recv 32 1 1 fe0e18c9f024ce43799ae393c7e8fe8fce9d218875e8227b0187c04e7d2ea1fc psk 4f6465206f6e2061204772656369616e2055726e aa - 1\nshare recv 32 1 1 fe0e18c9f024ce43799ae393c7e8fe8fce9d218875e8227b0187c04e7d2ea1fc base 4f6465206f6e2061204772656369616e2055726e aa bb 1\nshare recv 32 1 1 fe0e18c9f024ce43799ae393c7e8fe8fce9d218875e8227b0187c04e7d2ea1fc psk 4f6465206f6e2061204772656369616e2055726e - - 1\nlane\nunseal 0 436f756e742d30 f938558b5d72f1a23810b4be2ab4f84331acc02fc97babc53a52ae8218a355a96d8770ac83d07bea87e13c512a\nend\n",
-        step: 4096,
-        reply: "hpkebatch 1\ncontext 0 refused pskpair\ncontext 1 refused pskextra\ncontext 2 refused pskmissing\nlane 0\nrefused nocontext\njournal 0\njournal 1\njournal 2\nend\n",
-    },
-    Run {
-        source: "own: an export-only context, one byte above 255 Nh, and no byte",
-        input: "hpkebatch 1\nshare send 32 1 65535 fe0e18c9f024ce43799ae393c7e8fe8fce9d218875e8227b0187c04e7d2ea1fc base - - - 1\nlane\nseal 0 - -\nexport 0 - 8161\nexport 0 - 0\nend\n",
-        step: 4096,
-        reply: "hpkebatch 1\ncontext 0 shared\nlane 0\nrefused nocipher\nrefused exportsize\nexported -\njournal 0\nend\n",
-    },
-    Run {
-        source: "own: the other role's call, no context, and fewer bytes than a tag",
-        input: "hpkebatch 1\nshare recv 32 1 1 fe0e18c9f024ce43799ae393c7e8fe8fce9d218875e8227b0187c04e7d2ea1fc base 4f6465206f6e2061204772656369616e2055726e - - 9\nlane\nseal 0 - -\nunseal 1 - -\nunseal 0 - 00\nend\n",
-        step: 4096,
-        reply: "hpkebatch 1\ncontext 0 shared\nlane 0\nrefused role\nrefused nocontext\nfailed 0\njournal 0\n0 2 0\nend\n",
-    },
-    Run {
-        source: "own: an opening by a sender",
-        input: "hpkebatch 1\nshare send 32 1 1 fe0e18c9f024ce43799ae393c7e8fe8fce9d218875e8227b0187c04e7d2ea1fc base 4f6465206f6e2061204772656369616e2055726e - - 9\nlane\nunseal 0 436f756e742d30 f938558b5d72f1a23810b4be2ab4f84331acc02fc97babc53a52ae8218a355a96d8770ac83d07bea87e13c512a\nend\n",
-        step: 4096,
-        reply: "hpkebatch 1\ncontext 0 shared\nlane 0\nrefused role\njournal 0\nend\n",
-    },
-];
-
-// An input that is no batch. All are own, by hand from the grammar of the batch text.
-struct BadRun {
-    what: &'static str,
-    input: &'static str,
-    line: u32,
-    reason: Reason,
-    reply: &'static str,
-}
-
-const BAD: [BadRun; 13] = [
-    BadRun {
-        what: "no byte",
-        input: "",
-        line: 1,
-        reason: Reason::Header,
-        reply: "bad 1 header\n",
-    },
-    BadRun {
-        what: "no line `end`",
-        input: "hpkebatch 1\n",
-        line: 2,
-        reason: Reason::NoEnd,
-        reply: "bad 2 noend\n",
-    },
-    BadRun {
-        what: "a byte behind `end`",
-        input: "hpkebatch 1\nend\nx",
-        line: 3,
-        reason: Reason::Trailing,
-        reply: "bad 3 trailing\n",
-    },
-    BadRun {
-        what: "a word of no line",
-        input: "hpkebatch 1\nkeygen\nend\n",
-        line: 2,
-        reason: Reason::Word,
-        reply: "bad 2 word\n",
-    },
-    BadRun {
-        what: "a missing field",
-        input: "hpkebatch 1\nlane\nseal 0 -\n",
-        line: 3,
-        reason: Reason::Fields,
-        reply: "bad 3 fields\n",
-    },
-    BadRun {
-        what: "an empty field",
-        input: "hpkebatch 1\nlane\nseal 0 - \n",
-        line: 3,
-        reason: Reason::Hex,
-        reply: "bad 3 hex\n",
-    },
-    BadRun {
-        what: "a leading zero",
-        input: "hpkebatch 1\nlane\nseal 00 - -\n",
-        line: 3,
-        reason: Reason::Number,
-        reply: "bad 3 number\n",
-    },
-    BadRun {
-        what: "capitals",
-        input: "hpkebatch 1\nlane\nseal 0 - AB\n",
-        line: 3,
-        reason: Reason::Hex,
-        reply: "bad 3 hex\n",
-    },
-    BadRun {
-        what: "a LEN above its limit",
-        input: "hpkebatch 1\nlane\nexport 0 - 65536\n",
-        line: 3,
-        reason: Reason::Range,
-        reply: "bad 3 range\n",
-    },
-    BadRun {
-        what: "a word in capitals",
-        input: "hpkebatch 1\nlane\nSeal 0 - -\n",
-        line: 3,
-        reason: Reason::Word,
-        reply: "bad 3 word\n",
-    },
-    BadRun {
-        what: "LIMIT one above the greatest",
-        input: "hpkebatch 1\nshare send 32 1 1 fe0e18c9f024ce43799ae393c7e8fe8fce9d218875e8227b0187c04e7d2ea1fc base 4f6465206f6e2061204772656369616e2055726e - - 18446744073709551616\nend\n",
-        line: 2,
-        reason: Reason::Range,
-        reply: "bad 2 range\n",
-    },
-    BadRun {
-        what: "LIMIT 0",
-        input: "hpkebatch 1\nshare send 32 1 1 fe0e18c9f024ce43799ae393c7e8fe8fce9d218875e8227b0187c04e7d2ea1fc base 4f6465206f6e2061204772656369616e2055726e - - 0\nend\n",
-        line: 2,
-        reason: Reason::Range,
-        reply: "bad 2 range\n",
-    },
-    BadRun {
-        what: "a second lane",
-        input: "hpkebatch 1\nlane\nlane\nend\n",
-        line: 3,
-        reason: Reason::Count,
-        reply: "bad 3 count\n",
-    },
-];
 
 // A run whose source or sink fails in the calls of these numbers, counted from 1.
 struct Fault {
@@ -290,10 +97,11 @@ const USAGE: [&'static [&'static str]; 12] = [
 ];
 
 // Words that ask for a run.
-const RUN_WORDS: [&'static [&'static str]; 3] = [
+const RUN_WORDS: [&'static [&'static str]; 4] = [
     &["run"],
     &["run", "--workers", "16"],
-    &["run", "--workers=1"],
+    &["run", "--mult=karatsuba", "--workers=1"],
+    &["run", "--mult", "lanes"],
 ];
 
 // The outcome of these words over a source and a sink.
@@ -322,20 +130,38 @@ fn answer_to<R: Threads + Wait + Sync>(
 ) -> Result<(Outcome, MemorySink), Fail> {
     let input = input.as_bytes().to_vec(alloc)?;
     let source = MemorySource::new(input, step.max(1), Vec::new(alloc));
-    let mut sink = MemorySink::new(vec![in alloc; 0; 4096]?, 4096, Vec::new(alloc));
+    let mut sink = MemorySink::new(vec![in alloc; 0; 32_768]?, 4096, Vec::new(alloc));
     let outcome = outcome_of(rt, alloc, words, source, &mut sink)?;
     Ok((outcome, sink))
 }
 
 #[test]
-fn each_input_gets_its_text(rt: HostRuntime) -> Result<(), Fail> {
+fn each_batch_of_one_lane_gets_its_text(rt: HostRuntime) -> Result<(), Fail> {
     let alloc = rt.alloc();
     for case in &RUNS {
         let name = case.source;
-        let (outcome, sink) = answer_to(&rt, alloc, &["run"], case.input, case.step)?;
+        let (outcome, sink) = answer_to(&rt, alloc, case.words, case.input, case.step)?;
         assert_eq!(rt; outcome, Outcome::Done, "{name}");
         assert_eq!(rt; sink.bytes(), case.reply.as_bytes(), "{name}");
     }
+    Ok(())
+}
+
+#[test]
+fn each_batch_of_lanes_gets_its_text(rt: HostRuntime) -> Result<(), Fail> {
+    let alloc = rt.alloc();
+    for case in &SCHEDULED {
+        let name = case.source;
+        let (outcome, sink) = answer_to(&rt, alloc, case.words, case.input, case.step)?;
+        assert_eq!(rt; outcome, Outcome::Done, "{name}");
+        assert_eq!(rt; sink.bytes(), case.reply.as_bytes(), "{name}");
+    }
+    Ok(())
+}
+
+#[test]
+fn each_bad_line_is_named(rt: HostRuntime) -> Result<(), Fail> {
+    let alloc = rt.alloc();
     for case in &BAD {
         let name = case.what;
         let bad = Outcome::BadBatch {
@@ -346,10 +172,33 @@ fn each_input_gets_its_text(rt: HostRuntime) -> Result<(), Fail> {
         assert_eq!(rt; outcome, bad, "{name}");
         assert_eq!(rt; sink.bytes(), case.reply.as_bytes(), "{name}");
     }
+    Ok(())
+}
+
+#[test]
+fn each_option_of_run_is_taken(rt: HostRuntime) -> Result<(), Fail> {
+    let alloc = rt.alloc();
     for words in &RUN_WORDS {
         let (outcome, sink) = answer_to(&rt, alloc, words, EMPTY, 4096)?;
         assert_eq!(rt; outcome, Outcome::Done);
         assert_eq!(rt; sink.bytes(), EMPTY.as_bytes());
+    }
+    Ok(())
+}
+
+#[test]
+fn keys_are_the_same_with_each_multiplier(rt: HostRuntime) -> Result<(), Fail> {
+    let alloc = rt.alloc();
+    for case in &EXCHANGES {
+        let name = case.source;
+        let (_, plain) = answer_to(&rt, alloc, &["run"], case.input, 4096)?;
+        assert_eq!(rt; plain.bytes().len(), case.size, "{name}");
+        assert!(rt; plain.bytes().ends_with(case.lanes.as_bytes()), "{name}");
+        for words in &RUN_WORDS {
+            let (outcome, sink) = answer_to(&rt, alloc, words, case.input, 4096)?;
+            assert_eq!(rt; outcome, Outcome::Done, "{name}");
+            assert_eq!(rt; sink.bytes(), plain.bytes(), "{name}");
+        }
     }
     Ok(())
 }

@@ -1,4 +1,13 @@
-pub mod Clap
-pub mod Spellings
-pub mod Grammar
-pub mod Uses
+pub mod Names
+pub mod Parses
+pub mod Rules
+pub mod Walks
+pub mod OptionWalk
+pub mod OptionWords
+pub mod OptionGrammar
+pub mod OptionReads
+pub mod OptionAnswers
+pub mod OperandWalk
+pub mod OperandReads
+pub mod Steps
+pub mod Within

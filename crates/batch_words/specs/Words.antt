@@ -1,12 +1,15 @@
 -- The command grammar: the words after the program's name, each the list of its bytes.
-use Rattle.std.specs.Prelude.{ℕ, ◌==◌, Bool, List, [], ◌∷◌, codes, Option, Some, None, option_map, option_and_then, if◌then◌else◌}
-use Rattle.std.specs.List.{list_any, before_first, after_first}
+use Rattle.std.specs.Prelude.{ℕ, ◌≤◌, All, ◌==◌, ◌&&◌, not, nat_le, length, find, Bool, true, List, [], ◌∷◌, codes, Option, Some, None, option_map, option_and_then, if◌then◌else◌}
+use Rattle.std.specs.List.{list_any, slice_split, before_first, after_first}
 use Rattle.std.specs.Str.{bytes_eq}
 use Rattle.batch_words.specs.declared.commands.Command.{Command}
-use Rattle.batch_words.specs.declared.commands.Command.TheVariants.{Run}
+use Rattle.batch_words.specs.declared.commands.Command.TheVariants.{Run, Rehearse}
+use Rattle.batch_words.specs.declared.commands.Mult.{Mult}
+use Rattle.batch_words.specs.declared.commands.Mult.TheVariants.{Plain, Karatsuba, Lanes}
+use Rattle.batch_words.specs.declared.options.Options.{Options}
 use Rattle.decimal_text.specs.Decimals.{decimal_from_to}
 
--- ---- options: a name, with its hyphens, and a value
+-- ---- settings: the name of an option, with its hyphens, and a value
 
 abbrev pub Setting : Type 0
 Setting = List ℕ × List ℕ
@@ -19,7 +22,7 @@ is_equals byte = byte == 61
 abbrev pub joined : List ℕ → Setting
 joined word = (before_first is_equals word, after_first is_equals word)
 
--- the options that the words spell, in order: each is one word with `=`, or two words;
+-- the settings that the words spell, in order: each is one word with `=`, or two words;
 -- before the words there may stand a name that wants a value
 abbrev pub settings_after : Option (List ℕ) → List (List ℕ) → Option (List Setting)
 settings_after None [] = Some []
@@ -34,26 +37,91 @@ settings_after None (word ∷ more) =
 abbrev pub settings : List (List ℕ) → Option (List Setting)
 settings words = settings_after None words
 
+-- ---- options
+
+-- the name is one of these
+abbrev pub is_among : List (List ℕ) → List ℕ → Bool
+is_among names name = list_any (λ one. bytes_eq one name) names
+
+-- a setting has the name
+abbrev pub stands_in : List Setting → List ℕ → Bool
+stands_in settings name = list_any (λ setting. bytes_eq setting.0 name) settings
+
+-- each setting has one of these names, and none of them stands twice
+abbrev pub are_of : List (List ℕ) → List Setting → Bool
+are_of names [] = true
+are_of names ((name, value) ∷ more) =
+    is_among names name && not (stands_in more name) && are_of names more
+
+-- the value of the option of this name, where it stands
+abbrev pub value_of : List ℕ → List Setting → Option (List ℕ)
+value_of name settings =
+    option_map (λ setting. setting.1) (find (λ setting. bytes_eq setting.0 name) settings)
+
+-- W: a decimal from 1 to 16, and 4 where the option does not stand
+abbrev pub workers : Option (List ℕ) → Option ℕ
+workers None = Some 4
+workers (Some value) = decimal_from_to 1 16 value
+
+-- M: the name of a multiplier, and `plain` where the option does not stand
+abbrev pub mult : Option (List ℕ) → Option Mult
+mult None = Some Plain
+mult (Some value) =
+    if bytes_eq value (codes "plain") then Some Plain
+    else (if bytes_eq value (codes "karatsuba") then Some Karatsuba
+    else (if bytes_eq value (codes "lanes") then Some Lanes else None))
+
+-- what the values of `--workers` and `--mult` say
+abbrev pub options_with : Option (List ℕ) → Option (List ℕ) → Option Options
+options_with workers_value mult_value =
+    option_and_then (λ w. option_map (λ m. record { workers = w; mult = m }) (mult mult_value))
+    (workers workers_value)
+
+-- what the words say as options of these names
+abbrev pub options : List (List ℕ) → List (List ℕ) → Option Options
+options names words = option_and_then (λ given. if are_of names given
+    then options_with (value_of (codes "--workers") given) (value_of (codes "--mult") given)
+    else None) (settings words)
+
+-- ---- schedules
+
+abbrev pub is_comma : ℕ → Bool
+is_comma byte = byte == 44
+
+-- the lanes that the texts write, each a decimal from 0 to 15
+abbrev pub lanes : List (List ℕ) → Option (List ℕ)
+lanes [] = Some []
+lanes (text ∷ more) = option_and_then (λ lane.
+    option_map (λ others. lane ∷ others) (lanes more)) (decimal_from_to 0 15 text)
+
+-- `-` for no steps, or 1 to 65,536 lanes between commas
+abbrev pub schedule : List ℕ → Option (List ℕ)
+schedule text =
+    let steps = slice_split is_comma text in
+    if bytes_eq text (codes "-") then Some []
+    else (if nat_le (length steps) 65536 then lanes steps else None)
+
 -- ---- commands
 
--- W: a decimal from 1 to 16
-abbrev pub workers : List ℕ → Option ℕ
-workers value = decimal_from_to 1 16 value
+-- after `run`: `--workers W` and `--mult M`
+abbrev pub run : List (List ℕ) → Option Command
+run words = option_map (λ given. Run given.workers given.mult)
+    (options (codes "--workers" ∷ codes "--mult" ∷ []) words)
 
--- `run` with the value of `--workers`, or with 4 where the option does not stand
-abbrev pub run_with : Option (List ℕ) → Option Command
-run_with None = Some (Run 4)
-run_with (Some value) = option_map (λ w. Run w) (workers value)
-
--- `run`, then options: `--workers W` at most once
-abbrev pub run : List Setting → Option Command
-run [] = run_with None
-run ((name, value) ∷ []) =
-    if bytes_eq name (codes "--workers") then run_with (Some value) else None
-run (first ∷ second ∷ more) = None
+-- after `rehearse`: SCHEDULE
+abbrev pub rehearse : List (List ℕ) → Option Command
+rehearse [] = None
+rehearse (word ∷ []) = option_map Rehearse (schedule word)
+rehearse (word ∷ next ∷ more) = None
 
 -- the command that the words spell
 abbrev pub command_of : List (List ℕ) → Option Command
 command_of [] = None
 command_of (word ∷ more) =
-    if bytes_eq word (codes "run") then option_and_then run (settings more) else None
+    if bytes_eq word (codes "run") then run more
+    else (if bytes_eq word (codes "rehearse") then rehearse more else None)
+
+-- the numbers of a command are within their ranges
+abbrev pub IsWithin : Command → Type 0
+IsWithin (Run workers mult) = (1 ≤ workers) × (workers ≤ 16)
+IsWithin (Rehearse schedule) = (length schedule ≤ 65536) × All (λ lane. lane ≤ 15) schedule

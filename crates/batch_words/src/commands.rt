@@ -1,8 +1,23 @@
 //! What the words can ask for.
 
+use crate::schedules::Schedule;
+
 /// What the words ask for.
-#[derive(Clone, Copy, Debug, PartialEq, Eq)]
+#[derive(Debug, Drop)]
 pub enum Command {
     /// `run`: read a batch and answer it, with so many workers, from 1 to 16.
-    Run { workers: u32 },
+    Run { workers: u32, mult: Mult },
+    /// `rehearse`: read a batch and answer it on one thread, in the order of a schedule.
+    Rehearse { schedule: Schedule },
+}
+
+/// The multiplier of the ring's polynomials. All of them give the same products.
+#[derive(Clone, Copy, Debug, PartialEq, Eq)]
+pub enum Mult {
+    /// Coefficient by coefficient.
+    Plain,
+    /// By splitting at the half.
+    Karatsuba,
+    /// Several coefficients at a time.
+    Lanes,
 }

@@ -1,83 +1,62 @@
 //! From the words to the command.
 
-ghost use Rattle.std.specs.Prelude.{◌≡◌, ◌≤◌, ℕ, IfOk, codes, map, option_and_then, option_map};
-ghost use Rattle.std.specs.List.{list_any};
-ghost use Rattle.std.specs.Str.{bytes_eq};
+ghost use Rattle.std.specs.Prelude.{◌≡◌, IfOk, IfSome, map};
 ghost use Rattle.std.specs.String.{string_bytes};
-ghost use Rattle.batch_words.specs.Words.{command_of, run, run_with as run_with_value, settings};
+ghost use Rattle.batch_words.specs.Words.{IsWithin, command_of, rehearse, run};
 
 use crate::commands::Command;
-use clap::error::ErrorKind;
-use clap::{Arg, ArgAction, Command as Options};
-use decimal_text::decimal_from_to;
+use crate::options::read_options;
+use crate::parsing::parse_operands;
+use crate::schedules::read_schedule;
 use std::alloc::{AllocError as OutOfMemory, Global};
-
-/// The workers of a run whose words name none.
-const DEFAULT_WORKERS: u32 = 4;
-
-/// The most workers of a run.
-const MOST_WORKERS: u64 = 16;
 
 /// The command that the words spell, or none where they are not in the grammar.
 ///
-/// `words` are those of the command line without the program's name. `run` has one option,
-/// `--workers W`, which stands at most once, as two words or as `--workers=W`. W is a decimal from 1
-/// to 16 without leading zeros, and 4 where the option does not stand. All else is no command, such as
-/// a request for help or version, a word `--`, or an abbreviation.
+/// `words` are those of the command line without the program's name. The first is `run` or
+/// `rehearse`.
 ///
+/// After `run` there may stand `--workers W` and `--mult M`, each at most once, in either order, as
+/// two words or as one word with `=`. W is a decimal from 1 to 16 without leading zeros, and 4 where
+/// the option does not stand. M is `plain`, `karatsuba` or `lanes`, and `plain` where the option
+/// does not stand.
+///
+/// After `rehearse` there stands one word: `-` for a schedule of no steps, or 1 to 65,536 decimals
+/// from 0 to 15 without leading zeros, with a comma between each two.
+///
+/// All else is no command, such as a request for help or version, a word `--`, or an abbreviation.
 /// Nothing is printed. The one error is want of memory.
 pub fn read_words(alloc: Global, words: &[String]) -> Result<Option<Command>, OutOfMemory>
     ensures command { IfOk result (λ command. command ≡ command_of (map string_bytes words.now)) }
-    ensures workers { (w : ℕ) → result ≡ Ok (Some (Command.Run w)) → (1 ≤ w) × (w ≤ 16) }
+    ensures within { IfOk result (λ command. IfSome command IsWithin) }
 {
-    let [first, options @ ..] = words else {
+    let [first, rest @ ..] = words else {
         return Ok(None);
     };
     match first.as_str() {
-        "run" => read_run(alloc, options),
+        "run" => read_run(alloc, rest),
+        "rehearse" => read_rehearse(alloc, rest),
         _ => Ok(None),
     }
 }
 
 // The words after `run`.
 fn read_run(alloc: Global, words: &[String]) -> Result<Option<Command>, OutOfMemory>
-    ensures { IfOk result (λ command.
-        command ≡ option_and_then run (settings (map string_bytes words.now))) }
+    ensures { IfOk result (λ command. command ≡ run (map string_bytes words.now)) }
 {
-    // `clap` would pass over it.
-    if has_dashes(words) {
+    let options = read_options(alloc, &["workers", "mult"], words)?;
+    Ok(options.map(|options| Command::Run {
+        workers: options.workers,
+        mult: options.mult,
+    }))
+}
+
+// The words after `rehearse`.
+fn read_rehearse(alloc: Global, words: &[String]) -> Result<Option<Command>, OutOfMemory>
+    ensures { IfOk result (λ command. command ≡ rehearse (map string_bytes words.now)) }
+{
+    let Some(matches) = parse_operands(alloc, &["schedule"], words)? else {
         return Ok(None);
-    }
-    let workers = Arg::new(alloc, "workers")
-        .long("workers")
-        .action(ArgAction::Set);
-    let options = Options::new(alloc, "run")
-        .no_binary_name(true)
-        .disable_help_flag(true)
-        .arg(workers)?;
-    match options.try_get_matches_from(words) {
-        Ok(matches) => Ok(run_with(matches.get_str("workers"))),
-        Err(error) => match error.kind() {
-            ErrorKind::OutOfMemory => Err(OutOfMemory),
-            _ => Ok(None),
-        },
-    }
-}
-
-// A word is `--`.
-fn has_dashes(words: &[String]) -> bool
-    ensures { result ≡ list_any (λ word. bytes_eq (string_bytes word) (codes "--")) words.now }
-{
-    words.iter().any(|word| word.as_str() == "--")
-}
-
-// `run` with the value of its option, where that stands.
-fn run_with(workers: Option<&str>) -> Option<Command>
-    ensures { result ≡ run_with_value (option_map (λ text. text.now) workers.entry) }
-{
-    let workers = match workers {
-        Some(text) => decimal_from_to(text.as_bytes(), 1, MOST_WORKERS)? as u32,
-        None => DEFAULT_WORKERS,
     };
-    Some(Command::Run { workers })
+    let schedule = read_schedule(alloc, matches.get_str("schedule").unwrap())?;
+    Ok(schedule.map(|schedule| Command::Rehearse { schedule }))
 }

@@ -1,20 +1,49 @@
-use crate::{Command, read_words};
+use crate::{Command, Mult, Schedule, read_words};
 use std::alloc::{AllocError, Global};
 use std::test::Fail;
 
-// Own, by hand, from the rules of the command grammar: words that spell a run, and its workers.
-const RUNS: [(&[&str], u32); 7] = [
-    (&["run"], 4),
-    (&["run", "--workers", "1"], 1),
-    (&["run", "--workers", "9"], 9),
-    (&["run", "--workers", "10"], 10),
-    (&["run", "--workers", "16"], 16),
-    (&["run", "--workers=1"], 1),
-    (&["run", "--workers=16"], 16),
+// Own, by hand, from the rules of the command grammar: words that spell a run, and what they say.
+const RUNS: [(&[&str], u32, Mult); 15] = [
+    (&["run"], 4, Mult::Plain),
+    (&["run", "--workers", "1"], 1, Mult::Plain),
+    (&["run", "--workers", "9"], 9, Mult::Plain),
+    (&["run", "--workers", "10"], 10, Mult::Plain),
+    (&["run", "--workers", "16"], 16, Mult::Plain),
+    (&["run", "--workers=1"], 1, Mult::Plain),
+    (&["run", "--workers=16"], 16, Mult::Plain),
+    (&["run", "--mult", "plain"], 4, Mult::Plain),
+    (&["run", "--mult", "karatsuba"], 4, Mult::Karatsuba),
+    (&["run", "--mult", "lanes"], 4, Mult::Lanes),
+    (&["run", "--mult=lanes"], 4, Mult::Lanes),
+    (&["run", "--mult=plain", "--workers=1"], 1, Mult::Plain),
+    (
+        &["run", "--workers", "2", "--mult", "lanes"],
+        2,
+        Mult::Lanes,
+    ),
+    (
+        &["run", "--mult", "karatsuba", "--workers=3"],
+        3,
+        Mult::Karatsuba,
+    ),
+    (
+        &["run", "--workers=16", "--mult", "karatsuba"],
+        16,
+        Mult::Karatsuba,
+    ),
+];
+
+// Own, by hand, from the same rules: words that spell a rehearsal, and its lanes.
+const REHEARSALS: [(&[&str], &'static [u8]); 5] = [
+    (&["rehearse", "-"], &[]),
+    (&["rehearse", "0"], &[0]),
+    (&["rehearse", "15,0"], &[15, 0]),
+    (&["rehearse", "0,1,1,1,1"], &[0, 1, 1, 1, 1]),
+    (&["rehearse", "9,10,15,0,7"], &[9, 10, 15, 0, 7]),
 ];
 
 // Own, by hand, from the same rules: words that spell no command.
-const NO_COMMANDS: [&[&str]; 48] = [
+const NO_COMMANDS: [&[&str]; 77] = [
     // no words, or another command
     &[],
     &[""],
@@ -24,18 +53,17 @@ const NO_COMMANDS: [&[&str]; 48] = [
     &[" run"],
     &["--workers", "4"],
     &["--workers=4", "run"],
-    &["rehearse"],
-    &["rehearse", "16"],
-    &["rehearse", "0,"],
     &["demo", "1", "1", "1"],
     &["help"],
     &["run", "run"],
-    // another value
+    &["run", "rehearse", "-"],
+    // other workers
     &["run", "--workers", "0"],
     &["run", "--workers", "17"],
     &["run", "--workers", "04"],
     &["run", "--workers", "+4"],
     &["run", "--workers", "-4"],
+    &["run", "--workers", "-"],
     &["run", "--workers", "4 "],
     &["run", "--workers", "4.0"],
     &["run", "--workers", "0x4"],
@@ -48,13 +76,24 @@ const NO_COMMANDS: [&[&str]; 48] = [
     &["run", "--workers="],
     &["run", "--workers=0"],
     &["run", "--workers==4"],
-    // another option
+    // another multiplier
     &["run", "--mult", "fast"],
+    &["run", "--mult", "Plain"],
+    &["run", "--mult", "plain "],
+    &["run", "--mult", "karatsub"],
+    &["run", "--mult", ""],
+    &["run", "--mult="],
+    &["run", "--mult=-"],
+    &["run", "--mult", "4"],
+    &["run", "--workers", "plain"],
+    // another option
     &["run", "--worker", "4"],
     &["run", "--Workers", "4"],
+    &["run", "--mul", "plain"],
     &["run", "-w", "4"],
     &["run", "-w4"],
     &["run", "-workers", "4"],
+    &["run", "--schedule", "0"],
     &["run", "--help"],
     &["run", "-h"],
     &["run", "--version"],
@@ -62,20 +101,45 @@ const NO_COMMANDS: [&[&str]; 48] = [
     // a missing or further word, a repeated option
     &["run", "4"],
     &["run", "--workers"],
+    &["run", "--mult"],
+    &["run", "--mult", "plain", "--workers"],
+    &["run", "--mult", "--workers", "4"],
     &["run", "--workers", "4", "5"],
     &["run", "--workers", "4", "--workers", "5"],
     &["run", "--workers=4", "--workers=4"],
     &["run", "--workers", "--workers=4"],
-    // a word `--`
-    &["run", "--"],
+    &["run", "--mult=plain", "--mult", "plain"],
+    &["run", "--mult", "plain", "--workers=4", "--mult=lanes"],
+    // another schedule
+    &["rehearse"],
+    &["rehearse", ""],
+    &["rehearse", "16"],
+    &["rehearse", "00"],
+    &["rehearse", "0,"],
+    &["rehearse", ",0"],
+    &["rehearse", ","],
+    &["rehearse", "0,,1"],
+    &["rehearse", "0, 1"],
+    &["rehearse", "0,-"],
+    &["rehearse", "-,-"],
+    &["rehearse", "-0"],
+    &["rehearse", "0", "1"],
+    &["rehearse", "-", "-"],
+    &["rehearse", "--schedule", "0"],
+    &["rehearse", "--help"],
 ];
 
 // Words with a word `--`, which `clap` alone would take.
-const DASHES: [&[&str]; 4] = [
+const DASHES: [&[&str]; 9] = [
     &["--", "run"],
+    &["run", "--"],
     &["run", "--workers", "--", "4"],
     &["run", "--workers=4", "--"],
     &["run", "--", "--workers", "4"],
+    &["run", "--mult", "plain", "--"],
+    &["rehearse", "--"],
+    &["rehearse", "--", "0"],
+    &["rehearse", "0", "--"],
 ];
 
 fn strings(alloc: Global, words: &[&str]) -> Result<Vec<String>, AllocError> {
@@ -86,13 +150,44 @@ fn strings(alloc: Global, words: &[&str]) -> Result<Vec<String>, AllocError> {
     Ok(strings)
 }
 
+// The workers and the multiplier of a run.
+fn run_of(command: Option<Command>) -> Option<(u32, Mult)> {
+    match command {
+        Some(Command::Run { workers, mult }) => Some((workers, mult)),
+        _ => None,
+    }
+}
+
+// The schedule of a rehearsal.
+fn schedule_of(command: Option<Command>) -> Option<Schedule> {
+    match command {
+        Some(Command::Rehearse { schedule }) => Some(schedule),
+        _ => None,
+    }
+}
+
 #[test]
 fn words_of_a_run_are_read(rt: HostRuntime) -> Result<(), Fail> {
     let alloc = rt.alloc();
-    for (words, workers) in &RUNS {
-        let (words, workers) = (*words, *workers);
+    for (words, workers, mult) in &RUNS {
+        let (words, workers, mult) = (*words, *workers, *mult);
         let read = read_words(alloc, &strings(alloc, words)?)?;
-        assert_eq!(rt; read, Some(Command::Run { workers }), "{words:?}");
+        assert_eq!(rt; run_of(read), Some((workers, mult)), "{words:?}");
+    }
+    Ok(())
+}
+
+#[test]
+fn words_of_a_rehearsal_are_read(rt: HostRuntime) -> Result<(), Fail> {
+    let alloc = rt.alloc();
+    for (words, lanes) in &REHEARSALS {
+        let (words, lanes) = (*words, *lanes);
+        let read = read_words(alloc, &strings(alloc, words)?)?;
+        let schedule = schedule_of(read);
+        assert!(rt; schedule.is_some(), "{words:?}");
+        if let Some(schedule) = schedule {
+            assert_eq!(rt; schedule.as_slice(), lanes, "{words:?}");
+        }
     }
     Ok(())
 }
@@ -103,7 +198,30 @@ fn other_words_spell_no_command(rt: HostRuntime) -> Result<(), Fail> {
     for words in NO_COMMANDS.iter().chain(&DASHES) {
         let words = *words;
         let read = read_words(alloc, &strings(alloc, words)?)?;
-        assert_eq!(rt; read, None, "{words:?}");
+        assert!(rt; read.is_none(), "{words:?}");
     }
+    Ok(())
+}
+
+// How many lanes a rehearsal of so many steps has, each of them lane 15, where there is one.
+fn steps_read(alloc: Global, steps: usize) -> Result<Option<usize>, AllocError> {
+    let mut text = String::from_str(alloc, "15")?;
+    for _ in 1..steps {
+        text.push_str(",15")?;
+    }
+    let mut words = Vec::new(alloc);
+    words.push(String::from_str(alloc, "rehearse")?)?;
+    words.push(text)?;
+    match schedule_of(read_words(alloc, &words)?) {
+        Some(schedule) => Ok(Some(schedule.as_slice().len())),
+        None => Ok(None),
+    }
+}
+
+#[test]
+fn a_schedule_has_at_most_65536_steps(rt: HostRuntime) -> Result<(), Fail> {
+    let alloc = rt.alloc();
+    assert_eq!(rt; steps_read(alloc, 65_536)?, Some(65_536));
+    assert_eq!(rt; steps_read(alloc, 65_537)?, None);
     Ok(())
 }

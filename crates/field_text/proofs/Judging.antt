@@ -1,7 +1,7 @@
 -- Lines are judged one after another.
-use Rattle.std.proofs.Common.{◌≡◌, ℕ, ◌+◌, ◌<◌, ◌≤◌, ◌==◌, Bool, true, false, cond, List, [], ◌∷◌, length, Result, Ok, Err, refl, ap, ◌∙◌, arith}
+use Rattle.std.proofs.Common.{◌≡◌, ℕ, ◌+◌, ◌<◌, ◌≤◌, ◌==◌, nat_lt, Bool, true, false, cond, List, [], ◌∷◌, length, Result, Ok, Err, refl, ap, ◌∙◌, arith}
 use Rattle.std.specs.List.{slice_split, onto_first}
-use Rattle.std.proofs.lemmas.Bool.{le-ltb, lt-ltb}
+use Rattle.std.proofs.lemmas.Bool.{le-ltb, lt-ltb, ltb-false}
 use Rattle.field_text.specs.declared.reasons.Reason.{Reason}
 use Rattle.field_text.specs.declared.reasons.Reason.TheVariants as reasons
 use Rattle.field_text.specs.declared.faults.BadBatch.{BadBatch}
@@ -13,7 +13,7 @@ use Rattle.field_text.proofs.Cutting.{some_piece}
 -- ---- one line
 
 -- one finished line
-judged_cons : {P W : Type 0} (g : Grammar P W) (n : ℕ) (plan : P) (line : List ℕ) (rest : List (List ℕ)) → (length rest == 0) ≡ false
+pub judged_cons : {P W : Type 0} (g : Grammar P W) (n : ℕ) (plan : P) (line : List ℕ) (rest : List (List ℕ)) → (length rest == 0) ≡ false
     → judged g n plan (line ∷ rest) ≡ followed n rest (line_after g plan line) (λ plan. judged g (n + 1) plan rest)
 unfolding judged
 judged_cons g n plan line [] some = absurd cc
@@ -46,15 +46,24 @@ unfinished g n plan text cut = rw cut refl
 
 -- ---- the first line
 
-headed_cons : {P W : Type 0} (g : Grammar P W) (line : List ℕ) (rest : List (List ℕ)) → (length rest == 0) ≡ false
+pub headed_cons : {P W : Type 0} (g : Grammar P W) (line : List ℕ) (rest : List (List ℕ)) → (length rest == 0) ≡ false
     → headed g (line ∷ rest) ≡ started g rest (g.header line)
 unfolding headed
 headed_cons g line [] some = absurd cc
 headed_cons g line (next ∷ more) some = refl
 
-within : {P W : Type 0} (g : Grammar P W) (most : ℕ) (text : List ℕ) → length text ≤ most → front g most text ≡ headed g (lines_of text)
+pub within : {P W : Type 0} (g : Grammar P W) (most : ℕ) (text : List ℕ) → length text ≤ most → front g most text ≡ headed g (lines_of text)
 unfolding front
 within g most text short = rw (le-ltb _ _ short) refl
+
+-- a text that was read is not too large
+pub is_within : {P W : Type 0} (g : Grammar P W) (most : ℕ) (text : List ℕ) (found : FrontText P) → front g most text ≡ Ok found → length text ≤ most
+unfolding front
+is_within {P} g most text found e = go (nat_lt most (length text)) refl e
+  where
+    go : (b : Bool) → nat_lt most (length text) ≡ b → cond b (bad 0 reasons.Size) (headed g (lines_of text)) ≡ Ok found → length text ≤ most
+    go true is e = absurd cc
+    go false is e = ltb-false most (length text) is
 
 -- a text that is too large, whatever it holds
 pub too_large : {P W : Type 0} (g : Grammar P W) (most : ℕ) (text : List ℕ) → most < length text → front g most text ≡ bad 0 reasons.Size

@@ -1,7 +1,10 @@
 pub mod Cutting
-pub mod HexDigits
+pub mod Lanes
+pub mod HexReading
+pub mod HexPrinting
 pub mod Told
 pub mod Held
 pub mod Spellings
 pub mod Judging
 pub mod SpelledLines
+pub mod Fronts

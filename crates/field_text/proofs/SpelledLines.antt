@@ -1,5 +1,5 @@
 -- A text that was read is its first line, the lines that were read after it, and `end`.
-use Rattle.std.proofs.Common.{◌≡◌, ℕ, ◌+◌, nat_lt, Bool, true, false, cond, List, [], ◌∷◌, ◌++◌, length, codes, Option, Some, None, Result, Ok, Err, refl, sym, ap, subst, ◌∙◌, append_assoc, append-nil, arith}
+use Rattle.std.proofs.Common.{◌≡◌, ℕ, ◌+◌, nat_lt, Bool, true, false, cond, List, [], ◌∷◌, ◌++◌, length, codes, Option, Some, None, Result, Ok, Err, refl, sym, ap, subst, ◌∙◌, append_assoc, arith}
 use Rattle.std.specs.List.{join_with_byte}
 use Rattle.std.specs.Str.{bytes_eq}
 use Rattle.std.proofs.lemmas.Bool.{eqb-true}
@@ -18,7 +18,7 @@ use Rattle.field_text.proofs.Spellings.{joined, ok_same, step_ok, choice_ok, nex
 pub record IsSpelling {P W : Type 0} (g : Grammar P W) (R : P → P → List ℕ → Type 0) : Type 0 where
   pub none : (plan : P) → R plan plan []
   pub line : (word : W) (plan new final : P) (piece : List ℕ) (pieces : List (List ℕ)) (text : List ℕ)
-      → g.word piece ≡ Ok word → g.may_stand word plan ≡ true → g.with_line plan word pieces ≡ Ok new → R new final text
+      → g.word plan piece ≡ Ok word → g.may_stand word plan ≡ true → g.with_line plan word pieces ≡ Ok new → R new final text
       → R plan final (line_text (piece ∷ pieces) ++ text)
 
 -- ---- one line
@@ -29,13 +29,13 @@ record IsRead {P W : Type 0} (g : Grammar P W) (plan : P) (line : List ℕ) (ans
   piece : List ℕ
   pieces : List (List ℕ)
   parts : line ++ codes "\n" ≡ line_text (piece ∷ pieces)
-  named : line_word g piece ≡ Ok word
+  named : line_word g plan piece ≡ Ok word
   reads : with_word g plan pieces word ≡ Ok answer
 
 line_read : {P W : Type 0} (g : Grammar P W) (plan : P) (line : List ℕ) (answer : Next × P) → line_after g plan line ≡ Ok answer → IsRead g plan line answer
 unfolding line_after
 line_read g plan line answer e =
-    next_ok (line_word g) (pieces_of line) _ answer _
+    next_ok (line_word g plan) (pieces_of line) _ answer _
     (λ piece word pieces cut read e. record {
       word = word;
       piece = piece;
@@ -87,22 +87,22 @@ last_ok g plan new pieces (Some word) e =
     (λ _ ok. absurd (more_not_last (g.with_line plan word pieces) new ok)) (λ _ err. absurd cc) e
 
 -- a word other than `end`
-word_read : {P W : Type 0} (g : Grammar P W) (piece : List ℕ) (word : W) → line_word g piece ≡ Ok (Some word) → g.word piece ≡ Ok word
-word_read g piece word e =
+word_read : {P W : Type 0} (g : Grammar P W) (plan : P) (piece : List ℕ) (word : W) → line_word g plan piece ≡ Ok (Some word) → g.word plan piece ≡ Ok word
+word_read g plan piece word e =
     choice_ok (bytes_eq piece (codes "end")) (Ok None) _ (Some word) _ (λ _ ok. absurd cc)
-    (λ _ rest. let found = step_ok (g.word piece) _ (Some word) rest in let same : found.0 ≡ word = cc in found.1 ∙ ap (λ w. Ok w) same)
+    (λ _ rest. let found = step_ok (g.word plan piece) _ (Some word) rest in let same : found.0 ≡ word = cc in found.1 ∙ ap (λ w. Ok w) same)
     e
 
-end_read : {P W : Type 0} (g : Grammar P W) (piece : List ℕ) → line_word g piece ≡ Ok None → piece ≡ codes "end"
-end_read g piece e =
+end_read : {P W : Type 0} (g : Grammar P W) (plan : P) (piece : List ℕ) → line_word g plan piece ≡ Ok None → piece ≡ codes "end"
+end_read g plan piece e =
     choice_ok (bytes_eq piece (codes "end")) (Ok None) _ None _ (λ same _. (bytes_eq-Decides piece (codes "end")).0 same)
-    (λ _ rest. let found = step_ok (g.word piece) _ None rest in absurd cc)
+    (λ _ rest. let found = step_ok (g.word plan piece) _ None rest in absurd cc)
     e
 
 -- ---- all lines up to `end`
 
 -- how a front came out of a line
-followed_ok : {P : Type 0} (n : ℕ) (rest : List (List ℕ)) (read : Result (Next × P) Reason) (further : P → Result (FrontText P) BadBatch) (found : FrontText P) (Q : Type 0)
+pub followed_ok : {P : Type 0} (n : ℕ) (rest : List (List ℕ)) (read : Result (Next × P) Reason) (further : P → Result (FrontText P) BadBatch) (found : FrontText P) (Q : Type 0)
     → ((new : P) → read ≡ Ok (More, new) → further new ≡ Ok found → Q)
     → ((new : P) → read ≡ Ok (Last, new) → record { plan = new; lines = n; rest = rest } ≡ found → Q)
     → followed n rest read further ≡ Ok found → Q
@@ -132,7 +132,7 @@ judged_ok {P} g R s n plan found (line ∷ next ∷ rest) e =
     let after = join_with_byte line_feed found.rest in
     record {
       text = first ++ tail.text;
-      adds = s.line m.value plan new found.plan l.piece l.pieces tail.text (word_read g l.piece m.value (l.named ∙ ap (λ w. Ok w) m.is)) m.stands m.reads tail.adds;
+      adds = s.line m.value plan new found.plan l.piece l.pieces tail.text (word_read g plan l.piece m.value (l.named ∙ ap (λ w. Ok w) m.is)) m.stands m.reads tail.adds;
       parts =
           sym (append_assoc line (codes "\n") left)
           ∙ ap (λ (text : List ℕ). text ++ left) l.parts
@@ -143,7 +143,7 @@ judged_ok {P} g R s n plan found (line ∷ next ∷ rest) e =
     (λ new read same.
     let l = line_read g plan line (Last, new) read in
     let last = last_ok g plan new l.pieces l.word l.reads in
-    let end_is : l.piece ≡ codes "end" = end_read g l.piece (l.named ∙ ap (λ w. Ok w) last.0) in
+    let end_is : l.piece ≡ codes "end" = end_read g plan l.piece (l.named ∙ ap (λ w. Ok w) last.0) in
     let IsEnd : FrontText P → Type 0 = λ found. IsBody R plan found (line ∷ next ∷ rest) in
     subst IsEnd same record {
       text = [];
@@ -158,14 +158,14 @@ judged_ok {P} g R s n plan found (line ∷ next ∷ rest) e =
 
 -- ---- the whole text
 
--- the first line of a text, and the text of the lines between it and `end`
-pub record IsText {P W : Type 0} (g : Grammar P W) (R : P → P → List ℕ → Type 0) (plan : P) (text : List ℕ) : Type 0 where
+-- the first line of a text, the text of the lines between it and `end`, and what stands behind `end`
+pub record IsText {P W : Type 0} (g : Grammar P W) (R : P → P → List ℕ → Type 0) (plan : P) (text rest : List ℕ) : Type 0 where
   pub header : List ℕ
   pub start : P
   pub body : List ℕ
   pub first : g.header header ≡ Ok start
   pub adds : R start plan body
-  pub parts : text ≡ ((header ++ codes "\n") ++ body) ++ codes "end\n"
+  pub parts : text ≡ (((header ++ codes "\n") ++ body) ++ codes "end\n") ++ rest
 
 -- no byte behind the last line feed
 nothing_left : (rest : List (List ℕ)) → is_nothing rest ≡ true → join_with_byte line_feed rest ≡ []
@@ -180,12 +180,13 @@ started_ok g R s (Ok plan) rest found e = (plan, refl, judged_ok g R s 2 plan fo
 started_ok g R s (Err reason) rest found e = absurd cc
 
 headed_ok : {P W : Type 0} (g : Grammar P W) (R : P → P → List ℕ → Type 0) → IsSpelling g R → (lines : List (List ℕ)) (found : FrontText P)
-    → headed g lines ≡ Ok found → join_with_byte line_feed found.rest ≡ [] → IsText g R found.plan (join_with_byte line_feed lines)
+    → headed g lines ≡ Ok found → IsText g R found.plan (join_with_byte line_feed lines) (join_with_byte line_feed found.rest)
 unfolding headed
-headed_ok g R s [] found e nothing = absurd cc
-headed_ok g R s (line ∷ []) found e nothing = absurd cc
-headed_ok g R s (line ∷ next ∷ rest) found e nothing =
+headed_ok g R s [] found e = absurd cc
+headed_ok g R s (line ∷ []) found e = absurd cc
+headed_ok g R s (line ∷ next ∷ rest) found e =
     let left = join_with_byte line_feed (next ∷ rest) in
+    let after = join_with_byte line_feed found.rest in
     let started = started_ok g R s (g.header line) (next ∷ rest) found e in
     let body = started.2 in
     record {
@@ -196,16 +197,16 @@ headed_ok g R s (line ∷ next ∷ rest) found e nothing =
       adds = body.adds;
       parts =
           sym (append_assoc line (codes "\n") left)
-          ∙ ap (λ (text : List ℕ). (line ++ codes "\n") ++ text)
-          (body.parts ∙ ap (λ (rest : List ℕ). (body.text ++ codes "end\n") ++ rest) nothing ∙ append-nil (body.text ++ codes "end\n"))
-          ∙ sym (append_assoc (line ++ codes "\n") body.text (codes "end\n"));
+          ∙ ap (λ (text : List ℕ). (line ++ codes "\n") ++ text) body.parts
+          ∙ sym (append_assoc (line ++ codes "\n") (body.text ++ codes "end\n") after)
+          ∙ ap (λ (text : List ℕ). text ++ after) (sym (append_assoc (line ++ codes "\n") body.text (codes "end\n")));
     }
 
-within_ok : {P : Type 0} (test : Bool) (read : Result (FrontText P) BadBatch) (found : FrontText P) → cond test (bad 0 reasons.Size) read ≡ Ok found → read ≡ Ok found
+pub within_ok : {P : Type 0} (test : Bool) (read : Result (FrontText P) BadBatch) (found : FrontText P) → cond test (bad 0 reasons.Size) read ≡ Ok found → read ≡ Ok found
 within_ok true read found e = absurd cc
 within_ok false read found e = e
 
-front_ok : {P : Type 0} (read : Result (FrontText P) BadBatch) (plan : P) → whole read ≡ Ok plan
+pub front_ok : {P : Type 0} (read : Result (FrontText P) BadBatch) (plan : P) → whole read ≡ Ok plan
     → (found : FrontText P) × (read ≡ Ok found) × (is_nothing found.rest ≡ true) × (found.plan ≡ plan)
 front_ok {P = P} (Err fault) plan e = absurd cc
 front_ok {P = P} (Ok found) plan e = go (is_nothing found.rest) refl e
@@ -215,12 +216,20 @@ front_ok {P = P} (Ok found) plan e = go (is_nothing found.rest) refl e
     go true is e = (found, refl, is, cc)
     go false is e = absurd cc
 
+-- a text whose front spells a plan
+pub front_read : {P W : Type 0} (g : Grammar P W) (R : P → P → List ℕ → Type 0) → IsSpelling g R → (most : ℕ) (text : List ℕ) (found : FrontText P)
+    → front g most text ≡ Ok found → IsText g R found.plan text (join_with_byte line_feed found.rest)
+unfolding front
+front_read g R s most text found e =
+    let head = within_ok (nat_lt most (length text)) (headed g (lines_of text)) found e in
+    let after = join_with_byte line_feed found.rest in
+    subst (λ (t : List ℕ). IsText g R found.plan t after) (joined line_feed text) (headed_ok g R s (lines_of text) found head)
+
 -- a text that spells a plan
 pub text_read : {P W : Type 0} (g : Grammar P W) (R : P → P → List ℕ → Type 0) → IsSpelling g R → (most : ℕ) (text : List ℕ) (plan : P)
-    → whole (front g most text) ≡ Ok plan → IsText g R plan text
-unfolding front
+    → whole (front g most text) ≡ Ok plan → IsText g R plan text []
 text_read {P} g R s most text plan e =
     let found = front_ok (front g most text) plan e in
-    let head = within_ok (nat_lt most (length text)) (headed g (lines_of text)) found.0 found.1 in
-    let read = headed_ok g R s (lines_of text) found.0 head (nothing_left found.0.rest found.2) in
-    subst (λ (p : P). IsText g R p text) found.3 (subst (λ (t : List ℕ). IsText g R found.0.plan t) (joined line_feed text) read)
+    let read = front_read g R s most text found.0 found.1 in
+    subst (λ (p : P). IsText g R p text []) found.3
+    (subst (λ (rest : List ℕ). IsText g R found.0.plan text rest) (nothing_left found.0.rest found.2) read)

@@ -2,3 +2,4 @@ pub mod Cuts
 pub mod Fields
 pub mod Lines
 pub mod Printing
+pub mod HexLanes

@@ -17,21 +17,21 @@ use Rattle.field_text.specs.Cuts.{lines_of, pieces_of}
 use Rattle.field_text.specs.Fields.{◌>>=◌, next, exactly}
 
 -- The lines of a text, where P is what lines spell and W the first word of a line: what the first
--- line spells; which word a piece is, other than `end`; where a line of a word may stand; what the
--- line of a word and its further pieces adds.
+-- line spells; which word a piece is, other than `end`, behind the lines so far; where a line of a
+-- word may stand; what the line of a word and its further pieces adds.
 pub record Grammar (P W : Type 0) : Type 0 where
   pub header : List ℕ → Result P Reason
-  pub word : List ℕ → Result W Reason
+  pub word : P → List ℕ → Result W Reason
   pub may_stand : W → P → Bool
   pub with_line : P → W → List (List ℕ) → Result P Reason
 
 -- ---- one line
 
 -- the first word of a line; none for `end`
-abbrev pub line_word : {P W : Type 0} → Grammar P W → List ℕ → Result (Option W) Reason
-line_word grammar piece =
+abbrev pub line_word : {P W : Type 0} → Grammar P W → P → List ℕ → Result (Option W) Reason
+line_word grammar plan piece =
     if bytes_eq piece (codes "end") then Ok None
-    else (grammar.word piece >>= (λ word. Ok (Some word)))
+    else (grammar.word plan piece >>= (λ word. Ok (Some word)))
 
 -- lines may follow
 abbrev pub more : {P : Type 0} → Result P Reason → Result (Next × P) Reason
@@ -53,7 +53,7 @@ with_word grammar plan pieces (Some word) =
 unfoldable pub line_after : {P W : Type 0}
     → Grammar P W → P → List ℕ → Result (Next × P) Reason
 line_after grammar plan line = do
-  (word, pieces) ← next (line_word grammar) (pieces_of line)
+  (word, pieces) ← next (line_word grammar plan) (pieces_of line)
   with_word grammar plan pieces word
 
 -- ---- all lines up to `end`

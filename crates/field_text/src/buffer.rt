@@ -5,6 +5,7 @@ ghost use Rattle.arrayvec.specs.ArrayVec.{array_vec_len};
 ghost use Rattle.hex.specs.Hex.{encode_lower};
 ghost use Rattle.field_text.specs.Printing.{hex_text};
 
+use crate::hex_printing::encode_front;
 use crate::printing::{Printed, write_next};
 use arrayvec::ArrayVec;
 use batch_io::Sink;
@@ -141,12 +142,4 @@ impl Buffer {
         self.flush(sink);
         self.printed
     }
-}
-
-// Writes the hex digits of bytes over the front of room for them.
-fn encode_front(bytes: &[u8], room: &mut [u8])
-    requires { 2 * length bytes.now ≤ length room.old }
-    ensures { take (2 * length bytes.now) room.new ≡ encode_lower bytes.now }
-{
-    let _ = hex::encode_to_slice(bytes, &mut room[..2 * bytes.len()]);
 }

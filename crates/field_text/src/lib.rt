@@ -12,8 +12,8 @@
 //! What is printed goes through a [`Buffer`], by `specs/Printing.antt`: each call puts its piece of
 //! the text, and [`Buffer::finish`] tells whether the sink took the whole text or a prefix of it.
 //!
-//! Each call is linear in the bytes that it reads or puts. Which lines a batch or a reply has is
-//! not known here.
+//! Each call is linear in the bytes that it reads or puts: a line is cut once, and hex digits are
+//! read and written by lanes. Which lines a batch or a reply has is not known here.
 #![tactic(auto)]
 
 mod buffer;
@@ -22,6 +22,10 @@ mod buffer_tests;
 mod cuts;
 mod faults;
 mod fields;
+mod hex_printing;
+mod hex_reading;
+#[cfg(test)]
+mod hex_tests;
 mod lines;
 mod pieces;
 mod printing;

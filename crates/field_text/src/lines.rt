@@ -55,9 +55,9 @@ pub trait Draft: Sized + Drop {
         ensures size { IfOk result (λ draft. size draft ≡ 0) }
         ensures kept { IfOk result kept };
 
-    /// The word that begins a line other than `end`.
-    fn word(piece: &[u8]) -> Result<Self::Word, Reason>
-        ensures { Reads (λ word. word) result (grammar.word piece.now) };
+    /// The word that begins a line other than `end`, behind the lines so far.
+    fn word(&self, piece: &[u8]) -> Result<Self::Word, Reason>
+        ensures { Reads (λ word. word) result (grammar.word (plan self.now) piece.now) };
 
     /// Whether a line of this word may stand behind the lines so far.
     fn may_stand(&self, word: Self::Word) -> bool
@@ -66,6 +66,7 @@ pub trait Draft: Sized + Drop {
     /// Takes the next line, of this word and with these further pieces.
     fn add(&mut self, word: Self::Word, fields: &mut Pieces) -> Result<(), Stop>
         requires room { size self.old + sum_by length fields.old ≤ MOST_INPUT }
+        requires few { length fields.old ≤ MOST_INPUT }
         requires kept { kept self.old }
         requires stands { grammar.may_stand word (plan self.old) ≡ true }
         ensures read { Gives (λ _. plan self.new) result
@@ -106,7 +107,7 @@ fn take_line<D: Draft>(draft: &mut D, line: &[u8]) -> Result<Next, Stop>
         fields.exactly(0)?;
         return Ok(Next::Last);
     }
-    let word = D::word(piece)?;
+    let word = draft.word(piece)?;
     if !draft.may_stand(word) {
         return Err(Stop::Bad(Reason::Order));
     }

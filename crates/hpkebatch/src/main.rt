@@ -22,11 +22,14 @@ fn words<R: Env + Alloc<A = Global>>(rt: &R) -> io::Result<Vec<String>> {
     Ok(words)
 }
 
+const USAGE: &'static str =
+    "usage: hpkebatch run [--workers W] [--mult plain|karatsuba|lanes] | rehearse SCHEDULE";
+
 // What standard error is told of an outcome.
 fn message(outcome: &Outcome) -> Option<&'static str> {
     match outcome {
         Outcome::Done | Outcome::BadBatch { .. } => None,
-        Outcome::Usage => Some("usage: hpkebatch run [--workers W]"),
+        Outcome::Usage => Some(USAGE),
         Outcome::ReadFault => Some("the input could not be read"),
         Outcome::WriteFault => Some("the reply could not be written"),
         Outcome::OutOfMemory => Some("out of memory"),

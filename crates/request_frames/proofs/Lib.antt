@@ -1,5 +1,13 @@
+pub mod Lanes
+pub mod Pairs
 pub mod SpelledFields
+pub mod SpelledKeys
+pub mod SpelledContexts
+pub mod SpelledCalls
+pub mod Growth
 pub mod SpelledPlans
 pub mod Chains
-pub mod Numbering
-pub mod Kept
+pub mod Leaves
+pub mod LinesLeft
+pub mod SpelledTexts
+pub mod Fronts

@@ -1,175 +1,326 @@
--- A text that was read is the text of its plan: each line adds its own text to that of the plan.
-use Rattle.std.proofs.Common.{◌≡◌, ℕ, ◌+◌, ◌<◌, ◌==◌, nat_lt, Bool, true, false, cond, List, [], ◌∷◌, ◌++◌, length, codes, Result, Ok, Err, refl, sym, ap, subst, ◌∙◌, append_assoc, append-nil, arith}
+-- A text that was read is the text of its plan: each line adds its own text to that of the plan, and keeps the
+-- plan within its limits.
+use Rattle.std.proofs.Common.{◌≡◌, ℕ, ◌+◌, ◌<◌, ◌≤◌, ◌==◌, ◌&&◌, ◌||◌, not, nat_le, nat_lt, rules, Bool, true, false, List, [], ◌∷◌, ◌++◌, length, sum_by, codes, decimal, Option, Some, None, Result, Ok, refl, sym, ap, subst, ◌∙◌, append_assoc, append-nil, arith}
+use Rattle.std.specs.Prelude.{IsSome, is_some}
 use Rattle.std.specs.List.{flat_map}
-use Rattle.std.specs.Str.{bytes_eq}
-use Rattle.std.proofs.lemmas.Bool.{eqb-true, ltb-true}
+use Rattle.std.proofs.lemmas.Bool.{eqb-true, leb-true, ltb-true, and_parts}
+use Rattle.std.proofs.lemmas.List.{nil_from_length, length-append}
 use Rattle.std.proofs.lemmas.List.Concat.{flat_map-append}
-use Rattle.std.proofs.lemmas.Slice.Eq.{bytes_eq-Decides}
+use Rattle.std.proofs.lemmas.List.Elements.{All-nil}
+use Rattle.call_places.specs.declared.spans.Item.{Item}
 use Rattle.field_text.specs.declared.reasons.Reason.{Reason}
 use Rattle.field_text.specs.declared.reasons.Reason.TheVariants as reasons
 use Rattle.field_text.specs.Cuts.{line_text}
-use Rattle.field_text.proofs.Spellings.{ok_same, step_ok, choice_ok, exactly_ok, IsFront, IsFront-same, IsFront-then}
-use Rattle.field_text.proofs.SpelledLines.{IsSpelling, no_piece, text_read}
+use Rattle.field_text.specs.Fields.{◌>>=◌}
+use Rattle.field_text.specs.Lines.{front}
+use Rattle.field_text.proofs.Spellings.{ok_same, step_ok, test_ok, exactly_ok, IsFront, IsFront-same, IsFront-then}
+use Rattle.field_text.proofs.SpelledLines.{IsSpelling, no_piece}
 use Rattle.batch_plans.specs.declared.plan.Plan.{Plan}
 use Rattle.batch_plans.specs.declared.plan.CallLine.{CallLine}
-use Rattle.batch_plans.specs.declared.plan.ContextLine.{ContextLine}
+use Rattle.batch_plans.specs.declared.plan.CallLine.TheVariants as calls
 use Rattle.request_frames.specs.declared.words.LineWord.{LineWord}
-use Rattle.request_frames.specs.declared.words.LineWord.TheVariants.{Share, Lane, Seal, Unseal, Export}
-use Rattle.request_frames.specs.Forms.{share, seal, unseal, export}
-use Rattle.request_frames.specs.Batch.{may_stand, at_most, add_call, with_call, with_share, with_lane, with_seal, with_unseal, with_export, with_line, header, batch_lines, batch, empty_plan, Spells}
-use Rattle.batch_plans.specs.Limits.{most_input, most_contexts, most_lanes, most_items, most_exported, items_of, size_of, all_items, all_sizes}
-use Rattle.request_frames.specs.PlanText.{context_text, call_pieces, call_text, lane_text, text_of}
-use Rattle.request_frames.proofs.SpelledFields.{word_text, line_word_ok, IsLine, share_ok, seal_ok, unseal_ok, export_ok}
+use Rattle.request_frames.specs.declared.words.LineWord.TheVariants.{Rand, Key, Context, Lane, Call}
+use Rattle.request_frames.specs.declared.words.KeyWord.{KeyWord}
+use Rattle.request_frames.specs.declared.words.ContextWord.{ContextWord}
+use Rattle.request_frames.specs.declared.words.CallWord.{CallWord}
+use Rattle.request_frames.specs.declared.words.CallWord.TheVariants.{Seal, Unseal, UnsealAll, Export}
+use Rattle.request_frames.specs.Words.{word_text, words_of, draws}
+use Rattle.request_frames.specs.Forms.{rand, key, context, seal, unseal, unseal_all, export}
+use Rattle.request_frames.specs.Batch.{is_bare, takes_keys, may_stand, at_most, add_call, counted, with_rand, with_key, with_context, with_lane, with_one, with_several, with_call, with_line, batch_lines}
+use Rattle.batch_plans.specs.Limits.{most_input, most_keys, most_contexts, most_lanes, most_opening, most_items, most_exported, items_of, size_of, items_from, text_size, all_items, all_sizes}
+use Rattle.request_frames.specs.PlanText.{seed_text, key_text, context_text, item_pieces, call_text, lane_text}
+use Rattle.request_frames.proofs.SpelledFields.{among_ok, front_length}
+use Rattle.request_frames.proofs.SpelledKeys.{rand_ok, key_ok}
+use Rattle.request_frames.proofs.SpelledContexts.{context_ok}
+use Rattle.request_frames.proofs.SpelledCalls.{IsCall, seal_ok, unseal_ok, export_ok, unseal_all_ok}
+use Rattle.request_frames.proofs.Growth as growth
 
--- the lines of a plan's contexts and lanes, with spans of this pool
-abbrev body : List ℕ → Plan → List ℕ
-body pool plan = flat_map (context_text pool) plan.contexts ++ flat_map (lane_text pool) plan.lanes
+-- the first of these items are those
+pub record Begins (front whole : List Item) : Type 0 where
+  pub rest : List Item
+  pub parts : whole ≡ front ++ rest
 
--- the parts of a text
-text_parts : (a b c d : List ℕ) → (a ++ (b ++ c)) ++ d ≡ ((a ++ b) ++ c) ++ d
-text_parts a b c d = ap (λ (front : List ℕ). front ++ d) (sym (append_assoc a b c))
+pub Begins-same : (items : List Item) → Begins items items
+Begins-same items = record { rest = []; parts = sym (append-nil items) }
 
--- a line adds its text at the end of the plan's lines, whatever the pool grows to
-record Adds (plan new : Plan) (text : List ℕ) : Type 0 where
-  grown : IsFront plan.pool new.pool
-  added : (whole : List ℕ) → IsFront new.pool whole → body whole new ≡ body whole plan ++ text
+Begins-then : (a b c : List Item) → Begins a b → Begins b c → Begins a c
+Begins-then a b c first second = record {
+  rest = first.rest ++ second.rest;
+  parts = second.parts ∙ ap (λ (front : List Item). front ++ second.rest) first.parts ∙ append_assoc a first.rest second.rest;
+}
+
+-- the lines of a plan behind the first, with spans of this pool and these items
+abbrev pub body : List ℕ → List Item → Plan → List ℕ
+body pool items plan =
+    seed_text plan.seed ++ flat_map (key_text pool) plan.keys ++ flat_map (context_text pool) plan.contexts ++ flat_map (lane_text pool items) plan.lanes
+
+-- a line adds its text at the end of the plan's lines, whatever the pool and the items grow to, and keeps the
+-- plan within its limits
+pub record Adds (plan new : Plan) (text : List ℕ) : Type 0 where
+  pub version : new.version ≡ plan.version
+  pub grown : IsFront plan.pool new.pool
+  pub begins : Begins plan.items new.items
+  pub added : (whole : List ℕ) (items : List Item) → IsFront new.pool whole → Begins new.items items → body whole items new ≡ body whole items plan ++ text
+  pub built : length new.pool ≤ most_input → growth.IsBuilt plan → growth.IsBuilt new
+
+-- ---- one element more
+
+-- at the end of a list that stands behind another text
+last_more : {A : Type 0} (front : List ℕ) (f : A → List ℕ) (xs : List A) (x : A) (line : List ℕ) → f x ≡ line → front ++ flat_map f (xs ++ x ∷ []) ≡ (front ++ flat_map f xs) ++ line
+last_more front f xs x line same =
+    ap (λ (more : List ℕ). front ++ more) (flat_map-append f xs (x ∷ []) ∙ ap (λ (more : List ℕ). flat_map f xs ++ more) (append-nil (f x) ∙ same))
+    ∙ sym (append_assoc front (flat_map f xs) line)
+
+-- before a text that has no bytes
+before_none : (old new line after : List ℕ) → after ≡ [] → new ≡ old ++ line → new ++ after ≡ (old ++ after) ++ line
+before_none old new line after none same =
+    ap (λ (rest : List ℕ). new ++ rest) none ∙ append-nil new ∙ same
+    ∙ ap (λ (front : List ℕ). front ++ line) (sym (append-nil old) ∙ ap (λ (rest : List ℕ). old ++ rest) (sym none))
+
+-- of an empty list
+texts_none : {A : Type 0} (f : A → List ℕ) (xs : List A) → (length xs == 0) ≡ true → flat_map f xs ≡ []
+texts_none f xs none = ap (flat_map f) (nil_from_length xs (eqb-true (length xs) 0 none))
+
+-- a call in the last lane
+calls_more : (whole : List ℕ) (items : List Item) (lanes : List (List CallLine)) (call : CallLine) → 0 < length lanes
+    → flat_map (lane_text whole items) (add_call lanes call) ≡ flat_map (lane_text whole items) lanes ++ call_text whole items call
+calls_more whole items [] call some = absurd (omega arith)
+calls_more whole items (lane ∷ []) call some =
+    append-nil (lane_text whole items (lane ++ call ∷ []))
+    ∙ last_more (codes "lane\n") (call_text whole items) lane call (call_text whole items call) refl
+    ∙ ap (λ (front : List ℕ). front ++ call_text whole items call) (sym (append-nil (lane_text whole items lane)))
+calls_more whole items (lane ∷ next ∷ more) call some =
+    ap (λ (rest : List ℕ). lane_text whole items lane ++ rest) (calls_more whole items (next ∷ more) call (omega arith))
+    ∙ sym (append_assoc (lane_text whole items lane) (flat_map (lane_text whole items) (next ∷ more)) (call_text whole items call))
+
+-- a count that was within its limit
+counted_ok : {B : Type 0} (limit n : ℕ) (then : ℕ → Result B Reason) (y : B) → (at_most limit n >>= then) ≡ Ok y → (n ≤ limit) × (then n ≡ Ok y)
+counted_ok limit n then y e =
+    let found = test_ok (nat_le n limit) n reasons.Count then y e in
+    (leb-true n limit found.0, found.1)
+
+-- a line that draws stands where there is a seed
+seed_given : (draws : Bool) (seed : Option (List ℕ)) → (not draws || is_some seed) ≡ true → draws ≡ true → IsSome seed
+seed_given true (Some seed) e is = search rules
+seed_given true None e is = absurd cc
+seed_given false seed e is = absurd cc
 
 -- ---- what each line adds
 
--- one element more
-each_more : {A : Type 0} (f : A → List ℕ) (xs : List A) (x : A) → flat_map f (xs ++ x ∷ []) ≡ flat_map f xs ++ f x
-each_more f xs x = flat_map-append f xs (x ∷ []) ∙ ap (λ (more : List ℕ). flat_map f xs ++ more) (append-nil (f x))
+no_seed : (seed : Option (List ℕ)) → not (is_some seed) ≡ true → seed ≡ None
+no_seed None e = refl
+no_seed (Some seed) e = absurd cc
 
--- a context before the first lane
-contexts_more : (whole : List ℕ) (contexts : List ContextLine) (context : ContextLine) (lanes : List (List CallLine)) → length lanes ≡ 0
-    → flat_map (context_text whole) (contexts ++ context ∷ []) ++ flat_map (lane_text whole) lanes
-    ≡ (flat_map (context_text whole) contexts ++ flat_map (lane_text whole) lanes) ++ context_text whole context
-contexts_more whole contexts context [] none =
-    append-nil (flat_map (context_text whole) (contexts ++ context ∷ []))
-    ∙ each_more (context_text whole) contexts context
-    ∙ ap (λ (front : List ℕ). front ++ context_text whole context) (sym (append-nil (flat_map (context_text whole) contexts)))
-contexts_more whole contexts context (lane ∷ lanes) none = absurd (omega arith)
-
--- a call in the last lane
-calls_more : (whole : List ℕ) (lanes : List (List CallLine)) (call : CallLine) → 0 < length lanes
-    → flat_map (lane_text whole) (add_call lanes call) ≡ flat_map (lane_text whole) lanes ++ call_text whole call
-calls_more whole [] call some = absurd (omega arith)
-calls_more whole (lane ∷ []) call some =
-    append-nil (lane_text whole (lane ++ call ∷ []))
-    ∙ ap (λ (calls : List ℕ). codes "lane\n" ++ calls) (each_more (call_text whole) lane call)
-    ∙ ap (λ (front : List ℕ). front ++ call_text whole call) (sym (append-nil (lane_text whole lane)))
-calls_more whole (lane ∷ next ∷ more) call some =
-    ap (λ (rest : List ℕ). lane_text whole lane ++ rest) (calls_more whole (next ∷ more) call (omega arith))
-    ∙ sym (append_assoc (lane_text whole lane) (flat_map (lane_text whole) (next ∷ more)) (call_text whole call))
-
-share_adds : (plan new : Plan) (pieces : List (List ℕ)) → (length plan.lanes == 0) ≡ true → with_share plan pieces ≡ Ok new
-    → Adds plan new (line_text (codes "share" ∷ pieces))
-unfolding with_share
-share_adds plan new pieces none e =
-    let found = step_ok (share plan.pool pieces) _ new e in
-    let count = step_ok (at_most most_contexts (length plan.contexts + 1)) _ new found.2 in
-    let line = share_ok plan.pool pieces found.0.0 found.0.1 found.1 in
-    let IsAfter : Plan → Type 0 = λ new. Adds plan new (line_text (codes "share" ∷ pieces)) in
-    subst IsAfter (ok_same _ _ count.2) record {
-      grown = line.grown;
-      added = λ whole h.
-          contexts_more whole plan.contexts found.0.0 plan.lanes (eqb-true (length plan.lanes) 0 none)
-          ∙ ap (λ (pieces : List (List ℕ)). body whole plan ++ line_text pieces) (line.spelled whole h);
+rand_adds : (plan new : Plan) (pieces : List (List ℕ)) → is_bare plan ≡ true → with_rand plan pieces ≡ Ok new → Adds plan new (line_text (codes "rand" ∷ pieces))
+unfolding with_rand
+rand_adds plan new pieces bare e =
+    let found = step_ok (rand pieces) _ new e in
+    let parts = and_parts (not (is_some plan.seed) && (length plan.keys == 0)) (takes_keys plan) bare in
+    let front = and_parts (not (is_some plan.seed)) (length plan.keys == 0) parts.0 in
+    let places = and_parts (length plan.contexts == 0) (length plan.lanes == 0) parts.1 in
+    let line = line_text (codes "rand" ∷ pieces) in
+    subst (λ (new : Plan). Adds plan new line) (ok_same _ _ found.2) record {
+      version = refl;
+      grown = IsFront-same plan.pool;
+      begins = Begins-same plan.items;
+      added = λ whole items h more.
+          before_none _ _ _ (flat_map (lane_text whole items) plan.lanes) (texts_none (lane_text whole items) plan.lanes places.1)
+          (before_none _ _ _ (flat_map (context_text whole) plan.contexts) (texts_none (context_text whole) plan.contexts places.0)
+          (before_none _ _ _ (flat_map (key_text whole) plan.keys) (texts_none (key_text whole) plan.keys front.1)
+          (ap (λ (pieces : List (List ℕ)). line_text (codes "rand" ∷ pieces)) (rand_ok pieces found.0 found.1)
+          ∙ ap (λ (seed : Option (List ℕ)). seed_text seed ++ line) (sym (no_seed plan.seed front.0)))));
+      built = λ small h. growth.with_seed plan found.0 (eqb-true (length plan.keys) 0 front.1) (eqb-true (length plan.contexts) 0 places.0) h;
     }
+
+key_adds : (word : KeyWord) (plan new : Plan) (pieces : List (List ℕ)) → takes_keys plan ≡ true → (draws (Key word) ≡ true → IsSome plan.seed) → with_key plan word pieces ≡ Ok new
+    → Adds plan new (line_text (word_text (Key word) ∷ pieces))
+unfolding with_key
+key_adds word plan new pieces place given e =
+    let found = step_ok (key word plan.pool pieces) _ new e in
+    let count = counted_ok most_keys (length plan.keys + 1) _ new found.2 in
+    let line = key_ok word plan.pool pieces found.0.0 found.0.1 found.1 in
+    let places = and_parts (length plan.contexts == 0) (length plan.lanes == 0) place in
+    let long = front_length plan.pool found.0.1 line.grown in
+    subst (λ (new : Plan). Adds plan new (line_text (word_text (Key word) ∷ pieces))) (ok_same _ _ count.1) record {
+      version = refl;
+      grown = line.grown;
+      begins = Begins-same plan.items;
+      added = λ whole items h more.
+          let same : key_text whole found.0.0 ≡ line_text (word_text (Key word) ∷ pieces) = ap line_text (line.spelled whole h) in
+          before_none _ _ _ (flat_map (lane_text whole items) plan.lanes) (texts_none (lane_text whole items) plan.lanes places.1)
+          (before_none _ _ _ (flat_map (context_text whole) plan.contexts) (texts_none (context_text whole) plan.contexts places.0)
+          (last_more (seed_text plan.seed) (key_text whole) plan.keys found.0.0 _ same));
+      built = λ small h.
+          growth.with_key (record plan { pool = found.0.1 }) found.0.0 count.0 (line.within plan.seed (length found.0.1) (omega arith) given)
+          (growth.with_pool plan found.0.1 long small h);
+    }
+
+context_adds : (word : ContextWord) (plan new : Plan) (pieces : List (List ℕ)) → (length plan.lanes == 0) ≡ true → (draws (Context word) ≡ true → IsSome plan.seed)
+    → with_context plan word pieces ≡ Ok new → Adds plan new (line_text (word_text (Context word) ∷ pieces))
+unfolding with_context
+context_adds word plan new pieces place given e =
+    let found = step_ok (context word plan.pool pieces) _ new e in
+    let count = counted_ok most_contexts (length plan.contexts + 1) _ new found.2 in
+    let line = context_ok word plan.pool pieces found.0.0 found.0.1 found.1 in
+    let long = front_length plan.pool found.0.1 line.grown in
+    subst (λ (new : Plan). Adds plan new (line_text (word_text (Context word) ∷ pieces))) (ok_same _ _ count.1) record {
+      version = refl;
+      grown = line.grown;
+      begins = Begins-same plan.items;
+      added = λ whole items h more.
+          let same : context_text whole found.0.0 ≡ line_text (word_text (Context word) ∷ pieces) = ap line_text (line.spelled whole h) in
+          before_none _ _ _ (flat_map (lane_text whole items) plan.lanes) (texts_none (lane_text whole items) plan.lanes place)
+          (last_more (seed_text plan.seed ++ flat_map (key_text whole) plan.keys) (context_text whole) plan.contexts found.0.0 _ same);
+      built = λ small h.
+          growth.with_context (record plan { pool = found.0.1 }) found.0.0 count.0 (line.within plan.seed (length found.0.1) (omega arith) given)
+          (growth.with_pool plan found.0.1 long small h);
+    }
+
+-- the lines before the lanes
+abbrev set_up : List ℕ → Plan → List ℕ
+set_up pool plan = seed_text plan.seed ++ flat_map (key_text pool) plan.keys ++ flat_map (context_text pool) plan.contexts
 
 lane_adds : (plan new : Plan) (pieces : List (List ℕ)) → with_lane plan pieces ≡ Ok new → Adds plan new (line_text (codes "lane" ∷ pieces))
 unfolding with_lane
 lane_adds plan new pieces e =
-    let counted = exactly_ok 0 pieces _ new e in
-    let count = step_ok (at_most most_lanes (length plan.lanes + 1)) _ new counted.1 in
-    let IsAfter : Plan → Type 0 = λ new. Adds plan new (line_text (codes "lane" ∷ pieces)) in
-    subst IsAfter (ok_same _ _ count.2) record {
+    let found = exactly_ok 0 pieces _ new e in
+    let count = counted_ok most_lanes (length plan.lanes + 1) _ new found.1 in
+    subst (λ (new : Plan). Adds plan new (line_text (codes "lane" ∷ pieces))) (ok_same _ _ count.1) record {
+      version = refl;
       grown = IsFront-same plan.pool;
-      added = λ whole h.
-          ap (λ (lanes : List ℕ). flat_map (context_text whole) plan.contexts ++ lanes) (each_more (lane_text whole) plan.lanes [])
-          ∙ sym (append_assoc (flat_map (context_text whole) plan.contexts) (flat_map (lane_text whole) plan.lanes) (codes "lane\n"))
-          ∙ ap (λ (pieces : List (List ℕ)). body whole plan ++ line_text (codes "lane" ∷ pieces)) (sym (no_piece pieces counted.0));
+      begins = Begins-same plan.items;
+      added = λ whole items h more.
+          last_more (set_up whole plan) (lane_text whole items) plan.lanes [] _
+          (ap (λ (pieces : List (List ℕ)). line_text (codes "lane" ∷ pieces)) (sym (no_piece pieces found.0)));
+      built = λ small h. growth.with_lane plan count.0 h;
     }
 
--- any call
-call_adds : (plan new : Plan) (pool : List ℕ) (call : CallLine) (pieces : List (List ℕ)) → nat_lt 0 (length plan.lanes) ≡ true
-    → IsLine plan.pool pool (λ whole. call_pieces whole call) pieces → with_call (record plan { pool = pool }) call ≡ Ok new
+-- a call whose counts were within their limits, in a plan with a longer pool and more items
+record IsCounted (plan new : Plan) (call : CallLine) : Type 0 where
+  items : all_items plan.lanes + items_of call ≤ most_items
+  opening : items_of call ≤ most_opening
+  sizes : all_sizes plan.lanes + size_of call ≤ most_exported
+  is : record plan { lanes = add_call plan.lanes call } ≡ new
+
+is_counted : (plan new : Plan) (call : CallLine) → counted plan call ≡ Ok new → IsCounted plan new call
+unfolding counted
+is_counted plan new call e =
+    let opening = counted_ok most_opening (items_of call) _ new e in
+    let items = counted_ok most_items (all_items plan.lanes + items_of call) _ new opening.1 in
+    let sizes = counted_ok most_exported (all_sizes plan.lanes + size_of call) _ new items.1 in
+    record { items = items.0; opening = opening.0; sizes = sizes.0; is = ok_same _ _ sizes.1 }
+
+-- the text of a call in the last lane, behind the lines before the lanes
+call_added : (whole : List ℕ) (items : List Item) (plan : Plan) (call : CallLine) (line : List ℕ) → 0 < length plan.lanes → call_text whole items call ≡ line
+    → set_up whole plan ++ flat_map (lane_text whole items) (add_call plan.lanes call) ≡ (set_up whole plan ++ flat_map (lane_text whole items) plan.lanes) ++ line
+call_added whole items plan call line some same =
+    ap (λ (lanes : List ℕ). set_up whole plan ++ lanes)
+    (calls_more whole items plan.lanes call some ∙ ap (λ (line : List ℕ). flat_map (lane_text whole items) plan.lanes ++ line) same)
+    ∙ sym (append_assoc (set_up whole plan) (flat_map (lane_text whole items) plan.lanes) line)
+
+one_adds : (plan new : Plan) (read : Result (CallLine × List ℕ) Reason) (pieces : List (List ℕ)) → nat_lt 0 (length plan.lanes) ≡ true
+    → ((line : CallLine × List ℕ) → read ≡ Ok line → IsCall plan.pool line.1 line.0 pieces) → with_one plan read ≡ Ok new
     → Adds plan new (line_text pieces)
-unfolding with_call
-call_adds plan new pool call pieces some line e =
-    let items = step_ok (at_most most_items (all_items plan.lanes + items_of call)) _ new e in
-    let sizes = step_ok (at_most most_exported (all_sizes plan.lanes + size_of call)) _ new items.2 in
-    let IsAfter : Plan → Type 0 = λ new. Adds plan new (line_text pieces) in
-    subst IsAfter (ok_same _ _ sizes.2) record {
+unfolding with_one
+one_adds plan new read pieces place reads e =
+    let found = step_ok read _ new e in
+    let call = found.0.0 in
+    let pool = found.0.1 in
+    let line = reads found.0 found.1 in
+    let longer : Plan = record plan { pool = pool } in
+    let count = is_counted longer new call found.2 in
+    let some = ltb-true 0 (length plan.lanes) place in
+    let long = front_length plan.pool pool line.grown in
+    subst (λ (new : Plan). Adds plan new (line_text pieces)) count.is record {
+      version = refl;
       grown = line.grown;
-      added = λ whole h.
-          ap (λ (lanes : List ℕ). flat_map (context_text whole) plan.contexts ++ lanes)
-          (calls_more whole plan.lanes call (ltb-true 0 (length plan.lanes) some))
-          ∙ sym (append_assoc (flat_map (context_text whole) plan.contexts) (flat_map (lane_text whole) plan.lanes) (call_text whole call))
-          ∙ ap (λ (pieces : List (List ℕ)). body whole plan ++ line_text pieces) (line.spelled whole h);
+      begins = Begins-same plan.items;
+      added = λ whole items h more. call_added whole items plan call _ some (ap line_text (line.spelled whole items h));
+      built = λ small h.
+          let same : plan.items ++ [] ≡ plan.items = append-nil plan.items in
+          let built = growth.with_call longer [] call some count.items count.sizes (omega (arith, h.limits.texts, line.text (plan.items ++ []))) (omega arith)
+          (All-nil _) (line.within (length (plan.items ++ [])) (length pool) (omega arith)) (growth.with_pool plan pool long small h) in
+          subst (λ (items : List Item). growth.IsBuilt (record longer { items = items; lanes = add_call plan.lanes call })) same built;
     }
 
-seal_adds : (plan new : Plan) (pieces : List (List ℕ)) → nat_lt 0 (length plan.lanes) ≡ true → with_seal plan pieces ≡ Ok new
-    → Adds plan new (line_text (codes "seal" ∷ pieces))
-seal_adds plan new pieces some e =
-    let found = step_ok (seal plan.pool pieces) _ new e in
-    call_adds plan new found.0.1 found.0.0 (codes "seal" ∷ pieces) some (seal_ok plan.pool pieces found.0.0 found.0.1 found.1) found.2
+several_adds : (plan new : Plan) (pieces : List (List ℕ)) → nat_lt 0 (length plan.lanes) ≡ true → with_several plan pieces ≡ Ok new
+    → Adds plan new (line_text (codes "unsealall" ∷ pieces))
+unfolding with_several
+several_adds plan new pieces place e =
+    let found = step_ok (unseal_all plan.pool pieces) _ new e in
+    let more = found.0.1 in
+    let pool = found.0.2 in
+    let line = unseal_all_ok plan.pool pieces found.0 found.1 in
+    let call : CallLine = calls.UnsealAll found.0.0 (length plan.items) (length more) in
+    let longer : Plan = record plan { pool = pool } in
+    let wider : Plan = record longer { items = plan.items ++ more } in
+    let count = is_counted wider new call found.2 in
+    let some = ltb-true 0 (length plan.lanes) place in
+    let long = front_length plan.pool pool line.grown in
+    subst (λ (new : Plan). Adds plan new (line_text (codes "unsealall" ∷ pieces))) count.is record {
+      version = refl;
+      grown = line.grown;
+      begins = record { rest = more; parts = refl };
+      added = λ whole items h behind.
+          let own : items_from items (length plan.items) (length more) ≡ more =
+          ap (λ (items : List Item). items_from items (length plan.items) (length more)) behind.parts ∙ growth.items_own plan.items more behind.rest in
+          let here : decimal found.0.0 ∷ flat_map (item_pieces whole) (items_from items (length plan.items) (length more)) ≡ pieces =
+          ap (λ (items : List Item). decimal found.0.0 ∷ flat_map (item_pieces whole) items) own ∙ line.spelled whole h in
+          call_added whole items plan call _ some (ap (λ (pieces : List (List ℕ)). line_text (codes "unsealall" ∷ pieces)) here);
+      built = λ small h.
+          let own : items_from (plan.items ++ more) (length plan.items) (length more) ≡ more =
+          ap (λ (items : List Item). items_from items (length plan.items) (length more)) (sym (append-nil (plan.items ++ more))) ∙ growth.items_own plan.items more [] in
+          let text : text_size (plan.items ++ more) call ≡ sum_by (λ item. item.text.len) more = ap (λ (items : List Item). sum_by (λ (item : Item). item.text.len) items) own in
+          growth.with_call longer more call some count.items count.sizes (omega (arith, h.limits.texts, line.text, text)) (omega arith)
+          (line.within (length pool) (omega arith))
+          (line.context, line.some, count.opening, omega (arith, length-append plan.items more)) (growth.with_pool plan pool long small h);
+    }
 
-unseal_adds : (plan new : Plan) (pieces : List (List ℕ)) → nat_lt 0 (length plan.lanes) ≡ true → with_unseal plan pieces ≡ Ok new
-    → Adds plan new (line_text (codes "unseal" ∷ pieces))
-unseal_adds plan new pieces some e =
-    let found = step_ok (unseal plan.pool pieces) _ new e in
-    call_adds plan new found.0.1 found.0.0 (codes "unseal" ∷ pieces) some (unseal_ok plan.pool pieces found.0.0 found.0.1 found.1) found.2
-
-export_adds : (plan new : Plan) (pieces : List (List ℕ)) → nat_lt 0 (length plan.lanes) ≡ true → with_export plan pieces ≡ Ok new
-    → Adds plan new (line_text (codes "export" ∷ pieces))
-export_adds plan new pieces some e =
-    let found = step_ok (export plan.pool pieces) _ new e in
-    call_adds plan new found.0.1 found.0.0 (codes "export" ∷ pieces) some (export_ok plan.pool pieces found.0.0 found.0.1 found.1) found.2
+call_adds : (word : CallWord) (plan new : Plan) (pieces : List (List ℕ)) → nat_lt 0 (length plan.lanes) ≡ true → with_call plan word pieces ≡ Ok new
+    → Adds plan new (line_text (word_text (Call word) ∷ pieces))
+call_adds Seal plan new pieces place e = one_adds plan new (seal plan.pool pieces) _ place (λ line read. seal_ok plan.pool pieces line read) e
+call_adds Unseal plan new pieces place e = one_adds plan new (unseal plan.pool pieces) _ place (λ line read. unseal_ok plan.pool pieces line read) e
+call_adds UnsealAll plan new pieces place e = several_adds plan new pieces place e
+call_adds Export plan new pieces place e = one_adds plan new (export plan.pool pieces) _ place (λ line read. export_ok plan.pool pieces line read) e
 
 -- ---- any line
 
 line_adds : (word : LineWord) (plan new : Plan) (pieces : List (List ℕ)) → may_stand word plan ≡ true → with_line plan word pieces ≡ Ok new
     → Adds plan new (line_text (word_text word ∷ pieces))
-unfolding with_line
-line_adds Share plan new pieces stands e = share_adds plan new pieces stands e
+line_adds Rand plan new pieces stands e = rand_adds plan new pieces (and_parts (is_bare plan) true stands).0 e
+line_adds (Key word) plan new pieces stands e =
+    let parts = and_parts (takes_keys plan) (not (draws (Key word)) || is_some plan.seed) stands in
+    key_adds word plan new pieces parts.0 (seed_given (draws (Key word)) plan.seed parts.1) e
+line_adds (Context word) plan new pieces stands e =
+    let parts = and_parts (length plan.lanes == 0) (not (draws (Context word)) || is_some plan.seed) stands in
+    context_adds word plan new pieces parts.0 (seed_given (draws (Context word)) plan.seed parts.1) e
 line_adds Lane plan new pieces stands e = lane_adds plan new pieces e
-line_adds Seal plan new pieces stands e = seal_adds plan new pieces stands e
-line_adds Unseal plan new pieces stands e = unseal_adds plan new pieces stands e
-line_adds Export plan new pieces stands e = export_adds plan new pieces stands e
+line_adds (Call word) plan new pieces stands e = call_adds word plan new pieces (and_parts (nat_lt 0 (length plan.lanes)) true stands).0 e
 
 -- lines after a line
 adds_then : (plan new final : Plan) (line text : List ℕ) → Adds plan new line → Adds new final text → Adds plan final (line ++ text)
 adds_then plan new final line text first more = record {
+  version = more.version ∙ first.version;
   grown = IsFront-then plan.pool new.pool final.pool first.grown more.grown;
-  added = λ whole h.
-      more.added whole h
-      ∙ ap (λ (front : List ℕ). front ++ text) (first.added whole (IsFront-then new.pool final.pool whole more.grown h))
-      ∙ append_assoc (body whole plan) line text;
+  begins = Begins-then plan.items new.items final.items first.begins more.begins;
+  added = λ whole items h behind.
+      more.added whole items h behind
+      ∙ ap (λ (front : List ℕ). front ++ text)
+      (first.added whole items (IsFront-then new.pool final.pool whole more.grown h) (Begins-then new.items final.items items more.begins behind))
+      ∙ append_assoc (body whole items plan) line text;
+  built = λ small h. more.built small (first.built (omega (arith, small, front_length new.pool final.pool more.grown)) h);
 }
 
-spelling : IsSpelling batch_lines Adds
+pub spelling : IsSpelling batch_lines Adds
 spelling = record {
-  none = λ plan. record { grown = IsFront-same plan.pool; added = λ whole h. sym (append-nil (body whole plan)) };
+  none = λ plan. record {
+    version = refl;
+    grown = IsFront-same plan.pool;
+    begins = Begins-same plan.items;
+    added = λ whole items h behind. sym (append-nil (body whole items plan));
+    built = λ small h. h;
+  };
   line = λ word plan new final piece pieces text named stands read more.
       adds_then plan new final (line_text (piece ∷ pieces)) text
-      (subst (λ (piece : List ℕ). Adds plan new (line_text (piece ∷ pieces))) (line_word_ok piece word named) (line_adds word plan new pieces stands read)) more;
+      (subst (λ (piece : List ℕ). Adds plan new (line_text (piece ∷ pieces))) (among_ok (words_of plan.version) piece word named) (line_adds word plan new pieces stands read)) more;
 }
-
-header_ok : (line : List ℕ) (plan : Plan) → header line ≡ Ok plan → (line ≡ codes "hpkebatch 1") × (empty_plan ≡ plan)
-header_ok line plan e =
-    choice_ok (bytes_eq line (codes "hpkebatch 1")) (Ok empty_plan) (Err reasons.Header) plan _
-    (λ same ok. ((bytes_eq-Decides line (codes "hpkebatch 1")).0 same, ok_same _ _ ok)) (λ _ err. absurd cc) e
-
--- a text that spells a plan is the text of that plan
-pub text_back : (text : List ℕ) (plan : Plan) → Spells text plan → text ≡ text_of plan
-unfolding batch
-text_back text plan e =
-    let read = text_read batch_lines Adds spelling most_input text plan e in
-    let first = header_ok read.header read.start read.first in
-    let start : body plan.pool read.start ≡ [] = ap (body plan.pool) (sym first.1) in
-    let added : body plan.pool plan ≡ read.body = read.adds.added plan.pool (IsFront-same plan.pool) ∙ ap (λ (front : List ℕ). front ++ read.body) start in
-    read.parts
-    ∙ ap (λ (line : List ℕ). ((line ++ codes "\n") ++ read.body) ++ codes "end\n") first.0
-    ∙ ap (λ (body : List ℕ). (codes "hpkebatch 1\n" ++ body) ++ codes "end\n") (sym added)
-    ∙ text_parts (codes "hpkebatch 1\n") (flat_map (context_text plan.pool) plan.contexts) (flat_map (lane_text plan.pool) plan.lanes) (codes "end\n")

@@ -1,32 +1,52 @@
 -- The batch text: which bytes spell which plan, and which line of all other bytes is the first bad
 -- one, with its first reason. How a text of lines is judged says `Lines.antt` of field_text; here
 -- stands which lines there are, and what each adds to the plan of the lines before it.
-use Rattle.std.specs.Prelude.{◌≡◌, ℕ, ◌+◌, ◌==◌, nat_lt, nat_le, Bool, true, false, List, [], ◌∷◌, ◌++◌, length, None, codes, Result, Ok, Err, if◌then◌else◌}
+use Rattle.std.specs.Prelude.{◌≡◌, ℕ, ◌+◌, ◌-◌, ◌==◌, ◌&&◌, ◌||◌, not, nat_lt, nat_le, Bool, true, List, [], ◌∷◌, ◌++◌, length, Some, None, is_some, codes, Result, Ok, Err, if◌then◌else◌}
+use Rattle.std.specs.List.{join_with_byte}
 use Rattle.std.specs.Str.{bytes_eq}
 use Rattle.field_text.specs.declared.reasons.Reason.{Reason}
 use Rattle.field_text.specs.declared.reasons.Reason.TheVariants as reasons
+use Rattle.field_text.specs.Cuts.{line_feed}
 use Rattle.field_text.specs.Fields.{◌>>=◌, exactly}
-use Rattle.field_text.specs.Lines.{Grammar, bad, front, whole}
+use Rattle.field_text.specs.Lines.{Grammar, FrontText, bad, front, whole}
 use Rattle.field_text.specs.declared.faults.BadBatch.{BadBatch}
 use Rattle.field_text.specs.declared.faults.ReadBatchFault.{ReadBatchFault}
 use Rattle.field_text.specs.declared.faults.ReadBatchFault.TheVariants as faults
 use Rattle.batch_plans.specs.declared.plan.Plan.{Plan}
 use Rattle.batch_plans.specs.declared.plan.CallLine.{CallLine}
+use Rattle.batch_plans.specs.declared.plan.CallLine.TheVariants as calls
 use Rattle.request_frames.specs.declared.words.LineWord.{LineWord}
-use Rattle.request_frames.specs.declared.words.LineWord.TheVariants.{Share, Lane, Seal, Unseal, Export}
-use Rattle.request_frames.specs.Words.{line_word}
-use Rattle.request_frames.specs.Forms.{share, seal, unseal, export}
-use Rattle.batch_plans.specs.Limits.{most_input, most_contexts, most_lanes, most_items, most_exported, items_of, size_of, all_items, all_sizes}
+use Rattle.request_frames.specs.declared.words.LineWord.TheVariants.{Rand, Key, Context, Lane, Call}
+use Rattle.request_frames.specs.declared.words.KeyWord.{KeyWord}
+use Rattle.request_frames.specs.declared.words.ContextWord.{ContextWord}
+use Rattle.request_frames.specs.declared.words.CallWord.{CallWord}
+use Rattle.request_frames.specs.declared.words.CallWord.TheVariants.{Seal, Unseal, UnsealAll, Export}
+use Rattle.request_frames.specs.Words.{line_word, draws}
+use Rattle.request_frames.specs.Forms.{rand, key, context, seal, unseal, unseal_all, export}
+use Rattle.batch_plans.specs.Limits.{most_input, most_keys, most_contexts, most_lanes, most_opening, most_items, most_exported, items_of, size_of, all_items, all_sizes}
 
 -- ---- order
 
--- where a line may stand: contexts before the first lane, calls in a lane
+-- a plan without a context line and a lane
+abbrev pub takes_keys : Plan → Bool
+takes_keys plan = (length plan.contexts == 0) && (length plan.lanes == 0)
+
+-- a plan of the first line alone
+abbrev pub is_bare : Plan → Bool
+is_bare plan = not (is_some plan.seed) && (length plan.keys == 0) && takes_keys plan
+
+-- where a line has its place: `rand` behind the first line, keys before the first context line and
+-- the first lane, contexts before the first lane, calls in a lane
+abbrev pub has_place : LineWord → Plan → Bool
+has_place Rand plan = is_bare plan
+has_place (Key word) plan = takes_keys plan
+has_place (Context word) plan = length plan.lanes == 0
+has_place Lane plan = true
+has_place (Call word) plan = nat_lt 0 (length plan.lanes)
+
+-- a line that draws from the seed stands only where there is one
 abbrev pub may_stand : LineWord → Plan → Bool
-may_stand Share plan = length plan.lanes == 0
-may_stand Lane plan = true
-may_stand Seal plan = nat_lt 0 (length plan.lanes)
-may_stand Unseal plan = nat_lt 0 (length plan.lanes)
-may_stand Export plan = nat_lt 0 (length plan.lanes)
+may_stand word plan = has_place word plan && (not (draws word) || is_some plan.seed)
 
 -- ---- what a line adds to the plan of the lines before it
 
@@ -40,17 +60,31 @@ add_call [] call = []
 add_call (lane ∷ []) call = (lane ++ call ∷ []) ∷ []
 add_call (lane ∷ next ∷ more) call = lane ∷ add_call (next ∷ more) call
 
--- any call
-unfoldable pub with_call : Plan → CallLine → Result Plan Reason
-with_call plan call = do
+-- any call, where the counts are within their limits with it
+unfoldable pub counted : Plan → CallLine → Result Plan Reason
+counted plan call = do
+  items ← at_most most_opening (items_of call)
   items ← at_most most_items (all_items plan.lanes + items_of call)
   sizes ← at_most most_exported (all_sizes plan.lanes + size_of call)
   Ok (record plan { lanes = add_call plan.lanes call })
 
--- `share ..`
-unfoldable pub with_share : Plan → List (List ℕ) → Result Plan Reason
-with_share plan pieces = do
-  (context, pool) ← share plan.pool pieces
+-- `rand ..`
+unfoldable pub with_rand : Plan → List (List ℕ) → Result Plan Reason
+with_rand plan pieces = do
+  seed ← rand pieces
+  Ok (record plan { seed = Some seed })
+
+-- a key line
+unfoldable pub with_key : Plan → KeyWord → List (List ℕ) → Result Plan Reason
+with_key plan word pieces = do
+  (key, pool) ← key word plan.pool pieces
+  count ← at_most most_keys (length plan.keys + 1)
+  Ok (record plan { pool = pool; keys = plan.keys ++ key ∷ [] })
+
+-- a context line
+unfoldable pub with_context : Plan → ContextWord → List (List ℕ) → Result Plan Reason
+with_context plan word pieces = do
+  (context, pool) ← context word plan.pool pieces
   count ← at_most most_contexts (length plan.contexts + 1)
   Ok (record plan { pool = pool; contexts = plan.contexts ++ context ∷ [] })
 
@@ -61,47 +95,65 @@ with_lane plan pieces = do
   count ← at_most most_lanes (length plan.lanes + 1)
   Ok (record plan { lanes = plan.lanes ++ [] ∷ [] })
 
--- `seal ..`
-abbrev pub with_seal : Plan → List (List ℕ) → Result Plan Reason
-with_seal plan pieces = do
-  (call, pool) ← seal plan.pool pieces
-  with_call (record plan { pool = pool }) call
+-- `seal ..`, `unseal ..`, `export ..`, or the like
+unfoldable pub with_one : Plan → Result (CallLine × List ℕ) Reason → Result Plan Reason
+with_one plan read = do
+  (call, pool) ← read
+  counted (record plan { pool = pool }) call
 
--- `unseal ..`
-abbrev pub with_unseal : Plan → List (List ℕ) → Result Plan Reason
-with_unseal plan pieces = do
-  (call, pool) ← unseal plan.pool pieces
-  with_call (record plan { pool = pool }) call
+-- `unsealall ..`
+unfoldable pub with_several : Plan → List (List ℕ) → Result Plan Reason
+with_several plan pieces = do
+  (context, items, pool) ← unseal_all plan.pool pieces
+  counted (record plan { pool = pool; items = plan.items ++ items })
+      (calls.UnsealAll context (length plan.items) (length items))
 
--- `export ..`
-abbrev pub with_export : Plan → List (List ℕ) → Result Plan Reason
-with_export plan pieces = do
-  (call, pool) ← export plan.pool pieces
-  with_call (record plan { pool = pool }) call
+-- a call line
+abbrev pub with_call : Plan → CallWord → List (List ℕ) → Result Plan Reason
+with_call plan Seal pieces = with_one plan (seal plan.pool pieces)
+with_call plan Unseal pieces = with_one plan (unseal plan.pool pieces)
+with_call plan UnsealAll pieces = with_several plan pieces
+with_call plan Export pieces = with_one plan (export plan.pool pieces)
 
 -- a line of each word
-unfoldable pub with_line : Plan → LineWord → List (List ℕ) → Result Plan Reason
-with_line plan Share pieces = with_share plan pieces
+abbrev pub with_line : Plan → LineWord → List (List ℕ) → Result Plan Reason
+with_line plan Rand pieces = with_rand plan pieces
+with_line plan (Key word) pieces = with_key plan word pieces
+with_line plan (Context word) pieces = with_context plan word pieces
 with_line plan Lane pieces = with_lane plan pieces
-with_line plan Seal pieces = with_seal plan pieces
-with_line plan Unseal pieces = with_unseal plan pieces
-with_line plan Export pieces = with_export plan pieces
+with_line plan (Call word) pieces = with_call plan word pieces
 
 -- ---- the whole text
 
--- the plan of no line
-abbrev pub empty_plan : Plan
-empty_plan =
-    record { seed = None; pool = []; keys = []; contexts = []; items = []; lanes = [] }
+-- the plan of the first line alone
+abbrev pub empty_plan : ℕ → Plan
+empty_plan version =
+    record {
+      version = version;
+      seed = None;
+      pool = [];
+      keys = [];
+      contexts = [];
+      items = [];
+      lanes = [];
+    }
 
 -- the first line
 abbrev pub header : List ℕ → Result Plan Reason
-header line = if bytes_eq line (codes "hpkebatch 1") then Ok empty_plan else Err reasons.Header
+header line =
+    if bytes_eq line (codes "hpkebatch 1") then Ok (empty_plan 1)
+    else if bytes_eq line (codes "hpkebatch 2") then Ok (empty_plan 2)
+    else Err reasons.Header
 
 -- the lines of a batch
 abbrev pub batch_lines : Grammar Plan LineWord
 batch_lines =
-    record { header = header; word = line_word; may_stand = may_stand; with_line = with_line }
+    record {
+      header = header;
+      word = λ plan piece. line_word plan.version piece;
+      may_stand = may_stand;
+      with_line = with_line;
+    }
 
 -- the plan of a text, or its first bad line and first reason
 unfoldable pub batch : List ℕ → Result Plan BadBatch
@@ -115,12 +167,32 @@ Spells text plan = batch text ≡ Ok plan
 abbrev pub BadAt : List ℕ → ℕ → Reason → Type 0
 BadAt text line reason = batch text ≡ bad line reason
 
--- ---- how `read_batch` answers
+-- ---- a batch at the front of a text
 
--- no plan, for the reason that this line has
-abbrev pub refusal : ℕ → Reason → Result Plan ReadBatchFault
+-- the plan of the lines up to `end`, and how many bytes these are
+abbrev pub ended : List ℕ → Result (FrontText Plan) BadBatch → Result (Plan × ℕ) BadBatch
+ended text (Err fault) = Err fault
+ended text (Ok front) =
+    Ok (front.plan, length text - length (join_with_byte line_feed front.rest))
+
+-- the plan at the front of a text and where it ends, or the first bad line and first reason
+unfoldable pub front_batch : List ℕ → Result (Plan × ℕ) BadBatch
+front_batch text = ended text (front batch_lines most_input text)
+
+-- the text begins with this many bytes in the grammar, and this is their plan
+abbrev pub BeginsWith : List ℕ → Plan → ℕ → Type 0
+BeginsWith text plan end = front_batch text ≡ Ok (plan, end)
+
+-- the first bad line up to `end`, and its first reason
+abbrev pub FrontBadAt : List ℕ → ℕ → Reason → Type 0
+FrontBadAt text line reason = front_batch text ≡ bad line reason
+
+-- ---- how `read_batch` and `read_front` answer
+
+-- nothing, for the reason that this line has
+abbrev pub refusal : {A : Type 0} → ℕ → Reason → Result A ReadBatchFault
 refusal line reason = Err (faults.Bad (record { line = line; reason = reason }))
 
--- no plan, for want of memory
-abbrev pub no_memory : Result Plan ReadBatchFault
+-- nothing, for want of memory
+abbrev pub no_memory : {A : Type 0} → Result A ReadBatchFault
 no_memory = Err faults.OutOfMemory

@@ -1,32 +1,88 @@
 -- The lines of a batch without their first word: what each one spells. The bytes of each bytes
 -- field go to the end of the pool in turn.
-use Rattle.std.specs.Prelude.{ℕ, List, Result, Ok}
+use Rattle.std.specs.Prelude.{ℕ, ◌%◌, ◌==◌, ◌&&◌, nat_lt, Bool, false, List, [], ◌∷◌, ◌++◌, length, drop, Result, Ok, Err, if◌then◌else◌}
+use Rattle.call_places.specs.declared.spans.Span.{Span}
+use Rattle.call_places.specs.declared.spans.Item.{Item}
+use Rattle.hkdf_labelled.specs.declared.suites.Kdf.{Kdf}
+use Rattle.hkdf_labelled.specs.declared.suites.Aead.{Aead}
 use Rattle.field_text.specs.declared.reasons.Reason.{Reason}
+use Rattle.field_text.specs.declared.reasons.Reason.TheVariants.{Fields, Size}
 use Rattle.field_text.specs.Fields.{◌>>=◌, next, exactly, number, bytes}
+use Rattle.batch_plans.specs.declared.plan.KeyLine.{KeyLine}
+use Rattle.batch_plans.specs.declared.plan.KeyLine.TheVariants as keys
+use Rattle.batch_plans.specs.declared.plan.EncField.{EncField}
+use Rattle.batch_plans.specs.declared.plan.EncField.TheVariants.{Bytes, Of}
+use Rattle.batch_plans.specs.declared.plan.ContextKind.{ContextKind}
+use Rattle.batch_plans.specs.declared.plan.ContextKind.TheVariants as kinds
 use Rattle.batch_plans.specs.declared.plan.ContextLine.{ContextLine}
-use Rattle.batch_plans.specs.declared.plan.ContextKind.TheVariants.{Share}
 use Rattle.batch_plans.specs.declared.plan.CallLine.{CallLine}
 use Rattle.batch_plans.specs.declared.plan.CallLine.TheVariants.{Seal, Unseal, Export}
+use Rattle.request_frames.specs.declared.words.KeyWord.{KeyWord}
+use Rattle.request_frames.specs.declared.words.KeyWord.TheVariants.{Generate, Secret, Peer, Generate857, Secret857, Peer857}
+use Rattle.request_frames.specs.declared.words.ContextWord.{ContextWord}
+use Rattle.request_frames.specs.declared.words.ContextWord.TheVariants.{Share, Send, Recv}
 use Rattle.request_frames.specs.Words.{role, mode, kdf, aead}
 use Rattle.batch_plans.specs.Limits.{most_field, most_plaintext, most_ciphertext}
 
--- `share ROLE KEM KDF AEAD SECRET MODE INFO PSK PSKID LIMIT`
-unfoldable pub share : List ℕ → List (List ℕ) → Result (ContextLine × List ℕ) Reason
-share pool pieces = do
-  pieces ← exactly 10 pieces
-  (role, pieces) ← next role pieces
-  (kem, pieces) ← next (number 0 65535) pieces
-  (kdf, pieces) ← next kdf pieces
-  (aead, pieces) ← next aead pieces
-  (secret, pieces) ← next (bytes most_field pool) pieces
+-- ---- the seed
+
+-- H64: a bytes field of exactly 32 bytes
+abbrev pub seed_field : List ℕ → Result (List ℕ) Reason
+seed_field piece = do
+  read ← bytes 32 [] piece
+  if length read.pool == 32 then Ok read.pool else Err Size
+
+-- `rand H64`
+unfoldable pub rand : List (List ℕ) → Result (List ℕ) Reason
+rand pieces = do
+  pieces ← exactly 1 pieces
+  (seed, pieces) ← next seed_field pieces
+  Ok seed
+
+-- ---- key lines
+
+-- HEX alone, the bytes of a key
+unfoldable pub key_bytes : List ℕ → List (List ℕ) → Result (Span × List ℕ) Reason
+key_bytes pool pieces = do
+  pieces ← exactly 1 pieces
+  (read, pieces) ← next (bytes most_field pool) pieces
+  Ok (read.span, read.pool)
+
+-- `keygen`, `secret HEX`, `peer HEX`, and the same of sntrup857
+abbrev pub key : KeyWord → List ℕ → List (List ℕ) → Result (KeyLine × List ℕ) Reason
+key Generate pool pieces = do
+  pieces ← exactly 0 pieces
+  Ok (keys.Generate, pool)
+key Secret pool pieces = do
+  (bytes, pool) ← key_bytes pool pieces
+  Ok (keys.Secret bytes, pool)
+key Peer pool pieces = do
+  (bytes, pool) ← key_bytes pool pieces
+  Ok (keys.Peer bytes, pool)
+key Generate857 pool pieces = do
+  pieces ← exactly 0 pieces
+  Ok (keys.Generate857, pool)
+key Secret857 pool pieces = do
+  (bytes, pool) ← key_bytes pool pieces
+  Ok (keys.Secret857 bytes, pool)
+key Peer857 pool pieces = do
+  (bytes, pool) ← key_bytes pool pieces
+  Ok (keys.Peer857 bytes, pool)
+
+-- ---- context lines
+
+-- `MODE INFO PSK PSKID LIMIT`, which ends each context line, behind what it says before
+unfoldable pub schedule : ContextKind → Kdf → Aead
+    → List ℕ → List (List ℕ) → Result (ContextLine × List ℕ) Reason
+schedule kind kdf aead pool pieces = do
   (mode, pieces) ← next mode pieces
-  (info, pieces) ← next (bytes most_field secret.pool) pieces
+  (info, pieces) ← next (bytes most_field pool) pieces
   (psk, pieces) ← next (bytes most_field info.pool) pieces
   (psk_id, pieces) ← next (bytes most_field psk.pool) pieces
   (limit, pieces) ← next (number 1 18446744073709551615) pieces
   Ok (
     record {
-      kind = Share role kem secret.span;
+      kind = kind;
       kdf = kdf;
       aead = aead;
       mode = mode;
@@ -38,23 +94,93 @@ share pool pieces = do
     psk_id.pool,
   )
 
--- `seal CTX AAD PT`
-unfoldable pub seal : List ℕ → List (List ℕ) → Result (CallLine × List ℕ) Reason
-seal pool pieces = do
+-- `share ROLE KEM KDF AEAD SECRET MODE INFO PSK PSKID LIMIT`
+unfoldable pub share : List ℕ → List (List ℕ) → Result (ContextLine × List ℕ) Reason
+share pool pieces = do
+  pieces ← exactly 10 pieces
+  (role, pieces) ← next role pieces
+  (kem, pieces) ← next (number 0 65535) pieces
+  (kdf, pieces) ← next kdf pieces
+  (aead, pieces) ← next aead pieces
+  (secret, pieces) ← next (bytes most_field pool) pieces
+  schedule (kinds.Share role kem secret.span) kdf aead secret.pool pieces
+
+-- `send KDF AEAD KEY MODE INFO PSK PSKID LIMIT`
+unfoldable pub send : List ℕ → List (List ℕ) → Result (ContextLine × List ℕ) Reason
+send pool pieces = do
+  pieces ← exactly 8 pieces
+  (kdf, pieces) ← next kdf pieces
+  (aead, pieces) ← next aead pieces
+  (key, pieces) ← next (number 0 65535) pieces
+  schedule (kinds.Send key) kdf aead pool pieces
+
+-- a piece that begins with `@`
+abbrev pub is_reference : List ℕ → Bool
+is_reference [] = false
+is_reference (first ∷ more) = first == 64
+
+-- `@` and the number of a context line
+abbrev pub reference : List ℕ → List ℕ → Result (EncField × List ℕ) Reason
+reference pool piece = do
+  number ← number 0 65535 (drop 1 piece)
+  Ok (Of number, pool)
+
+-- the bytes of an encapsulation
+abbrev pub enc_bytes : List ℕ → List ℕ → Result (EncField × List ℕ) Reason
+enc_bytes pool piece = do
+  read ← bytes most_field pool piece
+  Ok (Bytes read.span, read.pool)
+
+-- ENC
+abbrev pub enc : List ℕ → List ℕ → Result (EncField × List ℕ) Reason
+enc pool piece = if is_reference piece then reference pool piece else enc_bytes pool piece
+
+-- `recv KDF AEAD KEY ENC MODE INFO PSK PSKID LIMIT`
+unfoldable pub recv : List ℕ → List (List ℕ) → Result (ContextLine × List ℕ) Reason
+recv pool pieces = do
+  pieces ← exactly 9 pieces
+  (kdf, pieces) ← next kdf pieces
+  (aead, pieces) ← next aead pieces
+  (key, pieces) ← next (number 0 65535) pieces
+  ((enc, pool), pieces) ← next (enc pool) pieces
+  schedule (kinds.Recv key enc) kdf aead pool pieces
+
+-- a context line of each word
+abbrev pub context : ContextWord
+    → List ℕ → List (List ℕ) → Result (ContextLine × List ℕ) Reason
+context Share pool pieces = share pool pieces
+context Send pool pieces = send pool pieces
+context Recv pool pieces = recv pool pieces
+
+-- ---- call lines
+
+-- `AAD TEXT`, with a text of so many bytes at most
+unfoldable pub item : ℕ
+    → List ℕ → List (List ℕ) → Result ((Item × List ℕ) × List (List ℕ)) Reason
+item most pool pieces = do
+  (aad, pieces) ← next (bytes most_field pool) pieces
+  (text, pieces) ← next (bytes most aad.pool) pieces
+  Ok ((record { aad = aad.span; text = text.span }, text.pool), pieces)
+
+-- `CTX AAD TEXT`
+unfoldable pub one_item : ℕ → List ℕ → List (List ℕ) → Result (ℕ × Item × List ℕ) Reason
+one_item most pool pieces = do
   pieces ← exactly 3 pieces
   (context, pieces) ← next (number 0 65535) pieces
-  (aad, pieces) ← next (bytes most_field pool) pieces
-  (text, pieces) ← next (bytes most_plaintext aad.pool) pieces
-  Ok (Seal context (record { aad = aad.span; text = text.span }), text.pool)
+  ((item, pool), pieces) ← item most pool pieces
+  Ok (context, item, pool)
+
+-- `seal CTX AAD PT`
+abbrev pub seal : List ℕ → List (List ℕ) → Result (CallLine × List ℕ) Reason
+seal pool pieces = do
+  (context, item, pool) ← one_item most_plaintext pool pieces
+  Ok (Seal context item, pool)
 
 -- `unseal CTX AAD CT`: a ciphertext is 16 bytes longer than its plaintext (RFC 9180, 7.3)
-unfoldable pub unseal : List ℕ → List (List ℕ) → Result (CallLine × List ℕ) Reason
+abbrev pub unseal : List ℕ → List (List ℕ) → Result (CallLine × List ℕ) Reason
 unseal pool pieces = do
-  pieces ← exactly 3 pieces
-  (context, pieces) ← next (number 0 65535) pieces
-  (aad, pieces) ← next (bytes most_field pool) pieces
-  (text, pieces) ← next (bytes most_ciphertext aad.pool) pieces
-  Ok (Unseal context (record { aad = aad.span; text = text.span }), text.pool)
+  (context, item, pool) ← one_item most_ciphertext pool pieces
+  Ok (Unseal context item, pool)
 
 -- `export CTX BYTES LEN`
 unfoldable pub export : List ℕ → List (List ℕ) → Result (CallLine × List ℕ) Reason
@@ -64,3 +190,24 @@ export pool pieces = do
   (exporter, pieces) ← next (bytes most_field pool) pieces
   (size, pieces) ← next (number 0 65535) pieces
   Ok (Export context exporter.span size, exporter.pool)
+
+-- pairs `AAD CT`, each an item behind these
+unfoldable pub pairs : List ℕ → List Item → List (List ℕ) → Result (List Item × List ℕ) Reason
+pairs pool items [] = Ok (items, pool)
+pairs pool items (piece ∷ []) = Err Fields
+pairs pool items (aad ∷ text ∷ more) = do
+  ((item, pool), none) ← item most_ciphertext pool (aad ∷ text ∷ [])
+  pairs pool (items ++ item ∷ []) more
+
+-- a piece, and one pair or more
+abbrev pub one_and_pairs : List (List ℕ) → Result (List (List ℕ)) Reason
+one_and_pairs pieces =
+    if nat_lt 1 (length pieces) && (length pieces % 2 == 1) then Ok pieces else Err Fields
+
+-- `unsealall CTX AAD CT`, then any number of further pairs `AAD CT`
+unfoldable pub unseal_all : List ℕ → List (List ℕ) → Result (ℕ × List Item × List ℕ) Reason
+unseal_all pool pieces = do
+  pieces ← one_and_pairs pieces
+  (context, pieces) ← next (number 0 65535) pieces
+  (items, pool) ← pairs pool [] pieces
+  Ok (context, items, pool)

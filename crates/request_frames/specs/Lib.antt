@@ -2,5 +2,5 @@ pub mod Words
 pub mod Forms
 pub mod Batch
 pub mod PlanText
+pub mod FieldFaults
 pub mod Drafts
-pub mod ReplyText

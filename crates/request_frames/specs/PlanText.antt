@@ -1,10 +1,11 @@
 -- The text of a plan, line by line in the order of the format. A line's pieces are parted by single
 -- spaces, and a line feed ends it. Numbers are decimal without leading zeros, bytes are lower-case
 -- hex digits, `-` for none. A span names bytes of the plan's pool.
-use Rattle.std.specs.Prelude.{ℕ, List, [], ◌∷◌, ◌++◌, codes, decimal}
+use Rattle.std.specs.Prelude.{ℕ, List, [], ◌∷◌, ◌++◌, Option, Some, None, codes, decimal}
 use Rattle.std.specs.List.{flat_map}
 use Rattle.call_places.specs.Spans.{span_bytes}
 use Rattle.call_places.specs.declared.spans.Span.{Span}
+use Rattle.call_places.specs.declared.spans.Item.{Item}
 use Rattle.hkdf_labelled.specs.Suites.{kdf_id, aead_id}
 use Rattle.key_schedule.specs.declared.modes.Role.{Role}
 use Rattle.key_schedule.specs.declared.modes.Role.TheVariants.{Sender, Recipient}
@@ -12,14 +13,17 @@ use Rattle.key_schedule.specs.declared.modes.Mode.{Mode}
 use Rattle.key_schedule.specs.declared.modes.Mode.TheVariants.{Base, Psk}
 use Rattle.field_text.specs.Cuts.{line_text}
 use Rattle.field_text.specs.Printing.{hex_text}
+use Rattle.batch_plans.specs.declared.plan.KeyLine.{KeyLine}
+use Rattle.batch_plans.specs.declared.plan.KeyLine.TheVariants.{Generate, Secret, Peer, Generate857, Secret857, Peer857}
 use Rattle.batch_plans.specs.declared.plan.ContextKind.{ContextKind}
 use Rattle.batch_plans.specs.declared.plan.ContextKind.TheVariants.{Share, Send, Recv}
 use Rattle.batch_plans.specs.declared.plan.EncField.{EncField}
 use Rattle.batch_plans.specs.declared.plan.EncField.TheVariants.{Bytes, Of}
 use Rattle.batch_plans.specs.declared.plan.ContextLine.{ContextLine}
 use Rattle.batch_plans.specs.declared.plan.CallLine.{CallLine}
-use Rattle.batch_plans.specs.declared.plan.CallLine.TheVariants.{Seal, Unseal, Export}
+use Rattle.batch_plans.specs.declared.plan.CallLine.TheVariants.{Seal, Unseal, UnsealAll, Export}
 use Rattle.batch_plans.specs.declared.plan.Plan.{Plan}
+use Rattle.batch_plans.specs.Limits.{items_from}
 
 -- ---- pieces
 
@@ -41,6 +45,15 @@ span_text pool span = hex_text (span_bytes pool span)
 abbrev pub enc_text : List ℕ → EncField → List ℕ
 enc_text pool (Bytes span) = span_text pool span
 enc_text pool (Of number) = codes "@" ++ decimal number
+
+-- of a key line
+abbrev pub key_pieces : List ℕ → KeyLine → List (List ℕ)
+key_pieces pool Generate = codes "keygen" ∷ []
+key_pieces pool (Secret bytes) = codes "secret" ∷ span_text pool bytes ∷ []
+key_pieces pool (Peer bytes) = codes "peer" ∷ span_text pool bytes ∷ []
+key_pieces pool Generate857 = codes "keygen857" ∷ []
+key_pieces pool (Secret857 bytes) = codes "secret857" ∷ span_text pool bytes ∷ []
+key_pieces pool (Peer857 bytes) = codes "peer857" ∷ span_text pool bytes ∷ []
 
 -- `MODE INFO PSK PSKID LIMIT`
 abbrev pub schedule_pieces : List ℕ → ContextLine → List (List ℕ)
@@ -76,33 +89,55 @@ context_pieces pool context (Recv key enc) =
     ∷ enc_text pool enc
     ∷ schedule_pieces pool context
 
--- of a call line: `seal CTX AAD PT`, `unseal CTX AAD CT`, `export CTX BYTES LEN`
-abbrev pub call_pieces : List ℕ → CallLine → List (List ℕ)
-call_pieces pool (Seal context item) =
-    codes "seal" ∷ decimal context ∷ span_text pool item.aad ∷ span_text pool item.text ∷ []
-call_pieces pool (Unseal context item) =
-    codes "unseal" ∷ decimal context ∷ span_text pool item.aad ∷ span_text pool item.text ∷ []
-call_pieces pool (Export context exporter size) =
+-- `AAD TEXT`
+abbrev pub item_pieces : List ℕ → Item → List (List ℕ)
+item_pieces pool item = span_text pool item.aad ∷ span_text pool item.text ∷ []
+
+-- of a call line, in a plan with these items: `seal CTX AAD PT`, `unseal CTX AAD CT`,
+-- `unsealall CTX AAD CT ..`, `export CTX BYTES LEN`
+abbrev pub call_pieces : List ℕ → List Item → CallLine → List (List ℕ)
+call_pieces pool items (Seal context item) =
+    codes "seal" ∷ decimal context ∷ item_pieces pool item
+call_pieces pool items (Unseal context item) =
+    codes "unseal" ∷ decimal context ∷ item_pieces pool item
+call_pieces pool items (UnsealAll context first count) =
+    codes "unsealall"
+    ∷ decimal context
+    ∷ flat_map (item_pieces pool) (items_from items first count)
+call_pieces pool items (Export context exporter size) =
     codes "export" ∷ decimal context ∷ span_text pool exporter ∷ decimal size ∷ []
 
 -- ---- lines
+
+-- `rand H64`, where there is a seed
+abbrev pub seed_text : Option (List ℕ) → List ℕ
+seed_text None = []
+seed_text (Some seed) = line_text (codes "rand" ∷ hex_text seed ∷ [])
+
+-- a key line
+abbrev pub key_text : List ℕ → KeyLine → List ℕ
+key_text pool key = line_text (key_pieces pool key)
 
 -- a context line
 abbrev pub context_text : List ℕ → ContextLine → List ℕ
 context_text pool context = line_text (context_pieces pool context context.kind)
 
 -- a call line
-abbrev pub call_text : List ℕ → CallLine → List ℕ
-call_text pool call = line_text (call_pieces pool call)
+abbrev pub call_text : List ℕ → List Item → CallLine → List ℕ
+call_text pool items call = line_text (call_pieces pool items call)
 
 -- `lane` and the lines of its calls
-abbrev pub lane_text : List ℕ → List CallLine → List ℕ
-lane_text pool calls = codes "lane\n" ++ flat_map (call_text pool) calls
+abbrev pub lane_text : List ℕ → List Item → List CallLine → List ℕ
+lane_text pool items calls = codes "lane\n" ++ flat_map (call_text pool items) calls
 
 -- the whole text
 abbrev pub text_of : Plan → List ℕ
 text_of plan =
-    codes "hpkebatch 1\n"
+    codes "hpkebatch "
+    ++ decimal plan.version
+    ++ codes "\n"
+    ++ seed_text plan.seed
+    ++ flat_map (key_text plan.pool) plan.keys
     ++ flat_map (context_text plan.pool) plan.contexts
-    ++ flat_map (lane_text plan.pool) plan.lanes
+    ++ flat_map (lane_text plan.pool plan.items) plan.lanes
     ++ codes "end\n"

@@ -1,5 +1,5 @@
 -- The pieces of a line that are one of a few words or numbers.
-use Rattle.std.specs.Prelude.{ℕ, ◌==◌, List, codes, Result, Ok, Err, if◌then◌else◌}
+use Rattle.std.specs.Prelude.{ℕ, ◌==◌, Bool, true, false, List, [], ◌∷◌, ◌++◌, codes, Result, Ok, Err, if◌then◌else◌}
 use Rattle.std.specs.Str.{bytes_eq}
 use Rattle.hkdf_labelled.specs.declared.suites.Kdf.{Kdf}
 use Rattle.hkdf_labelled.specs.declared.suites.Kdf.TheVariants.{Sha256, Sha384, Sha512}
@@ -13,17 +13,73 @@ use Rattle.field_text.specs.declared.reasons.Reason.{Reason}
 use Rattle.field_text.specs.declared.reasons.Reason.TheVariants.{Word, Range}
 use Rattle.field_text.specs.Fields.{◌>>=◌, number}
 use Rattle.request_frames.specs.declared.words.LineWord.{LineWord}
-use Rattle.request_frames.specs.declared.words.LineWord.TheVariants.{Share, Lane, Seal, Unseal, Export}
+use Rattle.request_frames.specs.declared.words.LineWord.TheVariants.{Rand, Key, Context, Lane, Call}
+use Rattle.request_frames.specs.declared.words.KeyWord.TheVariants.{Generate, Secret, Peer, Generate857, Secret857, Peer857}
+use Rattle.request_frames.specs.declared.words.ContextWord.TheVariants.{Share, Send, Recv}
+use Rattle.request_frames.specs.declared.words.CallWord.TheVariants.{Seal, Unseal, UnsealAll, Export}
 
--- the first word of a line, other than `end`
-abbrev pub line_word : List ℕ → Result LineWord Reason
-line_word piece =
-    if bytes_eq piece (codes "share") then Ok Share
-    else if bytes_eq piece (codes "lane") then Ok Lane
-    else if bytes_eq piece (codes "seal") then Ok Seal
-    else if bytes_eq piece (codes "unseal") then Ok Unseal
-    else if bytes_eq piece (codes "export") then Ok Export
-    else Err Word
+-- ---- the first word of a line, other than `end`
+
+-- how each word is spelled
+abbrev pub word_text : LineWord → List ℕ
+word_text Rand = codes "rand"
+word_text (Key Generate) = codes "keygen"
+word_text (Key Secret) = codes "secret"
+word_text (Key Peer) = codes "peer"
+word_text (Key Generate857) = codes "keygen857"
+word_text (Key Secret857) = codes "secret857"
+word_text (Key Peer857) = codes "peer857"
+word_text (Context Share) = codes "share"
+word_text (Context Send) = codes "send"
+word_text (Context Recv) = codes "recv"
+word_text Lane = codes "lane"
+word_text (Call Seal) = codes "seal"
+word_text (Call Unseal) = codes "unseal"
+word_text (Call UnsealAll) = codes "unsealall"
+word_text (Call Export) = codes "export"
+
+-- the words of both versions
+abbrev pub set_up_words : List LineWord
+set_up_words =
+    Rand
+    ∷ Key Generate
+    ∷ Key Secret
+    ∷ Key Peer
+    ∷ Context Share
+    ∷ Context Send
+    ∷ Context Recv
+    ∷ []
+
+abbrev pub lane_words : List LineWord
+lane_words = Lane ∷ Call Seal ∷ Call Unseal ∷ Call UnsealAll ∷ Call Export ∷ []
+
+-- the words of version 2 alone
+abbrev pub words_857 : List LineWord
+words_857 = Key Generate857 ∷ Key Secret857 ∷ Key Peer857 ∷ []
+
+-- the words of a version
+abbrev pub words_of : ℕ → List LineWord
+words_of version =
+    if version == 2 then words_857 ++ set_up_words ++ lane_words else set_up_words ++ lane_words
+
+-- which of these words a piece is
+abbrev pub word_among : List LineWord → List ℕ → Result LineWord Reason
+word_among [] piece = Err Word
+word_among (word ∷ more) piece =
+    if bytes_eq piece (word_text word) then Ok word else word_among more piece
+
+-- the word of a line, in a text of this version
+abbrev pub line_word : ℕ → List ℕ → Result LineWord Reason
+line_word version piece = word_among (words_of version) piece
+
+-- the lines that stand only where there is a seed
+abbrev pub draws : LineWord → Bool
+draws (Key Generate) = true
+draws (Key Generate857) = true
+draws (Context Send) = true
+draws other = false
+
+-- ---- fields
 
 -- ROLE
 abbrev pub role : List ℕ → Result Role Reason

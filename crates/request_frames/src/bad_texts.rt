@@ -10,7 +10,7 @@ pub struct BadCase {
     pub reason: Reason,
 }
 
-pub const BAD: [BadCase; 70] = [
+pub const BAD: [BadCase; 58] = [
     BadCase {
         what: "no byte",
         text: b"",
@@ -24,8 +24,8 @@ pub const BAD: [BadCase; 70] = [
         reason: Reason::Header,
     },
     BadCase {
-        what: "another version",
-        text: b"hpkebatch 2\nend\n",
+        what: "a third version",
+        text: b"hpkebatch 3\nend\n",
         line: 1,
         reason: Reason::Header,
     },
@@ -114,48 +114,6 @@ pub const BAD: [BadCase; 70] = [
         reason: Reason::Word,
     },
     BadCase {
-        what: "the word `rand`",
-        text: b"hpkebatch 1\nrand\nend\n",
-        line: 2,
-        reason: Reason::Word,
-    },
-    BadCase {
-        what: "the word `keygen`",
-        text: b"hpkebatch 1\nkeygen\nend\n",
-        line: 2,
-        reason: Reason::Word,
-    },
-    BadCase {
-        what: "the word `secret`",
-        text: b"hpkebatch 1\nsecret\nend\n",
-        line: 2,
-        reason: Reason::Word,
-    },
-    BadCase {
-        what: "the word `peer`",
-        text: b"hpkebatch 1\npeer\nend\n",
-        line: 2,
-        reason: Reason::Word,
-    },
-    BadCase {
-        what: "the word `send`",
-        text: b"hpkebatch 1\nsend\nend\n",
-        line: 2,
-        reason: Reason::Word,
-    },
-    BadCase {
-        what: "the word `recv`",
-        text: b"hpkebatch 1\nrecv\nend\n",
-        line: 2,
-        reason: Reason::Word,
-    },
-    BadCase {
-        what: "the word `unsealall`",
-        text: b"hpkebatch 1\nunsealall\nend\n",
-        line: 2,
-        reason: Reason::Word,
-    },
-    BadCase {
         what: "a call before the lane",
         text: b"hpkebatch 1\nexport 0 - 32\nend\n",
         line: 2,
@@ -165,18 +123,6 @@ pub const BAD: [BadCase; 70] = [
         what: "a call before the lane, without its fields",
         text: b"hpkebatch 1\nexport\nend\n",
         line: 2,
-        reason: Reason::Order,
-    },
-    BadCase {
-        what: "a context behind the lane",
-        text: b"hpkebatch 1\nlane\nshare send 32 1 1 ab base - - - 9\nend\n",
-        line: 3,
-        reason: Reason::Order,
-    },
-    BadCase {
-        what: "a context behind the lane, without its fields",
-        text: b"hpkebatch 1\nlane\nshare\nend\n",
-        line: 3,
         reason: Reason::Order,
     },
     BadCase {
@@ -190,12 +136,6 @@ pub const BAD: [BadCase; 70] = [
         text: b"hpkebatch 1\nlane\nlane 0\nend\n",
         line: 3,
         reason: Reason::Fields,
-    },
-    BadCase {
-        what: "a second `lane`",
-        text: b"hpkebatch 1\nlane\nlane\nend\n",
-        line: 3,
-        reason: Reason::Count,
     },
     BadCase {
         what: "two fields of `export`",
@@ -282,10 +222,52 @@ pub const BAD: [BadCase; 70] = [
         reason: Reason::Hex,
     },
     BadCase {
-        what: "nine fields of `share`",
-        text: b"hpkebatch 1\nshare send 32 1 1 ab base - - 9\nend\n",
+        what: "an `unsealall` before the lane",
+        text: b"hpkebatch 1\nunsealall 0 - -\nend\n",
         line: 2,
+        reason: Reason::Order,
+    },
+    BadCase {
+        what: "an `unsealall` without a pair",
+        text: b"hpkebatch 1\nlane\nunsealall 0\nend\n",
+        line: 3,
         reason: Reason::Fields,
+    },
+    BadCase {
+        what: "an `unsealall` of half a pair",
+        text: b"hpkebatch 1\nlane\nunsealall 0 -\nend\n",
+        line: 3,
+        reason: Reason::Fields,
+    },
+    BadCase {
+        what: "an `unsealall` of a pair and a half",
+        text: b"hpkebatch 1\nlane\nunsealall 0 - - -\nend\n",
+        line: 3,
+        reason: Reason::Fields,
+    },
+    BadCase {
+        what: "an `unsealall` without its fields",
+        text: b"hpkebatch 1\nlane\nunsealall\nend\n",
+        line: 3,
+        reason: Reason::Fields,
+    },
+    BadCase {
+        what: "CTX of `unsealall` before its pairs",
+        text: b"hpkebatch 1\nlane\nunsealall 65536 x x\nend\n",
+        line: 3,
+        reason: Reason::Range,
+    },
+    BadCase {
+        what: "an AAD of the second pair",
+        text: b"hpkebatch 1\nlane\nunsealall 0 - - x -\nend\n",
+        line: 3,
+        reason: Reason::Hex,
+    },
+    BadCase {
+        what: "an empty CT of the second pair",
+        text: b"hpkebatch 1\nlane\nunsealall 0 - - - \nend\n",
+        line: 3,
+        reason: Reason::Hex,
     },
     BadCase {
         what: "an empty CTX",
@@ -370,60 +352,6 @@ pub const BAD: [BadCase; 70] = [
         text: b"hpkebatch 1\nlane\nexport 0 -- 32\nend\n",
         line: 3,
         reason: Reason::Hex,
-    },
-    BadCase {
-        what: "a ROLE that is none",
-        text: b"hpkebatch 1\nshare sender 32 1 1 ab base - - - 9\nend\n",
-        line: 2,
-        reason: Reason::Word,
-    },
-    BadCase {
-        what: "KEM of 65536",
-        text: b"hpkebatch 1\nshare send 65536 1 1 ab base - - - 9\nend\n",
-        line: 2,
-        reason: Reason::Range,
-    },
-    BadCase {
-        what: "KDF of 0",
-        text: b"hpkebatch 1\nshare send 32 0 1 ab base - - - 9\nend\n",
-        line: 2,
-        reason: Reason::Range,
-    },
-    BadCase {
-        what: "KDF of 4",
-        text: b"hpkebatch 1\nshare send 32 4 1 ab base - - - 9\nend\n",
-        line: 2,
-        reason: Reason::Range,
-    },
-    BadCase {
-        what: "AEAD of 3, ChaCha20Poly1305",
-        text: b"hpkebatch 1\nshare send 32 1 3 ab base - - - 9\nend\n",
-        line: 2,
-        reason: Reason::Range,
-    },
-    BadCase {
-        what: "AEAD of 65536",
-        text: b"hpkebatch 1\nshare send 32 1 65536 ab base - - - 9\nend\n",
-        line: 2,
-        reason: Reason::Range,
-    },
-    BadCase {
-        what: "a MODE that is none",
-        text: b"hpkebatch 1\nshare send 32 1 1 ab auth - - - 9\nend\n",
-        line: 2,
-        reason: Reason::Word,
-    },
-    BadCase {
-        what: "LIMIT of 0",
-        text: b"hpkebatch 1\nshare send 32 1 1 ab base - - - 0\nend\n",
-        line: 2,
-        reason: Reason::Range,
-    },
-    BadCase {
-        what: "LIMIT of 2^64",
-        text: b"hpkebatch 1\nshare send 32 1 1 ab base - - - 18446744073709551616\nend\n",
-        line: 2,
-        reason: Reason::Range,
     },
     BadCase {
         what: "a good line before a bad one",

@@ -1,122 +1,96 @@
 //! The plan of the lines so far.
 
-ghost use Rattle.std.specs.Prelude.{◌≡◌, ◌+◌, ◌<◌, ◌≤◌, ◌^◌, length};
-ghost use Rattle.std.specs.Prelude.{sum_by, OnOk, IfOk, true, false};
-ghost use Rattle.field_text.specs.Fields.{Gives, Reads};
-ghost use Rattle.request_frames.specs.Batch.{with_call as call_of};
-ghost use Rattle.request_frames.specs.Batch.{with_share as share_of, with_lane as lane_of};
-ghost use Rattle.batch_plans.specs.Limits.{size_of, text_size, all_texts, IsCallWithin};
-ghost use Rattle.batch_plans.specs.Limits.{IsContextWithin, IsWithinLimits};
+ghost use Rattle.std.specs.Prelude.{◌≡◌, IfOk};
+ghost use Rattle.request_frames.specs.Batch.{has_place as place_of, empty_plan};
 ghost use Rattle.request_frames.specs.Drafts.{plan_of, IsKept};
 
+use crate::words;
 use crate::words::LineWord;
-use crate::{lines, words};
-use batch_plans::limits::{MOST_CONTEXTS, MOST_EXPORTED, MOST_ITEMS};
-use batch_plans::{CallLine, ContextLine, PlainList, Plan, limits};
+use batch_plans::{CallLine, ContextLine, KeyLine, PlainList, Plan, limits};
+use call_places::Item;
 use field_text::{Draft, Pieces, Reason, Stop};
 use std::alloc::{AllocError, Global};
 
-/// The lines so far, with the calls of the one lane where it is open.
+/// The lines so far. The lane that is open stands apart from those before it, and the counts of
+/// all lanes are kept.
 #[derive(Drop)]
 pub struct BatchDraft {
-    pool: Vec<u8>,
-    contexts: Vec<ContextLine>,
-    calls: Vec<CallLine>,
-    in_lane: bool,
-    size_sum: u32,
-}
-
-// The LEN of a call.
-fn size_of(call: &CallLine) -> u32
-    ensures { result ≡ size_of call.now }
-{
-    match *call {
-        CallLine::Seal { .. } | CallLine::Unseal { .. } => 0,
-        CallLine::Export { size, .. } => size,
-    }
+    pub(super) alloc: Global,
+    pub(super) version: u8,
+    pub(super) seed: Option<[u8; 32]>,
+    pub(super) pool: Vec<u8>,
+    pub(super) keys: Vec<KeyLine>,
+    pub(super) contexts: Vec<ContextLine>,
+    pub(super) items: Vec<Item>,
+    pub(super) lanes: Vec<PlainList<CallLine>>,
+    pub(super) calls: Vec<CallLine>,
+    pub(super) in_lane: bool,
+    pub(super) item_count: usize,
+    pub(super) size_sum: u64,
 }
 
 impl BatchDraft {
-    // A call of the open lane.
-    #[tactic(auto, using(crate::proofs::Kept::facts), unfolding(crate::specs::Batch::with_call))]
-    fn with_call(&mut self, call: CallLine) -> Result<(), Stop>
-        requires kept { IsKept self.old }
-        requires open { self.old.in_lane ≡ true }
-        requires within { IsCallWithin (length (plan_of self.old).pool) call }
-        requires text { all_texts (plan_of self.old).lanes + text_size call
-            ≤ length (plan_of self.old).pool }
-        ensures read { Gives (λ _. plan_of self.new) result (call_of (plan_of self.old) call) }
-        ensures kept { OnOk result (IsKept self.new) }
-        ensures pool { self.new.pool.items ≡ self.old.pool.items }
+    fn of_version(alloc: Global, version: u8) -> BatchDraft
+        ensures plan { plan_of result ≡ empty_plan version }
+        ensures kept { IsKept result }
     {
-        if self.calls.len() >= MOST_ITEMS {
-            return Err(Stop::Bad(Reason::Count));
+        BatchDraft {
+            alloc,
+            version,
+            seed: None,
+            pool: Vec::new(alloc),
+            keys: Vec::new(alloc),
+            contexts: Vec::new(alloc),
+            items: Vec::new(alloc),
+            lanes: Vec::new(alloc),
+            calls: Vec::new(alloc),
+            in_lane: false,
+            item_count: 0,
+            size_sum: 0,
         }
-        let size_sum = self.size_sum + size_of(&call);
-        if size_sum > MOST_EXPORTED {
-            return Err(Stop::Bad(Reason::Count));
-        }
-        self.calls.push(call)?;
-        self.size_sum = size_sum;
-        Ok(())
     }
 
-    #[tactic(auto, using(crate::proofs::Kept::facts), unfolding(crate::specs::Batch::with_share))]
-    fn with_share(&mut self, fields: &mut Pieces) -> Result<(), Stop>
-        requires room { length (plan_of self.old).pool + sum_by length fields.old ≤ 67108864 }
-        requires kept { IsKept self.old }
-        ensures read { Gives (λ _. plan_of self.new) result
-            (share_of (plan_of self.old) fields.old) }
-        ensures kept { OnOk result (IsKept self.new) }
-        ensures size { OnOk result (length (plan_of self.new).pool
-            ≤ length (plan_of self.old).pool + sum_by length fields.old) }
+    // Whether a line of this word has its place here.
+    fn has_place(&self, word: LineWord) -> bool
+        ensures { result ≡ place_of word (plan_of self.now) }
     {
-        let context = lines::share(&mut self.pool, fields)?;
-        if self.contexts.len() >= MOST_CONTEXTS {
-            return Err(Stop::Bad(Reason::Count));
+        let takes_keys = self.contexts.is_empty() && !self.in_lane;
+        match word {
+            LineWord::Rand => self.seed.is_none() && self.keys.is_empty() && takes_keys,
+            LineWord::Key(_) => takes_keys,
+            LineWord::Context(_) => !self.in_lane,
+            LineWord::Lane => true,
+            LineWord::Call(_) => self.in_lane,
         }
-        self.contexts.push(context)?;
-        Ok(())
-    }
-
-    #[tactic(auto, unfolding(crate::specs::Batch::with_lane))]
-    fn with_lane(&mut self, fields: &Pieces) -> Result<(), Reason>
-        requires kept { IsKept self.old }
-        ensures read { Reads (λ _. plan_of self.new) result
-            (lane_of (plan_of self.old) fields.now) }
-        ensures kept { OnOk result (IsKept self.new) }
-        ensures pool { self.new.pool.items ≡ self.old.pool.items }
-    {
-        fields.exactly(0)?;
-        // A batch has one lane.
-        if self.in_lane {
-            return Err(Reason::Count);
-        }
-        self.in_lane = true;
-        Ok(())
     }
 
     /// The plan of all lines.
-    pub fn finish(self, alloc: Global) -> Result<Plan, AllocError>
+    pub fn finish(self) -> Result<Plan, AllocError>
+        requires kept { IsKept self }
         ensures plan { IfOk result (λ plan. plan ≡ plan_of self) }
     {
         let BatchDraft {
+            version,
+            seed,
             pool,
+            keys,
             contexts,
+            items,
+            mut lanes,
             calls,
             in_lane,
             ..
         } = self;
-        let mut lanes = Vec::new(alloc);
         if in_lane {
             lanes.push(PlainList::from_vec(calls))?;
         }
         Ok(Plan {
-            seed: None,
+            version,
+            seed,
             pool: PlainList::from_vec(pool),
-            keys: PlainList::from_vec(Vec::new(alloc)),
+            keys: PlainList::from_vec(keys),
             contexts: PlainList::from_vec(contexts),
-            items: PlainList::from_vec(Vec::new(alloc)),
+            items: PlainList::from_vec(items),
             lanes: PlainList::from_vec(lanes),
         })
     }
@@ -145,47 +119,30 @@ impl Draft for BatchDraft {
     ghost kept = { IsKept };
 
     fn begin(alloc: Global, header: &[u8]) -> Result<BatchDraft, Reason> {
-        if header != b"hpkebatch 1".as_slice() {
-            return Err(Reason::Header);
+        if header == b"hpkebatch 1".as_slice() {
+            Ok(BatchDraft::of_version(alloc, 1))
+        } else if header == b"hpkebatch 2".as_slice() {
+            Ok(BatchDraft::of_version(alloc, 2))
+        } else {
+            Err(Reason::Header)
         }
-        Ok(BatchDraft {
-            pool: Vec::new(alloc),
-            contexts: Vec::new(alloc),
-            calls: Vec::new(alloc),
-            in_lane: false,
-            size_sum: 0,
-        })
     }
 
-    fn word(piece: &[u8]) -> Result<LineWord, Reason> {
-        words::line_word(piece)
+    fn word(&self, piece: &[u8]) -> Result<LineWord, Reason> {
+        words::line_word(self.version, piece)
     }
 
     fn may_stand(&self, word: LineWord) -> bool {
-        match word {
-            LineWord::Share => !self.in_lane,
-            LineWord::Lane => true,
-            LineWord::Seal | LineWord::Unseal | LineWord::Export => self.in_lane,
-        }
+        self.has_place(word) && (!word.draws() || self.seed.is_some())
     }
 
-    #[tactic(auto, unfolding(crate::specs::Batch::with_line))]
     fn add(&mut self, word: LineWord, fields: &mut Pieces) -> Result<(), Stop> {
         match word {
-            LineWord::Share => self.with_share(fields),
-            LineWord::Lane => Ok(self.with_lane(fields)?),
-            LineWord::Seal => {
-                let call = lines::seal(&mut self.pool, fields)?;
-                self.with_call(call)
-            }
-            LineWord::Unseal => {
-                let call = lines::unseal(&mut self.pool, fields)?;
-                self.with_call(call)
-            }
-            LineWord::Export => {
-                let call = lines::export(&mut self.pool, fields)?;
-                self.with_call(call)
-            }
+            LineWord::Rand => self.with_rand(fields),
+            LineWord::Key(word) => self.with_key(word, fields),
+            LineWord::Context(word) => self.with_context(word, fields),
+            LineWord::Lane => self.with_lane(fields),
+            LineWord::Call(word) => self.with_call(word, fields),
         }
     }
 }

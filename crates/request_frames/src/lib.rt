@@ -4,22 +4,33 @@
 //! A batch text is lines, and a line is a word and its fields. [`read_batch`] answers the [`Plan`]
 //! that a text spells by `batch` of `specs/Batch.antt`, or its first bad line and that line's first
 //! reason; [`one_reading`] says that each text has just one of these, and [`one_spelling`] that a
-//! plan's text is `text_of` of `specs/PlanText.antt` and no other.
+//! plan's text is `text_of` of `specs/PlanText.antt` and no other. [`read_front`] reads a batch
+//! that something else follows, and [`fronts_are_batches`] says that it is one by itself. For
+//! grammars with other lines there are the fields alone, [`read_number`] and [`read_bytes`].
 //!
-//! [`print_answers`] and [`print_bad`] append just the text of `specs/ReplyText.antt`, or a prefix
-//! of it where the sink failed. The plan, the answers and the calls on them are those of
-//! batch_plans, and are given out again.
+//! [`print_answers`] and [`print_bad`] append just the text that reply_texts defines, or a prefix
+//! of it where the sink failed; [`print_setup`] and [`print_reply`] do the same for parts of it.
+//! The plan, the answers and the calls on them are those of batch_plans, and are given out again.
 //!
 //! What a call does that is served is not known here, nor whether a context's psk inputs go with
 //! its mode (RFC 9180, 5.1).
 #![tactic(auto)]
 
+mod adding;
+#[cfg(test)]
+mod bad_set_ups;
 #[cfg(test)]
 mod bad_texts;
+mod call_lines;
+mod contexts;
 mod draft;
-mod lines;
+mod fields;
+mod key_lines;
+mod lane_replies;
 #[cfg(test)]
 mod long_texts;
+#[cfg(test)]
+mod plan_tests;
 mod printing;
 #[cfg(test)]
 mod printing_tests;
@@ -27,6 +38,8 @@ mod reading;
 #[cfg(test)]
 mod reading_tests;
 mod reply_lines;
+#[cfg(test)]
+mod reply_text_tests;
 mod reply_words;
 #[cfg(test)]
 mod room_tests;
@@ -34,12 +47,13 @@ mod spelling;
 mod words;
 
 pub use batch_plans::{
-    Answers, ByteList, CallLine, CallRefusal, ContextKind, ContextLine, ContextLines,
-    ContextRefusal, ContextReplies, ContextReply, EncField, ItemList, JournalList, KeyLine,
-    KeyLines, KeyRefusal, KeyReplies, KeyReply, LaneAnswerList, LaneAnswers, LaneLines,
+    Answers, Batch, BatchList, ByteList, CallLine, CallRefusal, ContextKind, ContextLine,
+    ContextLines, ContextRefusal, ContextReplies, ContextReply, EncField, ItemList, JournalList,
+    KeyLine, KeyLines, KeyRefusal, KeyReplies, KeyReply, LaneAnswerList, LaneAnswers, LaneLines,
     LaneProgress, PlainList, Plan, Reply, ReplyList, call_refusal,
 };
 pub use field_text::{BadBatch, Printed, ReadBatchFault, Reason};
-pub use printing::{print_answers, print_bad};
-pub use reading::{one_reading, read_batch};
+pub use fields::{FieldFault, read_bytes, read_number};
+pub use printing::{print_answers, print_bad, print_reply, print_setup};
+pub use reading::{fronts_are_batches, one_reading, read_batch, read_front};
 pub use spelling::one_spelling;

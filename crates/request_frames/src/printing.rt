@@ -1,20 +1,22 @@
 //! The printing of whole replies.
 
-ghost use Rattle.std.specs.Prelude.{◌≡◌, ◌≤◌, length, map};
-ghost use Rattle.std.specs.List.{All, flat_map};
+ghost use Rattle.std.specs.Prelude.{◌≡◌, ◌≢◌, ◌≤◌, length, map};
+ghost use Rattle.std.specs.List.{All, concat};
 ghost use Rattle.std.specs.Io.KnownBytes.{Appends};
 ghost use Rattle.batch_io.specs.Outside.{Rose};
-ghost use Rattle.field_text.specs.Printing.{Puts, AppendsPrefix};
-ghost use Rattle.request_frames.specs.ReplyText.{numbered, key_line, context_line};
-ghost use Rattle.request_frames.specs.ReplyText.{reply_line, lane_replies, lane_text};
-ghost use Rattle.request_frames.specs.ReplyText.{place_line, journal_text, answers_text};
-ghost use Rattle.request_frames.specs.ReplyText.{bad_text, IsAnswered};
 ghost use Rattle.batch_plans.specs.Replies.{IsInRange, IsPrintable};
+ghost use Rattle.field_text.specs.Printing.{Puts, AppendsPrefix};
+ghost use Rattle.reply_texts.specs.Lines.{key_line, context_line, reply_line};
+ghost use Rattle.reply_texts.specs.ReplyText.{numbered, all_lines, setup_text, version_line};
+ghost use Rattle.reply_texts.specs.ReplyText.{answered_lines, lanes_lines, lane_lines};
+ghost use Rattle.reply_texts.specs.ReplyText.{has_stamps, mark_line, journal_lines};
+ghost use Rattle.reply_texts.specs.ReplyText.{answers_text, bad_text, IsAnswered};
 
-use crate::reply_lines::{put_bad, put_context_line, put_key_line, put_place, put_reply};
+use crate::lane_replies::put_calls;
+use crate::reply_lines::{put_bad, put_context_line, put_key_line, put_mark, put_reply};
 use batch_io::Sink;
-use batch_plans::{Answers, ContextReply, KeyReply, LaneAnswers, PlainList, Plan, Reply};
-use call_places::Place;
+use batch_plans::{Answers, CallLine, ContextReply, KeyReply, LaneAnswers, PlainList, Plan, Reply};
+use call_places::Mark;
 use field_text::{BadBatch, Buffer, Printed};
 
 /// Writes the reply to a batch: its keys, its contexts, its lanes and its journals.
@@ -24,15 +26,54 @@ use field_text::{BadBatch, Buffer, Printed};
 pub fn print_answers<K: Sink>(plan: &Plan, answers: &Answers, sink: &mut K) -> Printed
     requires { IsAnswered plan.now answers.now }
     ensures whole { result ≡ Printed.Whole
-        → Appends (K.written sink.old) (K.written sink.new) (answers_text answers.now) }
+        → Appends (K.written sink.old) (K.written sink.new) (answers_text plan.now answers.now) }
     ensures no_fault { result ≡ Printed.Whole → K.faults sink.new ≡ K.faults sink.old }
     ensures cut { result ≡ Printed.Failed
-        → AppendsPrefix (K.written sink.old) (K.written sink.new) (answers_text answers.now) }
+        → AppendsPrefix (K.written sink.old) (K.written sink.new)
+        (answers_text plan.now answers.now) }
     ensures failed { result ≡ Printed.Failed → Rose (K.faults sink.old) (K.faults sink.new) }
     ensures later { K.faults sink.old ≤ K.faults sink.new }
 {
     let mut out = Buffer::new();
-    put_answers(&mut out, sink, answers);
+    put_answers(&mut out, sink, plan, answers);
+    out.finish(sink)
+}
+
+/// Writes the part of a reply that tells of the set-up: the replies to the key lines and to the
+/// context lines, each list numbered from 0.
+///
+/// Takes no memory. Once a write failed nothing more is written.
+pub fn print_setup<K: Sink>(keys: &[KeyReply], contexts: &[ContextReply], sink: &mut K) -> Printed
+    ensures whole { result ≡ Printed.Whole
+        → Appends (K.written sink.old) (K.written sink.new) (setup_text keys.now contexts.now) }
+    ensures no_fault { result ≡ Printed.Whole → K.faults sink.new ≡ K.faults sink.old }
+    ensures cut { result ≡ Printed.Failed
+        → AppendsPrefix (K.written sink.old) (K.written sink.new)
+        (setup_text keys.now contexts.now) }
+    ensures failed { result ≡ Printed.Failed → Rose (K.faults sink.old) (K.faults sink.new) }
+    ensures later { K.faults sink.old ≤ K.faults sink.new }
+{
+    let mut out = Buffer::new();
+    put_setup(&mut out, sink, keys, contexts);
+    out.finish(sink)
+}
+
+/// Writes one reply, whose span names bytes of the pool, as a line.
+///
+/// Takes no memory. Once a write failed nothing more is written.
+pub fn print_reply<K: Sink>(reply: &Reply, pool: &[u8], sink: &mut K) -> Printed
+    requires given { reply.now ≢ Reply.Blank }
+    requires range { IsInRange (length pool.now) reply.now }
+    ensures whole { result ≡ Printed.Whole
+        → Appends (K.written sink.old) (K.written sink.new) (reply_line pool.now reply.now) }
+    ensures no_fault { result ≡ Printed.Whole → K.faults sink.new ≡ K.faults sink.old }
+    ensures cut { result ≡ Printed.Failed
+        → AppendsPrefix (K.written sink.old) (K.written sink.new) (reply_line pool.now reply.now) }
+    ensures failed { result ≡ Printed.Failed → Rose (K.faults sink.old) (K.faults sink.new) }
+    ensures later { K.faults sink.old ≤ K.faults sink.new }
+{
+    let mut out = Buffer::new();
+    put_reply(&mut out, sink, pool, reply);
     out.finish(sink)
 }
 
@@ -53,21 +94,54 @@ pub fn print_bad<K: Sink>(bad: &BadBatch, sink: &mut K) -> Printed
     out.finish(sink)
 }
 
-fn put_answers<K: Sink>(out: &mut Buffer, sink: &mut K, answers: &Answers)
-    requires { All IsPrintable answers.now.lanes }
-    ensures { Puts K.written K.faults sink.old sink.new out.old out.new (answers_text answers.now) }
+fn put_answers<K: Sink>(out: &mut Buffer, sink: &mut K, plan: &Plan, answers: &Answers)
+    requires { IsAnswered plan.now answers.now }
+    ensures { Puts K.written K.faults sink.old sink.new out.old out.new
+        (answers_text plan.now answers.now) }
 {
-    out.put_text(sink, b"hpkebatch 1\n");
-    put_keys(out, sink, answers.keys.as_slice());
-    put_contexts(out, sink, answers.contexts.as_slice());
-    put_lanes(out, sink, answers.lanes.as_slice());
-    put_journals(out, sink, answers.journals.as_slice());
+    put_version(out, sink, plan.version);
+    put_setup(
+        out,
+        sink,
+        answers.keys.as_slice(),
+        answers.contexts.as_slice(),
+    );
+    put_lanes(out, sink, plan.lanes.as_slice(), answers.lanes.as_slice());
+    put_journals(
+        out,
+        sink,
+        has_stamps(plan.version),
+        answers.journals.as_slice(),
+    );
     out.put_text(sink, b"end\n")
+}
+
+fn put_version<K: Sink>(out: &mut Buffer, sink: &mut K, version: u8)
+    ensures { Puts K.written K.faults sink.old sink.new out.old out.new (version_line version) }
+{
+    out.put_text(sink, b"hpkebatch ");
+    out.put_number(sink, version as u64);
+    out.put_text(sink, b"\n")
+}
+
+// Whether journals tell their stamps.
+fn has_stamps(version: u8) -> bool
+    ensures { result ≡ has_stamps version }
+{
+    version == 2
+}
+
+fn put_setup<K: Sink>(out: &mut Buffer, sink: &mut K, keys: &[KeyReply], contexts: &[ContextReply])
+    ensures { Puts K.written K.faults sink.old sink.new out.old out.new
+        (setup_text keys.now contexts.now) }
+{
+    put_keys(out, sink, keys);
+    put_contexts(out, sink, contexts)
 }
 
 fn put_keys<K: Sink>(out: &mut Buffer, sink: &mut K, keys: &[KeyReply])
     ensures { Puts K.written K.faults sink.old sink.new out.old out.new
-        (numbered key_line 0 keys.now) }
+        (concat (numbered key_line 0 keys.now)) }
 {
     'keys: for (key, reply) in keys.iter().enumerate() {
         put_key_line(out, sink, key as u64, reply);
@@ -76,68 +150,70 @@ fn put_keys<K: Sink>(out: &mut Buffer, sink: &mut K, keys: &[KeyReply])
 
 fn put_contexts<K: Sink>(out: &mut Buffer, sink: &mut K, contexts: &[ContextReply])
     ensures { Puts K.written K.faults sink.old sink.new out.old out.new
-        (numbered context_line 0 contexts.now) }
+        (concat (numbered context_line 0 contexts.now)) }
 {
     'contexts: for (context, reply) in contexts.iter().enumerate() {
         put_context_line(out, sink, context as u64, reply);
     }
 }
 
-fn put_lanes<K: Sink>(out: &mut Buffer, sink: &mut K, lanes: &[LaneAnswers])
-    requires { All IsPrintable lanes.now }
+fn put_lanes<K: Sink>(
+    out: &mut Buffer,
+    sink: &mut K,
+    lanes: &[PlainList<CallLine>],
+    answers: &[LaneAnswers],
+)
+    requires each { length answers.now ≡ length lanes.now }
+    requires printable { All IsPrintable answers.now }
     ensures { Puts K.written K.faults sink.old sink.new out.old out.new
-        (numbered lane_text 0 (map lane_replies lanes.now)) }
+        (concat (all_lines (numbered lane_lines 0 (lanes_lines lanes.now answers.now)))) }
 {
-    'lanes: for (number, lane) in lanes.iter().enumerate() {
-        put_lane(out, sink, number as u64, lane);
+    'lanes: for (number, lane) in answers.iter().enumerate() {
+        put_lane(out, sink, number as u64, lanes[number].as_slice(), lane);
     }
 }
 
-fn put_lane<K: Sink>(out: &mut Buffer, sink: &mut K, number: u64, lane: &LaneAnswers)
+fn put_lane<K: Sink>(
+    out: &mut Buffer,
+    sink: &mut K,
+    number: u64,
+    calls: &[CallLine],
+    lane: &LaneAnswers,
+)
     requires { IsPrintable lane.now }
     ensures { Puts K.written K.faults sink.old sink.new out.old out.new
-        (lane_text number (lane_replies lane.now)) }
+        (concat (lane_lines number (answered_lines calls.now lane.now))) }
 {
     out.put_text(sink, b"lane ");
     out.put_number(sink, number);
     out.put_text(sink, b"\n");
-    put_replies(out, sink, lane.pool.as_slice(), lane.replies.as_slice())
+    put_calls(out, sink, calls, lane)
 }
 
-fn put_replies<K: Sink>(out: &mut Buffer, sink: &mut K, pool: &[u8], replies: &[Reply])
-    requires { All (IsInRange (length pool.now)) replies.now }
+fn put_journals<K: Sink>(out: &mut Buffer, sink: &mut K, stamps: bool, journals: &[PlainList<Mark>])
     ensures { Puts K.written K.faults sink.old sink.new out.old out.new
-        (flat_map (reply_line pool.now) replies.now) }
-{
-    'replies: for reply in replies {
-        put_reply(out, sink, pool, reply);
-    }
-}
-
-fn put_journals<K: Sink>(out: &mut Buffer, sink: &mut K, journals: &[PlainList<Place>])
-    ensures { Puts K.written K.faults sink.old sink.new out.old out.new
-        (numbered journal_text 0 journals.now) }
+        (concat (all_lines (numbered (journal_lines stamps) 0 journals.now))) }
 {
     'journals: for (context, journal) in journals.iter().enumerate() {
-        put_journal(out, sink, context as u64, journal.as_slice());
+        put_journal(out, sink, stamps, context as u64, journal.as_slice());
     }
 }
 
-fn put_journal<K: Sink>(out: &mut Buffer, sink: &mut K, context: u64, places: &[Place])
+fn put_journal<K: Sink>(out: &mut Buffer, sink: &mut K, stamps: bool, context: u64, marks: &[Mark])
     ensures { Puts K.written K.faults sink.old sink.new out.old out.new
-        (journal_text context places.now) }
+        (concat (journal_lines stamps context marks.now)) }
 {
     out.put_text(sink, b"journal ");
     out.put_number(sink, context);
     out.put_text(sink, b"\n");
-    put_places(out, sink, places)
+    put_marks(out, sink, stamps, marks)
 }
 
-fn put_places<K: Sink>(out: &mut Buffer, sink: &mut K, places: &[Place])
+fn put_marks<K: Sink>(out: &mut Buffer, sink: &mut K, stamps: bool, marks: &[Mark])
     ensures { Puts K.written K.faults sink.old sink.new out.old out.new
-        (flat_map place_line places.now) }
+        (concat (map (mark_line stamps) marks.now)) }
 {
-    'places: for place in places {
-        put_place(out, sink, place);
+    'marks: for mark in marks {
+        put_mark(out, sink, stamps, mark);
     }
 }

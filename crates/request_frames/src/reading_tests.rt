@@ -1,12 +1,13 @@
-use crate::bad_texts::BAD;
+ghost use Rattle.std.specs.Prelude.{◌+◌, ◌<◌, ◌≤◌, ◌^◌, vec_len};
+
+use crate::bad_set_ups::BAD_SET_UPS;
+use crate::bad_texts::{BAD, BadCase};
 use crate::long_texts::{CIPHERTEXTS, LONG, LongCase, PLAINTEXTS};
 use crate::{
-    BadBatch, CallLine, ContextKind, ContextLine, PlainList, ReadBatchFault, Reason, one_reading,
-    one_spelling, read_batch,
+    BadBatch, FieldFault, PlainList, ReadBatchFault, Reason, read_batch, read_bytes, read_front,
+    read_number,
 };
-use call_places::{Item, Span};
-use hkdf_labelled::{Aead, Kdf};
-use key_schedule::{Mode, Role};
+use call_places::Span;
 use std::alloc::{AllocError, Global};
 use std::test::Fail;
 
@@ -17,20 +18,29 @@ fn refusal_of(alloc: Global, text: &[u8]) -> Option<BadBatch> {
     }
 }
 
+// Whether the text has the bad line and the reason that are due.
+fn is_bad(alloc: Global, case: &BadCase) -> bool {
+    let want = BadBatch {
+        line: case.line,
+        reason: case.reason,
+    };
+    refusal_of(alloc, case.text) == Some(want)
+}
+
 #[test]
 fn a_bad_text_has_its_first_bad_line_and_reason(rt: HostRuntime) -> Result<(), Fail> {
     for case in &BAD {
         let what = case.what;
-        let want = BadBatch {
-            line: case.line,
-            reason: case.reason,
-        };
-        assert_eq!(rt; refusal_of(rt.alloc(), case.text), Some(want), "{what}");
+        assert!(rt; is_bad(rt.alloc(), case), "{what}");
+    }
+    for case in &BAD_SET_UPS {
+        let what = case.what;
+        assert!(rt; is_bad(rt.alloc(), case), "{what}");
     }
     Ok(())
 }
 
-// Whether the text of these parts has the bad line and the reason that are due.
+// The same of the text of these parts.
 fn is_refused(alloc: Global, case: &LongCase) -> Result<bool, AllocError> {
     let mut text = Vec::from_slice(alloc, case.before)?;
     for _ in 0..case.times {
@@ -71,98 +81,74 @@ fn a_ciphertext_is_too_long_by_one(rt: HostRuntime) -> Result<(), Fail> {
     Ok(())
 }
 
-const WHOLE: &'static [u8] = b"hpkebatch 1
-share send 32 1 2 00ff psk 0a0b 0102 03 1
-share recv 65535 3 65535 - base - - - 18446744073709551615
-lane
-export 0 4b 65535
-seal 1 0c0d 0e
-unseal 65535 - 0f10
-export 65535 - 0
-end
-";
-
-const NONE: Span = Span { start: 7, len: 0 };
-
-const CONTEXTS: [ContextLine; 2] = [
-    ContextLine {
-        kind: ContextKind::Share {
-            role: Role::Sender,
-            kem: 32,
-            secret: Span { start: 0, len: 2 },
-        },
-        kdf: Kdf::Sha256,
-        aead: Aead::Aes256,
-        mode: Mode::Psk,
-        info: Span { start: 2, len: 2 },
-        psk: Span { start: 4, len: 2 },
-        psk_id: Span { start: 6, len: 1 },
-        limit: 1,
-    },
-    ContextLine {
-        kind: ContextKind::Share {
-            role: Role::Recipient,
-            kem: 65_535,
-            secret: NONE,
-        },
-        kdf: Kdf::Sha512,
-        aead: Aead::ExportOnly,
-        mode: Mode::Base,
-        info: NONE,
-        psk: NONE,
-        psk_id: NONE,
-        limit: u64::MAX,
-    },
-];
-
-const CALLS: [CallLine; 4] = [
-    CallLine::Export {
-        context: 0,
-        exporter: Span { start: 7, len: 1 },
-        size: 65_535,
-    },
-    CallLine::Seal {
-        context: 1,
-        item: Item {
-            aad: Span { start: 8, len: 2 },
-            text: Span { start: 10, len: 1 },
-        },
-    },
-    CallLine::Unseal {
-        context: 65_535,
-        item: Item {
-            aad: Span { start: 11, len: 0 },
-            text: Span { start: 11, len: 2 },
-        },
-    },
-    CallLine::Export {
-        context: 65_535,
-        exporter: Span { start: 13, len: 0 },
-        size: 0,
-    },
-];
+// Where the batch at the front of a text ends, by its version, or its bad line.
+fn front_of(alloc: Global, text: &[u8]) -> Result<(u8, usize), Option<BadBatch>> {
+    match read_front(alloc, text) {
+        Ok((plan, end)) => Ok((plan.version, end)),
+        Err(ReadBatchFault::Bad(bad)) => Err(Some(bad)),
+        Err(ReadBatchFault::OutOfMemory) => Err(None),
+    }
+}
 
 #[test]
-fn a_batch_is_read_with_its_plan(rt: HostRuntime) -> Result<(), Fail> {
-    one_reading();
-    one_spelling();
-    match read_batch(rt.alloc(), WHOLE) {
-        Ok(plan) => {
-            let pool = [
-                0x00, 0xff, 0x0a, 0x0b, 0x01, 0x02, 0x03, 0x4b, 0x0c, 0x0d, 0x0e, 0x0f, 0x10,
-            ];
-            assert_eq!(rt; plan.pool.as_slice(), pool.as_slice());
-            assert_eq!(rt; plan.contexts.as_slice(), CONTEXTS.as_slice());
-            assert!(rt; plan.seed.is_none());
-            assert!(rt; plan.keys.as_slice().is_empty());
-            assert!(rt; plan.items.as_slice().is_empty());
-            match plan.lanes.as_slice() {
-                [calls] => assert_eq!(rt; calls.as_slice(), CALLS.as_slice()),
-                _ => assert!(rt; false),
-            }
-        }
-        Err(_) => assert!(rt; false),
+fn a_batch_ends_before_what_follows_it(rt: HostRuntime) -> Result<(), Fail> {
+    let alloc = rt.alloc();
+    assert_eq!(rt; front_of(alloc, b"hpkebatch 2\nlane\nend\n"), Ok((2, 21)));
+    assert_eq!(rt;
+        front_of(alloc, b"hpkebatch 1\nend\nhpkebatch 1\nend\n"),
+        Ok((1, 16))
+    );
+    let bad = BadBatch {
+        line: 2,
+        reason: Reason::NoEnd,
+    };
+    assert_eq!(rt; front_of(alloc, b"hpkebatch 1\nend"), Err(Some(bad)));
+    Ok(())
+}
+
+#[test]
+fn a_number_field_has_a_value_or_a_reason(rt: HostRuntime) -> Result<(), Fail> {
+    assert_eq!(rt; read_number(b"65535", 0, 65_535), Ok(65_535));
+    assert_eq!(rt; read_number(b"65536", 0, 65_535), Err(Reason::Range));
+    assert_eq!(rt; read_number(b"0", 1, 9), Err(Reason::Range));
+    assert_eq!(rt; read_number(b"00", 0, 9), Err(Reason::Number));
+    Ok(())
+}
+
+// The span of a bytes field of two bytes at most, or its reason.
+fn span_of(alloc: Global, pool: &mut Vec<u8>, field: &[u8]) -> Result<Span, Option<Reason>>
+    requires { vec_len pool.old < 2 ^ 20 }
+    ensures { vec_len pool.new ≤ vec_len pool.old + 2 }
+{
+    match read_bytes(alloc, field, 2, pool) {
+        Ok(span) => Ok(span),
+        Err(FieldFault::Bad(reason)) => Err(Some(reason)),
+        Err(FieldFault::OutOfMemory) => Err(None),
     }
+}
+
+#[test]
+fn a_bytes_field_has_a_span_or_a_reason(rt: HostRuntime) -> Result<(), Fail> {
+    let alloc = rt.alloc();
+    let mut pool = Vec::from_slice(alloc, b"\x07".as_slice())?;
+    assert_eq!(rt;
+        span_of(alloc, &mut pool, b"-"),
+        Ok(Span { start: 1, len: 0 })
+    );
+    assert_eq!(rt;
+        span_of(alloc, &mut pool, b"08ff"),
+        Ok(Span { start: 1, len: 2 })
+    );
+    assert_eq!(rt; span_of(alloc, &mut pool, b"00000"), Err(Some(Reason::Hex)));
+    assert_eq!(rt;
+        span_of(alloc, &mut pool, b"00000A"),
+        Err(Some(Reason::Hex))
+    );
+    assert_eq!(rt;
+        span_of(alloc, &mut pool, b"00000a"),
+        Err(Some(Reason::Size))
+    );
+    assert_eq!(rt; pool.as_slice(), b"\x07\x08\xff".as_slice());
     Ok(())
 }
 

@@ -1,19 +1,19 @@
 //! The lines of the reply text, each put into a buffer.
 
 ghost use Rattle.std.specs.Prelude.{◌≡◌, length};
+ghost use Rattle.batch_plans.specs.Replies.{IsInRange};
 ghost use Rattle.call_places.specs.Spans.{span_bytes};
 ghost use Rattle.field_text.specs.Printing.{Puts};
-ghost use Rattle.request_frames.specs.ReplyText.{key_words, key_line, context_words};
-ghost use Rattle.request_frames.specs.ReplyText.{context_line, served_line, reply_line};
-ghost use Rattle.request_frames.specs.ReplyText.{place_line, bad_text};
-ghost use Rattle.batch_plans.specs.Replies.{IsInRange};
+ghost use Rattle.reply_texts.specs.Lines.{key_words, key_line, context_words, context_line};
+ghost use Rattle.reply_texts.specs.Lines.{served_line, reply_line};
+ghost use Rattle.reply_texts.specs.ReplyText.{guess_line, stamp_words, mark_line, bad_text};
 
 use crate::reply_words::{
     word_of_call_refusal, word_of_context_refusal, word_of_key_refusal, word_of_reason,
 };
 use batch_io::Sink;
-use batch_plans::{ContextReply, KeyReply, Reply};
-use call_places::Place;
+use batch_plans::{Batch, ContextReply, KeyReply, Reply};
+use call_places::Mark;
 use field_text::{BadBatch, Buffer};
 
 pub(crate) fn put_key_line<K: Sink>(out: &mut Buffer, sink: &mut K, key: u64, reply: &KeyReply)
@@ -124,15 +124,38 @@ fn put_served<K: Sink>(out: &mut Buffer, sink: &mut K, word: &[u8], number: u64,
     out.put_text(sink, b"\n")
 }
 
-pub(crate) fn put_place<K: Sink>(out: &mut Buffer, sink: &mut K, place: &Place)
-    ensures { Puts K.written K.faults sink.old sink.new out.old out.new (place_line place.now) }
+pub(crate) fn put_batch<K: Sink>(out: &mut Buffer, sink: &mut K, batch: &Batch)
+    ensures { Puts K.written K.faults sink.old sink.new out.old out.new (guess_line batch.now) }
 {
-    out.put_number(sink, place.lane as u64);
+    out.put_text(sink, b"batch ");
+    out.put_number(sink, batch.guess);
     out.put_text(sink, b" ");
-    out.put_number(sink, place.call as u64);
-    out.put_text(sink, b" ");
-    out.put_number(sink, place.item as u64);
+    out.put_number(sink, batch.missed as u64);
     out.put_text(sink, b"\n")
+}
+
+pub(crate) fn put_mark<K: Sink>(out: &mut Buffer, sink: &mut K, stamps: bool, mark: &Mark)
+    ensures { Puts K.written K.faults sink.old sink.new out.old out.new
+        (mark_line stamps mark.now) }
+{
+    out.put_number(sink, mark.place.lane as u64);
+    out.put_text(sink, b" ");
+    out.put_number(sink, mark.place.call as u64);
+    out.put_text(sink, b" ");
+    out.put_number(sink, mark.place.item as u64);
+    put_stamp(out, sink, stamps, mark.stamp);
+    out.put_text(sink, b"\n")
+}
+
+fn put_stamp<K: Sink>(out: &mut Buffer, sink: &mut K, stamps: bool, stamp: u64)
+    ensures { Puts K.written K.faults sink.old sink.new out.old out.new
+        (stamp_words stamps stamp) }
+{
+    if !stamps {
+        return;
+    }
+    out.put_text(sink, b" ");
+    out.put_number(sink, stamp)
 }
 
 pub(crate) fn put_bad<K: Sink>(out: &mut Buffer, sink: &mut K, bad: &BadBatch)

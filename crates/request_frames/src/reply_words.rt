@@ -1,8 +1,8 @@
 //! The words of refusals and reasons in the reply text.
 
 ghost use Rattle.std.specs.Prelude.{◌≡◌};
-ghost use Rattle.request_frames.specs.ReplyText.{key_refusal_word, context_refusal_word};
-ghost use Rattle.request_frames.specs.ReplyText.{call_refusal_word, reason_word};
+ghost use Rattle.reply_texts.specs.Words.{key_refusal_word, context_refusal_word};
+ghost use Rattle.reply_texts.specs.Words.{call_refusal_word, reason_word};
 
 use batch_plans::{CallRefusal, ContextRefusal, KeyRefusal};
 use field_text::Reason;

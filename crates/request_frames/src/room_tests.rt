@@ -3,7 +3,7 @@
 ghost use Rattle.batch_plans.specs.Limits.{IsWithinLimits};
 
 use crate::{
-    Answers, CallRefusal, ContextReply, LaneAnswers, LaneProgress, PlainList, Plan, Reply,
+    Answers, Batch, CallRefusal, ContextReply, LaneAnswers, LaneProgress, PlainList, Plan, Reply,
     call_refusal, read_batch,
 };
 use call_places::Span;
@@ -11,23 +11,28 @@ use std::alloc::Global;
 use std::test::Fail;
 
 // A batch of one lane with the export limits of its contexts, and what is due for it: the refusal
-// of each call, the bytes of all replies, and the places of each journal.
+// of each call, the bytes of all replies, how many replies and guesses there are, and the places of
+// each journal.
 struct RoomCase {
     source: &'static str,
     text: &'static str,
     export_limits: &'static [u32],
     refusals: &'static [Option<CallRefusal>],
     bytes: usize,
+    replies: usize,
+    batches: usize,
     places: &'static [usize],
 }
 
-const ROOMS: [RoomCase; 5] = [
+const ROOMS: [RoomCase; 6] = [
     RoomCase {
         source: "RFC 9180, A.1.1.1, sequence numbers 0 and 1: two seals",
         text: "hpkebatch 1\nshare send 32 1 1 fe0e18c9f024ce43799ae393c7e8fe8fce9d218875e8227b0187c04e7d2ea1fc base 4f6465206f6e2061204772656369616e2055726e - - 2\nlane\nseal 0 436f756e742d30 4265617574792069732074727574682c20747275746820626561757479\nseal 0 436f756e742d31 4265617574792069732074727574682c20747275746820626561757479\nend\n",
         export_limits: &[8_160],
         refusals: &[None, None],
         bytes: 90,
+        replies: 2,
+        batches: 0,
         places: &[2],
     },
     RoomCase {
@@ -36,6 +41,8 @@ const ROOMS: [RoomCase; 5] = [
         export_limits: &[8_160],
         refusals: &[None, None, None],
         bytes: 87,
+        replies: 3,
+        batches: 0,
         places: &[3],
     },
     RoomCase {
@@ -49,6 +56,8 @@ const ROOMS: [RoomCase; 5] = [
             None,
         ],
         bytes: 8160,
+        replies: 4,
+        batches: 0,
         places: &[0],
     },
     RoomCase {
@@ -57,6 +66,8 @@ const ROOMS: [RoomCase; 5] = [
         export_limits: &[8_160],
         refusals: &[Some(CallRefusal::Role), Some(CallRefusal::NoContext), None],
         bytes: 0,
+        replies: 3,
+        batches: 0,
         places: &[1],
     },
     RoomCase {
@@ -73,7 +84,19 @@ const ROOMS: [RoomCase; 5] = [
             None,
         ],
         bytes: 20,
+        replies: 7,
+        batches: 0,
         places: &[0, 1, 0],
+    },
+    RoomCase {
+        source: "own: openings of two messages by a recipient, and of three by a sender",
+        text: "hpkebatch 2\nshare recv 32 1 1 fe0e18c9f024ce43799ae393c7e8fe8fce9d218875e8227b0187c04e7d2ea1fc base 4f6465206f6e2061204772656369616e2055726e - - 9\nshare send 32 1 1 fe0e18c9f024ce43799ae393c7e8fe8fce9d218875e8227b0187c04e7d2ea1fc base 4f6465206f6e2061204772656369616e2055726e - - 9\nlane\nunsealall 0 436f756e742d30 f938558b5d72f1a23810b4be2ab4f84331acc02fc97babc53a52ae8218a355a96d8770ac83d07bea87e13c512a 436f756e742d31 af2d7e9ac9ae7e270f46ba1f975be53c09f8d875bdc8535458c2494e8a6eab251c03d0c22a56b8ca42c2063b84\nunsealall 1 - 00 - 00 - 00\nend\n",
+        export_limits: &[8_160, 8_160],
+        refusals: &[None, Some(CallRefusal::Role)],
+        bytes: 58,
+        replies: 3,
+        batches: 1,
+        places: &[2, 0],
     },
 ];
 
@@ -121,11 +144,8 @@ fn each_call_has_its_room_or_its_refusal(rt: HostRuntime) -> Result<(), Fail> {
             assert_eq!(rt; refusal, *want, "{source}");
         }
         assert_eq!(rt; lane.pool.as_slice().len(), case.bytes, "{source}");
-        assert_eq!(rt;
-            lane.replies.as_slice().len(),
-            case.refusals.len(),
-            "{source}"
-        );
+        assert_eq!(rt; lane.replies.as_slice().len(), case.replies, "{source}");
+        assert_eq!(rt; lane.batches.as_slice().len(), case.batches, "{source}");
         assert_eq!(rt;
             places_of(alloc, &answers)?.as_slice(),
             case.places,
@@ -138,21 +158,31 @@ fn each_call_has_its_room_or_its_refusal(rt: HostRuntime) -> Result<(), Fail> {
 #[test]
 fn a_lane_takes_its_replies_in_order(rt: HostRuntime) -> Result<(), Fail> {
     let alloc = rt.alloc();
+    let blank = Batch {
+        guess: 0,
+        missed: 0,
+    };
     let mut lane = LaneProgress::new(LaneAnswers {
         pool: PlainList::from_vec(vec![in alloc; 0; 5]?),
         replies: PlainList::from_vec(vec![in alloc; Reply::Blank; 3]?),
+        batches: PlainList::from_vec(vec![in alloc; blank; 1]?),
     });
     let text = lane.take_room(2);
     lane.pool()[..2].copy_from_slice(b"ab".as_slice());
-    lane.put(Reply::Sealed { number: 7, text });
+    lane.put(Reply::Opened { number: 7, text });
     lane.put(Reply::Limit);
+    let guess = Batch {
+        guess: 3,
+        missed: 2,
+    };
+    lane.put_batch(guess);
     let text = lane.take_room(3);
     lane.pool()[2..].copy_from_slice(b"cde".as_slice());
     lane.put(Reply::Exported { text });
     let answers = lane.finish();
     assert_eq!(rt; answers.pool.as_slice(), b"abcde".as_slice());
     let want = [
-        Reply::Sealed {
+        Reply::Opened {
             number: 7,
             text: Span { start: 0, len: 2 },
         },
@@ -162,5 +192,6 @@ fn a_lane_takes_its_replies_in_order(rt: HostRuntime) -> Result<(), Fail> {
         },
     ];
     assert_eq!(rt; answers.replies.as_slice(), want.as_slice());
+    assert_eq!(rt; answers.batches.as_slice(), [guess].as_slice());
     Ok(())
 }

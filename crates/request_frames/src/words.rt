@@ -1,7 +1,8 @@
 //! The pieces of a line that are one of a few words or numbers.
 
-ghost use Rattle.std.specs.Prelude.{◌≡◌, ◌+◌, ◌≤◌, length, sum_by, OnOk};
+ghost use Rattle.std.specs.Prelude.{◌≡◌, ◌+◌, ◌++◌, ◌≤◌, length, sum_by, OnOk};
 ghost use Rattle.field_text.specs.Fields.{Reads, next};
+ghost use Rattle.request_frames.specs.Words.{set_up_words, lane_words, word_among, draws};
 ghost use Rattle.request_frames.specs.Words.{line_word as line_word_of, role as role_of};
 ghost use Rattle.request_frames.specs.Words.{mode as mode_of, kdf as kdf_field, aead as aead_field};
 
@@ -9,32 +10,109 @@ use field_text::{Pieces, Reason, read_number};
 use hkdf_labelled::{Aead, Kdf};
 use key_schedule::{Mode, Role};
 
-/// The first word of a line, other than `end`.
+/// The first word of a line, other than `end`, by what the line is for.
 #[derive(Clone, Copy, Debug, PartialEq, Eq)]
 pub enum LineWord {
-    Share,
+    Rand,
+    Key(KeyWord),
+    Context(ContextWord),
     Lane,
+    Call(CallWord),
+}
+
+#[derive(Clone, Copy, Debug, PartialEq, Eq)]
+pub enum KeyWord {
+    Generate,
+    Secret,
+    Peer,
+    Generate857,
+    Secret857,
+    Peer857,
+}
+
+#[derive(Clone, Copy, Debug, PartialEq, Eq)]
+pub enum ContextWord {
+    Share,
+    Send,
+    Recv,
+}
+
+#[derive(Clone, Copy, Debug, PartialEq, Eq)]
+pub enum CallWord {
     Seal,
     Unseal,
+    UnsealAll,
     Export,
 }
 
-/// The word that begins a line.
-pub fn line_word(piece: &[u8]) -> Result<LineWord, Reason>
-    ensures { Reads (λ word. word) result (line_word_of piece.now) }
+impl LineWord {
+    /// Whether the line stands only where there is a seed.
+    pub fn draws(self) -> bool
+        ensures { result ≡ draws self }
+    {
+        matches!(
+            self,
+            LineWord::Key(KeyWord::Generate | KeyWord::Generate857)
+                | LineWord::Context(ContextWord::Send)
+        )
+    }
+}
+
+fn lane_word(piece: &[u8]) -> Result<LineWord, Reason>
+    ensures { Reads (λ word. word) result (word_among lane_words piece.now) }
 {
-    if piece == b"share".as_slice() {
-        Ok(LineWord::Share)
-    } else if piece == b"lane".as_slice() {
+    if piece == b"lane".as_slice() {
         Ok(LineWord::Lane)
     } else if piece == b"seal".as_slice() {
-        Ok(LineWord::Seal)
+        Ok(LineWord::Call(CallWord::Seal))
     } else if piece == b"unseal".as_slice() {
-        Ok(LineWord::Unseal)
+        Ok(LineWord::Call(CallWord::Unseal))
+    } else if piece == b"unsealall".as_slice() {
+        Ok(LineWord::Call(CallWord::UnsealAll))
     } else if piece == b"export".as_slice() {
-        Ok(LineWord::Export)
+        Ok(LineWord::Call(CallWord::Export))
     } else {
         Err(Reason::Word)
+    }
+}
+
+// The words of both versions.
+fn common_word(piece: &[u8]) -> Result<LineWord, Reason>
+    ensures { Reads (λ word. word) result (word_among (set_up_words ++ lane_words) piece.now) }
+{
+    if piece == b"rand".as_slice() {
+        Ok(LineWord::Rand)
+    } else if piece == b"keygen".as_slice() {
+        Ok(LineWord::Key(KeyWord::Generate))
+    } else if piece == b"secret".as_slice() {
+        Ok(LineWord::Key(KeyWord::Secret))
+    } else if piece == b"peer".as_slice() {
+        Ok(LineWord::Key(KeyWord::Peer))
+    } else if piece == b"share".as_slice() {
+        Ok(LineWord::Context(ContextWord::Share))
+    } else if piece == b"send".as_slice() {
+        Ok(LineWord::Context(ContextWord::Send))
+    } else if piece == b"recv".as_slice() {
+        Ok(LineWord::Context(ContextWord::Recv))
+    } else {
+        lane_word(piece)
+    }
+}
+
+/// The word that begins a line, in a text of this version.
+pub fn line_word(version: u8, piece: &[u8]) -> Result<LineWord, Reason>
+    ensures { Reads (λ word. word) result (line_word_of version piece.now) }
+{
+    if version != 2 {
+        common_word(piece)
+    } else if piece == b"keygen857".as_slice() {
+        Ok(LineWord::Key(KeyWord::Generate857))
+    } else if piece == b"secret857".as_slice() {
+        Ok(LineWord::Key(KeyWord::Secret857))
+    } else if piece == b"peer857".as_slice() {
+        Ok(LineWord::Key(KeyWord::Peer857))
+    } else {
+        common_word(piece)
     }
 }
 

@@ -1,8 +1,15 @@
-use Rattle.std.proofs.Common.{◌-◌, drop, length, map, sym, take}
+use Rattle.std.proofs.Common.{◌-◌, drop, length, map, take}
 use Rattle.std.specs.String.{string_bytes}
-use Rattle.batch_words.proofs.Uses.{run_of_within}
+use Rattle.batch_words.proofs.Parses.{if_ok}
+use Rattle.batch_words.proofs.Within.{rehearse_read, run_read}
 use Rattle.batch_words.proofs.reading.read_words.Goals as goal
 
-pub returns-in-run-clause-workers : goal.returns-in-run-clause-workers
-returns-in-run-clause-workers c = λ w is.
-    run_of_within (map string_bytes (take (length c.args.words.now - 1) (drop 1 c.args.words.now))) w (sym (rw is at c.read_run.ensures))
+pub returns-in-run-clause-within : goal.returns-in-run-clause-within
+returns-in-run-clause-within c =
+    let rest = take (length c.args.words.now - 1) (drop 1 c.args.words.now) in
+    if_ok c.read_run.result _ _ (run_read (map string_bytes rest)) c.read_run.ensures
+
+pub returns-in-rehearse-clause-within : goal.returns-in-rehearse-clause-within
+returns-in-rehearse-clause-within c =
+    let rest = take (length c.args.words.now - 1) (drop 1 c.args.words.now) in
+    if_ok c.read_rehearse.result _ _ (rehearse_read (map string_bytes rest)) c.read_rehearse.ensures

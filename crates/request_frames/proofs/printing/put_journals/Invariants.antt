@@ -1,7 +1,10 @@
-use Rattle.std.proofs.Common.{take}
-use Rattle.field_text.specs.Printing.{Puts}
-use Rattle.request_frames.specs.ReplyText.{numbered, journal_text}
+use Rattle.reply_texts.specs.ReplyText.{journal_lines}
+use Rattle.request_frames.proofs.Leaves.{Leaves}
+use Rattle.request_frames.proofs.LinesLeft.{parts_from}
 use Rattle.request_frames.proofs.printing.put_journals.Given as goal
 
 abbrev pub invariant-journals : goal.invariant-journals
-invariant-journals g l = Puts g.K.Sink.written g.K.Sink.faults l.initial.sink l.sink l.initial.out l.out (numbered journal_text 0 (take l.context l.journals))
+invariant-journals g l =
+    let text = parts_from (journal_lines l.stamps) l.journals in
+    Leaves g.K.Sink.written g.K.Sink.faults l.initial.sink l.sink l.initial.out l.out
+    (text 0) (text l.context)

@@ -1,7 +1,9 @@
-use Rattle.std.proofs.Common.{take}
-use Rattle.field_text.specs.Printing.{Puts}
-use Rattle.request_frames.specs.ReplyText.{numbered, key_line}
+use Rattle.reply_texts.specs.Lines.{key_line}
+use Rattle.request_frames.proofs.Leaves.{Leaves}
+use Rattle.request_frames.proofs.LinesLeft.{numbered_from}
 use Rattle.request_frames.proofs.printing.put_keys.Given as goal
 
 abbrev pub invariant-keys : goal.invariant-keys
-invariant-keys g l = Puts g.K.Sink.written g.K.Sink.faults l.initial.sink l.sink l.initial.out l.out (numbered key_line 0 (take l.key l.keys))
+invariant-keys g l =
+    Leaves g.K.Sink.written g.K.Sink.faults l.initial.sink l.sink l.initial.out l.out
+    (numbered_from key_line l.keys 0) (numbered_from key_line l.keys l.key)

@@ -1,20 +1,33 @@
-use Rattle.std.proofs.Common.{ℕ, List, ap, sym, ◌∙◌}
-use Rattle.std.proofs.lemmas.List.{take_all}
-use Rattle.batch_plans.specs.declared.replies.LaneAnswers.{LaneAnswers}
+use Rattle.std.proofs.Common.{List, ap, arith}
+use Rattle.std.specs.List.{concat}
+use Rattle.batch_plans.specs.declared.plan.CallLine.{CallLine}
 use Rattle.field_text.proofs.Held.{Puts-same}
-use Rattle.request_frames.specs.ReplyText.{numbered, lane_text, lane_replies}
-use Rattle.request_frames.proofs.Numbering.{Puts-no_numbered, Puts-numbered, numbered-map}
+use Rattle.reply_texts.specs.ReplyText.{lane_lines, answered_lines}
+use Rattle.reply_texts.proofs.Lanes.{IsLane}
+use Rattle.request_frames.proofs.Leaves.{Leaves-whole, Leaves-next, Leaves-nothing}
+use Rattle.request_frames.proofs.LinesLeft.{lanes-next, lanes-end}
 use Rattle.request_frames.proofs.printing.put_lanes.Goals as goal
 
 pub lanes-init : goal.lanes-init
-lanes-init g c = Puts-no_numbered _
+lanes-init g c = Leaves-whole
 
 pub lanes-preserved : goal.lanes-preserved
 lanes-preserved g c =
-    Puts-numbered (λ number lane. lane_text number (lane_replies lane)) c.args.lanes.now c.lanes.number _ _ c.lanes-test.true c.index-lanes-number.is c.lanes.invariant c.put_lane.ensures
+    let number = c.lanes.number in
+    let calls = c.index-lanes-number.result in
+    let lane = c.index-answers-number.result in
+    let here : IsLane c.args.lanes.now c.args.answers.now number calls lane = record {
+      one_of_lanes = omega arith;
+      one_of_answers = omega arith;
+      calls_are = c.index-lanes-number.is;
+      lane_is = c.index-answers-number.is;
+    } in
+    let next = lanes-next c.args.lanes.now c.args.answers.now number calls lane here in
+    let lines = λ (calls : List CallLine). concat (lane_lines number (answered_lines calls lane)) in
+    Leaves-next next c.lanes.invariant
+    (Puts-same (ap lines c.as_slice.ensures.items) c.put_lane.ensures)
 
 pub returns : goal.returns
 returns g c =
-    let text : ℕ → LaneAnswers → List ℕ = λ number lane. lane_text number (lane_replies lane) in
-    let all = take_all c.lanes.number c.args.lanes.now c.lanes-test.false in
-    Puts-same (ap (numbered text 0) all ∙ sym (numbered-map lane_text lane_replies 0 c.args.lanes.now)) c.lanes.invariant
+    let end = lanes-end c.args.lanes.now c.args.answers.now c.lanes.number (omega arith) in
+    Leaves-nothing end c.lanes.invariant

@@ -5,7 +5,9 @@ use Rattle.request_frames.proofs.Chains.{◌⨾◌}
 use Rattle.request_frames.proofs.reply_lines.put_reply.Goals as goal
 
 pub returns-in-Failed : goal.returns-in-Failed
-returns-in-Failed g c = rw c.in-Failed.is (c.put_text.ensures ⨾ c.put_number.ensures ⨾ c.put_text-in-Failed.ensures)
+returns-in-Failed g c =
+    rw c.in-Failed.is
+    (c.put_text.ensures ⨾ c.put_number.ensures ⨾ c.put_text-in-Failed.ensures)
 
 pub returns-in-Exported : goal.returns-in-Exported
 returns-in-Exported g c =

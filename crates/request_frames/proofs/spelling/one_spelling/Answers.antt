@@ -1,5 +1,5 @@
 use Rattle.std.proofs.Common.{sym, ◌∙◌}
-use Rattle.request_frames.proofs.SpelledPlans.{text_back}
+use Rattle.request_frames.proofs.SpelledTexts.{text_back}
 use Rattle.request_frames.proofs.spelling.one_spelling.Goals as goal
 
 pub returns-clause-text : goal.returns-clause-text

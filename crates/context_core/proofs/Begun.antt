@@ -1,0 +1,274 @@
+-- Lanes and books before the first step follow the start of the core.
+use Rattle.std.proofs.Common.{◌≡◌, ◌<◌, ◌≤◌, ◌^◌, ℕ, zero, suc, ◌+◌, ◌==◌, Bool, true, false, cond, List, [], ◌∷◌, ◌++◌, length, map, take, drop, get_or, sym, refl, ap, ◌∙◌, subst, arith, Option, Some, None, inl, inr, length-append, if◌then◌else◌}
+use Rattle.std.specs.Prelude.{slice_get, slice_index_or, sum_by, option_map}
+use Rattle.std.specs.List.{All, range_with_len}
+use Rattle.std.proofs.lemmas.Bool.{cases_lt}
+use Rattle.std.proofs.lemmas.List.{length-map, length-replicate, get_or_past, get_or-map}
+use Rattle.std.proofs.lemmas.List.FromFn.{get_or-map-range_with_len, length-map-range_with_len}
+use Rattle.std.proofs.lemmas.List.Sums.{sum_by-cons}
+use Rattle.std.proofs.lemmas.List.Elements.{All-head, All-tail}
+use Rattle.std.proofs.lemmas.Option.{slice_get-map, slice_get_within, slice_get-get_or, get_or_from_slice_get}
+use Rattle.hpke_context.specs.Contexts.{ContextView}
+use Rattle.legal_journals.specs.Batches.{Batch, Ask, spots, block, asked, all_asked, items_in, lane_of, lane_places, on}
+use Rattle.legal_journals.proofs.Lists.{on-append, on-spots}
+use Rattle.core_schedules.specs.Core as core
+use Rattle.core_schedules.specs.Core.{Core, all_tasks, at_first, start}
+use Rattle.core_schedules.proofs.Steps as core_steps
+use Rattle.core_schedules.proofs.Steps.{tasks_at, placed}
+use Rattle.core_schedules.proofs.Matching.{lane_at}
+use Rattle.context_books.specs.Books.{BookView}
+use Rattle.batch_plans.specs.declared.plan.Plan.{Plan}
+use Rattle.batch_plans.specs.declared.plan.CallLine.{CallLine}
+use Rattle.batch_plans.specs.declared.plan.CallLine.TheVariants as calls
+use Rattle.batch_plans.specs.declared.replies.CallRefusal.{CallRefusal}
+use Rattle.batch_plans.specs.declared.replies.LaneAnswers.{LaneAnswers}
+use Rattle.batch_plans.specs.Limits.{IsCallWithin, IsWithinLimits}
+use Rattle.batch_plans.specs.Calls.{items_at, items_on, if_served}
+use Rattle.batch_plans.specs.Room.{lane_room, call_room}
+use Rattle.batch_plans.specs.Progress.{begun}
+use Rattle.batch_plans.proofs.Rooms.{lane_within, lane_is_small}
+use Rattle.due_replies.specs.Standing.{call_refusal, export_limits, AreOfLines}
+use Rattle.due_replies.specs.Asks.{asked_by, ask_unless, ask_of, batch_of}
+use Rattle.due_replies.proofs.Done.{lane_asks, length-messages}
+use Rattle.lane_replies.specs.Answered.{HasRoomFor}
+use Rattle.lane_replies.proofs.Answering.{answered_begun}
+use Rattle.lane_replies.proofs.Rooms.{room_begun}
+use Rattle.context_core.specs.declared.books.Books.{Books}
+use Rattle.context_core.specs.declared.lanes.Lane.{Lane}
+use Rattle.context_core.specs.Books.{book_at}
+use Rattle.context_core.specs.Following.{run_of, lane_calls, core_stage, AreBooks, Answered, IsLane, IsAt, IsRehearsal}
+use Rattle.context_core.specs.Preparing.{lane_quota, fresh_in, fresh_at, IsFresh, AreFresh, with_answers}
+use Rattle.context_core.proofs.Allowed.{within_contexts}
+use Rattle.context_core.proofs.Adding.{nothing_placed}
+use Rattle.context_core.proofs.Runs.{guesses_are, has_done, all_served}
+use Rattle.context_core.proofs.Quotas.{counted, refused_call}
+
+-- ---- the places that a lane asks for on one context
+
+module _ (plan : Plan) (contexts : List (Option ContextView)) (t : AreOfLines plan.contexts contexts)
+    (number : ℕ) where
+  abbrev limits : List ℕ
+  limits = export_limits contexts
+
+  abbrev count : CallLine → ℕ
+  count = items_on plan.contexts limits number
+
+  on_block : (l k c n items : ℕ) → length (block l k 0 n) ≡ items
+      → length (on number (spots c (block l k 0 n))) ≡ (if c == number then items else 0)
+  on_block l k c n items size =
+      ap length (on-spots number c (block l k 0 n)) ∙ step (c == number)
+    where
+      step : (b : Bool) → length (cond b (block l k 0 n) []) ≡ (if b then items else 0)
+      step true = size
+      step false = refl
+
+  on_call : (l k : ℕ) (call : CallLine) (refusal : Option CallRefusal)
+      → call_refusal contexts call ≡ refusal
+      → IsCallWithin (length plan.items) (length plan.pool) call
+      → length (on number (asked l k (ask_unless refusal (asked_by plan call)))) ≡ count call
+  on_call l k call (Some why) is within =
+      sym (refused_call plan.contexts contexts t number call why is)
+  on_call l k (calls.Seal c item) None is within =
+      on_block l k c 1 1 refl
+      ∙ ap (λ r. items_at (if_served r c) number 1) (sym is)
+      ∙ sym (counted plan.contexts contexts t number (calls.Seal c item) tt)
+  on_call l k (calls.Unseal c item) None is within =
+      on_block l k c 1 1 refl
+      ∙ ap (λ r. items_at (if_served r c) number 1) (sym is)
+      ∙ sym (counted plan.contexts contexts t number (calls.Unseal c item) tt)
+  on_call l k (calls.UnsealAll c first n) None is within =
+      let call = calls.UnsealAll c first n in
+      let size = length-messages plan.items plan.pool first n within.3 in
+      on_block l k c (length (items_in (asked_by plan call))) n
+      (block_size (length (items_in (asked_by plan call))) 0 ∙ size)
+      ∙ ap (λ r. items_at (if_served r c) number n) (sym is)
+      ∙ sym (counted plan.contexts contexts t number call tt)
+    where
+      block_size : (n i : ℕ) → length (block l k i n) ≡ n
+      block_size zero i = refl
+      block_size (suc n) i = ap suc (block_size n (i + 1))
+  on_call l k (calls.Export c exporter size) None is within = refl
+
+  on_calls : (l k : ℕ) (calls : List CallLine)
+      → All (IsCallWithin (length plan.items) (length plan.pool)) calls
+      → length (on number (all_asked l k (map (ask_of plan contexts) calls))) ≡ sum_by count calls
+  on_calls l k [] all = refl
+  on_calls l k (call ∷ calls) all =
+      let P = IsCallWithin (length plan.items) (length plan.pool) in
+      let first = asked l k (ask_of plan contexts call) in
+      let rest = all_asked l (k + 1) (map (ask_of plan contexts) calls) in
+      ap length (on-append number first rest) ∙ length-append (on number first) (on number rest)
+      ∙ (λ i. on_call l k call (call_refusal contexts call) refl (All-head P call calls all) i
+      + on_calls l (k + 1) calls (All-tail P call calls all) i)
+      ∙ sym (sum_by-cons count call calls)
+
+  -- as many as its quota
+  pub quota_is : IsWithinLimits plan → (l : ℕ) → l < length plan.lanes
+      → length (lane_places number l (lane_of (batch_of plan contexts) l))
+      ≡ lane_quota plan contexts number (lane_calls plan l)
+  quota_is within l low =
+      let w : Core = record { history = []; lanes = [] } in
+      ap (λ asks. length (lane_places number l asks)) (lane_asks (run_of plan contexts w) l)
+      ∙ on_calls l 0 (lane_calls plan l) (lane_within plan within l [] low).lines
+
+-- ---- the start
+
+module _ (plan : Plan) (contexts : List (Option ContextView)) (within : IsWithinLimits plan)
+    (standing : AreOfLines plan.contexts contexts) where
+  abbrev batch : Batch
+  batch = batch_of plan contexts
+
+  abbrev first : Core
+  first = start batch
+
+  -- ---- books
+
+  module _ (books : Books)
+      (is : books.books.items ≡ map (fresh_at plan contexts) (range_with_len 0 (length contexts)))
+      (places : books.places ≡ 0) (checks : books.checks ≤ 0) where
+    fresh_there : (n : ℕ) → n < length contexts → book_at books n ≡ fresh_at plan contexts n
+    fresh_there n low = ap (λ bs. slice_index_or bs n None) is
+        ∙ get_or-map-range_with_len (fresh_at plan contexts) 0 (length contexts) n n None low
+        (omega arith)
+
+    size : length books.books.items ≡ length contexts
+    size = ap length is ∙ length-map-range_with_len (fresh_at plan contexts) 0 (length contexts)
+
+    fresh_books : AreBooks plan contexts [] books
+    fresh_books = record {
+      count = size;
+      each = λ n view at.
+          let book : BookView = record {
+            limit = view.limit;
+            quotas = map (lane_quota plan contexts n) plan.lanes;
+            entries = [];
+          } in (
+            book,
+            fresh_there n (within_contexts contexts n view at) ∙ ap (fresh_in plan contexts n) at,
+            record {
+              limit = refl;
+              lanes = length-map plan.lanes (lane_quota plan contexts n);
+              quotas = λ l low. get_or-map (lane_quota plan contexts n) plan.lanes l [] 0 low
+                  ∙ sym (quota_is plan contexts standing n within l low);
+              marks = refl;
+              fits = λ i e here. absurd (no_entry i e here);
+            },
+          );
+      none = λ n at. elim (cases_lt n (length contexts)) [
+        | inl low ↦ fresh_there n low ∙ ap (fresh_in plan contexts n) at
+        | inr high ↦ get_or_past books.books.items n None (omega (arith, size))
+      ];
+      absent = λ n at. refl;
+      places = places;
+      checks = omega arith;
+    }
+      where
+        no_entry : {X : Type 0} (i : ℕ) (e : X) → slice_get [] i ≡ Some e → ⊥
+        no_entry i e here = (let f : None ≡ Some e = here in cc)
+
+  -- ---- lanes
+
+  fresh_tasks : (asks : List Ask) → all_tasks 0 asks ≡ tasks_at core_steps.Fresh 0 asks
+  fresh_tasks [] = refl
+  fresh_tasks (a ∷ asks) = refl
+
+  none_asked : (n : ℕ) → on n [] ≡ []
+  none_asked n = refl
+
+  first_lane : (l : ℕ) → l < length plan.lanes
+      → slice_get first.lanes l ≡ Some (lane_at (lane_of batch l) 0 core_steps.Fresh 0 [])
+  first_lane l low =
+      let size : length batch ≡ length plan.lanes = length-map plan.lanes (map (ask_of plan contexts)) in
+      slice_get-map at_first batch l
+      ∙ ap (option_map at_first) (slice_get-get_or batch l [] (omega arith))
+      ∙ ap (λ ts. let s : core.Lane = record { to_come = ts; guess = 0; guesses = [] } in Some s)
+      (fresh_tasks (lane_of batch l))
+
+  begins : (l : ℕ) (lane : Lane) → l < length plan.lanes → IsFresh (lane_calls plan l) lane
+      → lane.progress ≡ begun (lane_room plan (export_limits contexts) (lane_calls plan l))
+      → IsLane plan contexts first l lane
+  begins l lane low fresh progress =
+      let asks = lane_of batch l in
+      let calls = lane_calls plan l in
+      let given = lane_room plan (export_limits contexts) calls in
+      let call = fresh.call in
+      let stage = fresh.stage in
+      let guesses = guesses_are plan contexts first l _ (first_lane l low) in
+      let done = has_done plan contexts first l 0 [] (λ c high. refl) refl guesses refl in
+      let answered : Answered plan contexts first l 0 [] (begun given) = record {
+        earlier = first;
+        more = [];
+        grown = refl;
+        done = done;
+        served = all_served plan contexts first (λ c few p has. absurd has);
+        kept = guesses;
+        lines = answered_begun given;
+      } in
+      record {
+        guess = 0;
+        guesses = [];
+        at = first_lane l low
+            ∙ (λ i. Some (lane_at asks (sym call i) (core_stage (sym stage i)) 0 []));
+        own = sym (nothing_placed l 0 (drop 0 asks))
+            ∙ (λ i. all_asked l 0 (take (sym call i) asks)
+            ++ placed (core_stage (sym stage i)) l (sym call i) (drop (sym call i) asks));
+        count = ap (λ n. Rattle.legal_journals.specs.Guesses.guess_count (take n asks)) (sym call);
+        answered = subst (λ n. Answered plan contexts first l n [] lane.progress) (sym call)
+            (subst (Answered plan contexts first l 0 []) (sym progress) answered);
+        room = subst (λ n. HasRoomFor plan (export_limits contexts) (drop n calls) lane.progress)
+            (sym call) (subst (HasRoomFor plan (export_limits contexts) (drop 0 calls)) (sym progress)
+            (room_begun plan (export_limits contexts) calls (lane_within plan within l [] low)));
+        within = omega arith;
+        tools = record { rows = fresh.rows; steps_room = fresh.steps };
+        stage = λ other at. subst (IsAt plan contexts first l lane other 0) (sym stage) tt;
+      }
+
+  -- ---- all of them
+
+  pub begun_follows : (books : Books) (fresh lanes : List Lane) (answers : List LaneAnswers)
+      → books.books.items ≡ map (fresh_at plan contexts) (range_with_len 0 (length contexts))
+      → books.places ≡ 0 → books.checks ≤ 0
+      → length fresh ≡ length plan.lanes → AreFresh plan.lanes fresh
+      → answers ≡ map (lane_room plan (export_limits contexts)) plan.lanes
+      → length lanes ≡ length fresh
+      → ((l : ℕ) (lane : Lane) (given : LaneAnswers) → l < length fresh
+      → get_or lanes l lane ≡ with_answers (get_or fresh l lane) (get_or answers l given))
+      → IsRehearsal plan contexts first lanes books
+  begun_follows books fresh lanes answers books_are places checks count are_fresh answers_are same
+      given =
+      record {
+        books_follow = fresh_books books books_are places checks;
+        count = same ∙ count;
+        core_count = length-map batch at_first
+            ∙ length-map plan.lanes (map (ask_of plan contexts));
+        each = λ l lane at.
+            let low : l < length plan.lanes = (let a = slice_get_within lanes l lane at in omega arith) in
+            let blank : LaneAnswers = record { pool = []; replies = []; batches = [] } in
+            let one = are_fresh l [] lane low in
+            let lane_is : lane ≡ with_answers (get_or fresh l lane) (get_or answers l blank) =
+            sym (get_or_from_slice_get lanes l lane lane at) ∙ given l lane blank (omega arith) in
+            let room : get_or answers l blank
+            ≡ lane_room plan (export_limits contexts) (lane_calls plan l) =
+            ap (λ xs. get_or xs l blank) answers_are
+            ∙ get_or-map (lane_room plan (export_limits contexts)) plan.lanes l [] blank low in
+            subst (IsLane plan contexts first l) (sym lane_is)
+            (begins l (with_answers (get_or fresh l lane) (get_or answers l blank)) low
+            (record { call = one.call; stage = one.stage; rows = one.rows; steps = one.steps })
+            (ap begun room));
+        others = λ l high. refl;
+      }
+
+-- the room of each lane is small
+pub pools_small : (plan : Plan) (limits : List ℕ) (answers : List LaneAnswers)
+    → IsWithinLimits plan → answers ≡ map (lane_room plan limits) plan.lanes
+    → All (λ (given : LaneAnswers). length given.pool < 2 ^ 32) answers
+pools_small plan limits answers within is =
+    subst (All (λ (given : LaneAnswers). length given.pool < 2 ^ 32)) (sym is)
+    (λ k d low.
+    let count = length-map plan.lanes (lane_room plan limits) in
+    let there : k < length plan.lanes = omega arith in
+    let calls = get_or plan.lanes k [] in
+    let room = get_or-map (lane_room plan limits) plan.lanes k [] d there in
+    let small = (lane_is_small plan limits calls (lane_within plan within k [] there)).room in
+    let size = length-replicate {A = ℕ} (sum_by (call_room plan limits) calls) 0 in
+    subst (λ (given : LaneAnswers). length given.pool < 2 ^ 32) (sym room) (omega (arith, small, size)))

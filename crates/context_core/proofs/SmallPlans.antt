@@ -1,0 +1,139 @@
+-- The small batches of the tests are within the limits.
+use Rattle.std.proofs.Common.{◌≡◌, ◌<◌, ◌≤◌, ◌^◌, ℕ, ◌+◌, ◌&&◌, Bool, true, List, [], ◌∷◌, length, sym, refl, subst, arith, None, inr, eqb-true}
+use Rattle.std.specs.Prelude.{nat_le, nat_eq}
+use Rattle.std.specs.List.{All, list_all}
+use Rattle.std.proofs.lemmas.List.Elements.{All-nil, All-cons}
+use Rattle.call_places.specs.declared.spans.Span.{Span}
+use Rattle.call_places.specs.declared.spans.Item.{Item}
+use Rattle.key_schedule.specs.declared.modes.Role.{Role}
+use Rattle.key_schedule.specs.declared.modes.Role.TheVariants.{Sender, Recipient}
+use Rattle.legal_journals.proofs.Truths.{and_left, and_right, le_true}
+use Rattle.batch_plans.specs.declared.plan.Plan.{Plan}
+use Rattle.batch_plans.specs.declared.plan.CallLine.{CallLine}
+use Rattle.batch_plans.specs.declared.plan.CallLine.TheVariants.{Seal, Unseal, UnsealAll, Export}
+use Rattle.batch_plans.specs.Limits.{most_plaintext, most_ciphertext, IsField, IsItemWithin, IsCallWithin, IsContextWithin, IsKeyWithin, IsWithinLimits, all_items, all_sizes, all_texts}
+use Rattle.context_core.specs.Tests.{is_small_span, is_small_item, is_small_call, are_small, no_span, line_of, two_lines}
+
+all_of : {X : Type 0} (test : X → Bool) (P : X → Type 0) → ((x : X) → test x ≡ true → P x)
+    → (xs : List X) → list_all test xs ≡ true → All P xs
+all_of test P each [] passed = All-nil P
+all_of test P each (x ∷ xs) passed =
+    All-cons P x xs (each x (and_left (test x) (list_all test xs) passed))
+    (all_of test P each xs (and_right (test x) (list_all test xs) passed))
+
+small_field : (most : ℕ) (span : Span) → 223 ≤ most → is_small_span span ≡ true
+    → IsField most 1024 span
+small_field most span enough passed =
+    let low = le_true (span.start + span.len) 223 passed in
+    record { in_pool = omega arith; size = omega arith }
+
+small_item : (most : ℕ) (item : Item) → 223 ≤ most → is_small_item item ≡ true
+    → IsItemWithin most 1024 item
+small_item most item enough passed = record {
+  aad = small_field 65535 item.aad (omega arith)
+      (and_left (is_small_span item.aad) (is_small_span item.text) passed);
+  text = small_field most item.text enough
+      (and_right (is_small_span item.aad) (is_small_span item.text) passed);
+}
+
+small_call : (call : CallLine) → is_small_call call ≡ true → IsCallWithin 14 1024 call
+small_call (Seal context item) passed = (
+  (let low = le_true context 1 (and_left (nat_le context 1) (is_small_item item) passed) in omega arith),
+  small_item most_plaintext item (omega arith)
+      (and_right (nat_le context 1) (is_small_item item) passed),
+)
+small_call (Unseal context item) passed = (
+  (let low = le_true context 1 (and_left (nat_le context 1) (is_small_item item) passed) in omega arith),
+  small_item most_ciphertext item (omega arith)
+      (and_right (nat_le context 1) (is_small_item item) passed),
+)
+small_call (UnsealAll context first count) passed =
+    let front = nat_le context 1 && nat_le 1 count in
+    let both = and_left front (nat_le (first + count) 14) passed in
+    let a = le_true context 1 (and_left (nat_le context 1) (nat_le 1 count) both) in
+    let b = le_true 1 count (and_right (nat_le context 1) (nat_le 1 count) both) in
+    let c = le_true (first + count) 14 (and_right front (nat_le (first + count) 14) passed) in
+    (omega arith, omega arith, omega arith, omega arith)
+small_call (Export context exporter size) passed =
+    let front = nat_le context 1 && is_small_span exporter in
+    let both = and_left front (nat_le size 65535) passed in
+    let a = le_true context 1 (and_left (nat_le context 1) (is_small_span exporter) both) in
+    let b = le_true size 65535 (and_right front (nat_le size 65535) passed) in (
+      omega arith,
+      small_field 65535 exporter (omega arith)
+          (and_right (nat_le context 1) (is_small_span exporter) both),
+      omega arith,
+    )
+
+no_field : (most : ℕ) → IsField most 1024 no_span
+no_field most = record { in_pool = omega arith; size = omega arith }
+
+line_within : (role : Role) (limit : ℕ) → 1 ≤ limit → limit < 2 ^ 64
+    → IsContextWithin None 1024 (line_of role limit)
+line_within role limit least most = record {
+  kind = (omega arith, no_field 65535);
+  info = no_field 65535;
+  psk = no_field 65535;
+  psk_id = no_field 65535;
+  limit_least = least;
+  limit_most = most;
+}
+
+module _ (pool : List ℕ) (limit : ℕ) (items : List Item) (lanes : List (List CallLine))
+    (size : length pool ≡ 1024) (least : 1 ≤ limit) (most : limit < 2 ^ 64)
+    (passed : are_small items lanes ≡ true) where
+  abbrev plan : Plan
+  plan = record {
+    version = 2;
+    seed = None;
+    pool = pool;
+    keys = [];
+    contexts = two_lines limit;
+    items = items;
+    lanes = lanes;
+  }
+
+  pub small_plan : IsWithinLimits plan
+  small_plan =
+      let b6 : Bool = nat_le (all_texts items lanes) 1024 in
+      let b5 : Bool = nat_le (all_sizes lanes) 65535 in
+      let b4 : Bool = nat_le (all_items lanes) 14 in
+      let b3 : Bool = nat_le (length lanes) 2 in
+      let b2 : Bool = list_all (λ calls. list_all is_small_call calls) lanes in
+      let b1 : Bool = nat_eq (length items) 14 in
+      let b0 : Bool = list_all is_small_item items in
+      let p1 = and_right b0 (b1 && (b2 && (b3 && (b4 && (b5 && b6))))) passed in
+      let p2 = and_right b1 (b2 && (b3 && (b4 && (b5 && b6)))) p1 in
+      let p3 = and_right b2 (b3 && (b4 && (b5 && b6))) p2 in
+      let p4 = and_right b3 (b4 && (b5 && b6)) p3 in
+      let p5 = and_right b4 (b5 && b6) p4 in
+      let count : length items ≡ 14 = eqb-true (length items) 14 (and_left b1 (b2 && (b3 && (b4 && (b5 && b6)))) p1) in
+      let lane_count = le_true (length lanes) 2 (and_left b3 (b4 && (b5 && b6)) p3) in
+      let item_total = le_true (all_items lanes) 14 (and_left b4 (b5 && b6) p4) in
+      let sizes = le_true (all_sizes lanes) 65535 (and_left b5 b6 p5) in
+      let texts = le_true (all_texts items lanes) 1024 (and_right b5 b6 p5) in
+      let P = IsCallWithin 14 1024 in
+      let item_list = all_of is_small_item (IsItemWithin most_ciphertext 1024)
+      (λ item ok. small_item most_ciphertext item (omega arith) ok) items (and_left b0 (b1 && (b2 && (b3 && (b4 && (b5 && b6))))) passed) in
+      let call_lines = all_of (λ calls. list_all is_small_call calls) (All P)
+      (λ calls ok. all_of is_small_call P small_call calls ok) lanes (and_left b2 (b3 && (b4 && (b5 && b6))) p2) in
+      let Q = IsContextWithin None 1024 in
+      let lines = All-cons Q (line_of Sender limit) (line_of Recipient limit ∷ [])
+      (line_within Sender limit least most)
+      (All-cons Q (line_of Recipient limit) [] (line_within Recipient limit least most) (All-nil Q)) in
+      record {
+        version = inr refl;
+        pool = omega arith;
+        keys = omega arith;
+        contexts = omega arith;
+        lanes = omega arith;
+        items = omega arith;
+        exported = omega arith;
+        texts = omega arith;
+        key_lines = All-nil (IsKeyWithin None (length pool));
+        context_lines = subst (λ n. All (IsContextWithin None n) (two_lines limit)) (sym size) lines;
+        item_count = omega arith;
+        item_list = subst (λ n. All (IsItemWithin most_ciphertext n) items) (sym size) item_list;
+        call_lines = subst (λ n. All (All (IsCallWithin (length items) n)) lanes) (sym size)
+            (subst (λ n. All (All (IsCallWithin n 1024)) lanes) (sym count) call_lines);
+      }

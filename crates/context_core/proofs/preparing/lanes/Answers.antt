@@ -1,0 +1,27 @@
+use Rattle.std.proofs.Common.{◌<◌, ℕ, ◌+◌, List, length, get_or, sym, ap, subst, arith}
+use Rattle.batch_plans.specs.declared.plan.CallLine.{CallLine}
+use Rattle.context_core.specs.declared.lanes.Lane.{Lane}
+use Rattle.context_core.specs.Preparing.{IsFresh}
+use Rattle.context_core.proofs.Fresh.{fresh_more}
+use Rattle.context_core.proofs.preparing.lanes.Goals as goal
+
+pub lanes-preserved : goal.lanes-preserved
+lanes-preserved c =
+    let i = c.lanes.calls-index in
+    let all = c.as_slice-calls-items.result.now in
+    let t = c.lanes.invariant in
+    let here = subst (λ cs. IsFresh cs c.in_ok-lane.field-0) c.as_slice.ensures.items c.in_ok-lane.ensures in
+    record {
+      count = omega (arith, ap length c.in_ok-push.ensures.items, t.count, c.in_ok-push.ensures.len);
+      fresh = subst (λ (xs : List Lane). (k : ℕ) (calls : List CallLine) (lane : Lane) → k < i + 1
+          → IsFresh (get_or all k calls) (get_or xs k lane)) (sym {A = List Lane} c.in_ok-push.ensures.items)
+          (fresh_more all c.lanes.lanes.items i c.in_ok-lane.field-0 c.calls-item.result t.count
+          c.lanes-test.true here c.calls-item.is t.fresh);
+    }
+
+pub returns-clause-fresh : goal.returns-clause-fresh
+returns-clause-fresh c = λ l calls lane low.
+    let items = c.as_slice-calls-items.ensures.items in
+    subst (λ lanes. IsFresh (get_or lanes l calls) (get_or c.lanes.lanes.items l lane)) items
+    (c.lanes.invariant.fresh l calls lane
+    (omega (arith, c.lanes-test.false, ap length items)))

@@ -1,0 +1,25 @@
+use Rattle.std.proofs.Common.{◌*◌, sym, subst}
+use Rattle.std.specs.Prelude.{replicate}
+use Rattle.core_schedules.specs.Core.{Core, all_happen, happens}
+use Rattle.due_replies.specs.Asks.{batch_of, cipher_at}
+use Rattle.context_core.specs.Following.{IsRehearsal}
+use Rattle.context_core.proofs.Events.{four_more}
+use Rattle.context_core.proofs.rehearsals.Rehearsal.end.Goals as goal
+
+pub calls-preserved : goal.calls-preserved
+calls-preserved g c = λ w t.
+    let plan = c.args.plan.now in
+    let contexts = c.args.contexts.now in
+    let batch = batch_of plan contexts in
+    let ciphers = cipher_at contexts in
+    let i = c.calls._call in
+    let n = c.args.number in
+    let w0 = all_happen batch ciphers w (replicate (4 * i) n) in
+    let w1 = happens batch ciphers w0 n in
+    let w2 = happens batch ciphers w1 n in
+    let w3 = happens batch ciphers w2 n in
+    let last = c.event-in-calls-3.new.self in
+    subst (λ (v : Core). IsRehearsal plan contexts v last.lanes.items last.books)
+    (sym (four_more plan contexts w i n))
+    (c.event-in-calls-3.ensures w3 (c.event-in-calls-2.ensures w2 (c.event-in-calls.ensures w1
+    (c.event.ensures w0 (c.calls.invariant w t)))))

@@ -1,0 +1,19 @@
+use Rattle.std.proofs.Common.{◌<◌, take, length, sym, ap, subst, arith}
+use Rattle.core_schedules.specs.Core.{Core, all_happen}
+use Rattle.due_replies.specs.Asks.{batch_of, cipher_at}
+use Rattle.context_core.specs.Following.{long_ends, IsRehearsal}
+use Rattle.context_core.proofs.Events.{one_lane_more}
+use Rattle.context_core.proofs.rehearsals.Rehearsal.end_all.Goals as goal
+
+pub lanes-preserved : goal.lanes-preserved
+lanes-preserved g c = λ w t.
+    let plan = c.args.plan.now in
+    let contexts = c.args.contexts.now in
+    let i = c.lanes.number in
+    let last = c.end.new.self in
+    let low : i < length plan.lanes =
+    omega (arith, c.lanes-test.true, ap length c.as_slice-number-end.ensures.items) in
+    subst (λ (v : Core). IsRehearsal plan contexts v last.lanes.items last.books)
+    (sym (one_lane_more plan contexts w i low))
+    (c.end.ensures (all_happen (batch_of plan contexts) (cipher_at contexts) w
+    (long_ends 0 (take i plan.lanes))) (c.lanes.invariant w t))

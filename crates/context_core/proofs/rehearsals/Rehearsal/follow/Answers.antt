@@ -1,0 +1,19 @@
+use Rattle.std.proofs.Common.{take, get_or, sym, subst}
+use Rattle.std.proofs.lemmas.Option.{slice_get-get_or}
+use Rattle.core_schedules.specs.Core.{Core, all_happen}
+use Rattle.due_replies.specs.Asks.{batch_of, cipher_at}
+use Rattle.context_core.specs.Following.{IsRehearsal}
+use Rattle.context_core.proofs.Events.{one_more}
+use Rattle.context_core.proofs.rehearsals.Rehearsal.follow.Goals as goal
+
+pub events-preserved : goal.events-preserved
+events-preserved g c = λ w t.
+    let plan = c.args.plan.now in
+    let contexts = c.args.contexts.now in
+    let schedule = c.args.schedule.now in
+    let i = c.events.number-index in
+    let at = slice_get-get_or schedule i 0 c.events-test.true in
+    subst (λ (v : Core). IsRehearsal plan contexts v c.event.new.self.lanes.items c.event.new.self.books)
+    (sym (one_more plan contexts w schedule i (get_or schedule i 0) at))
+    (c.event.ensures (all_happen (batch_of plan contexts) (cipher_at contexts) w (take i schedule))
+    (c.events.invariant w t))

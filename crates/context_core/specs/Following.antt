@@ -1,0 +1,233 @@
+-- ---- for the proofs: how the state of the program follows that of the core.
+use Rattle.std.specs.Prelude.{ℕ, ◌≡◌, ◌+◌, ◌*◌, ◌<◌, ◌≤◌, ◌++◌, List, [], ◌∷◌, length, take, drop, map, replicate, slice_get, slice_index, slice_index_or, Option, Some, None}
+use Rattle.std.specs.List.{All}
+use Rattle.call_places.specs.declared.entries.Place.{Place}
+use Rattle.call_places.specs.declared.spans.Item.{Item}
+use Rattle.call_places.specs.Entries.{mark_of}
+use Rattle.hpke_context.specs.Answers.{Cipher}
+use Rattle.hpke_context.specs.Contexts.{ContextView, cipher_of}
+use Rattle.legal_journals.specs.Batches.{Batch, Spot, all_asked, lane_of, lane_places, on}
+use Rattle.legal_journals.specs.Legal.{due_after}
+use Rattle.legal_journals.specs.Guesses as guesses
+use Rattle.legal_journals.specs.Guesses.{guess_count}
+use Rattle.legal_journals.specs.Histories.{journals_of, stamped_on, own_spots}
+use Rattle.legal_journals.specs.Entries.{steps_from, numbers_from, Fits}
+use Rattle.core_schedules.specs.Core as core
+use Rattle.core_schedules.specs.Core.{Core, happens}
+use Rattle.core_schedules.proofs.Steps as core_steps
+use Rattle.core_schedules.proofs.Steps.{placed}
+use Rattle.core_schedules.proofs.Matching.{lane_at}
+use Rattle.context_books.specs.declared.book.Draw.{Draw}
+use Rattle.context_books.specs.declared.book.Draw.TheVariants.{Number}
+use Rattle.context_books.specs.Books.{BookView}
+use Rattle.context_books.specs.Openings.{IsTableFor, unseals}
+use Rattle.batch_plans.specs.declared.plan.Plan.{Plan}
+use Rattle.batch_plans.specs.declared.plan.CallLine.{CallLine}
+use Rattle.batch_plans.specs.declared.plan.CallLine.TheVariants as calls
+use Rattle.batch_plans.specs.Limits.{items_of, items_from, IsWithinLimits}
+use Rattle.batch_plans.specs.Calls.{context_of}
+use Rattle.batch_plans.specs.declared.replies.Batch.{Batch as Guess}
+use Rattle.batch_plans.specs.Progress.{Progress, with_batch}
+use Rattle.due_replies.specs.Standing.{standing_at, call_refusal, export_limits, AreOfLines}
+use Rattle.due_replies.specs.Asks.{asked_by, batch_of, cipher_at}
+use Rattle.due_replies.specs.Runs.{Run}
+use Rattle.due_replies.proofs.Staying.{JournalsAreServed}
+use Rattle.due_replies.specs.Lanes.{HasDone, done_lines}
+use Rattle.due_replies.proofs.CallLines.{StandsBehind}
+use Rattle.due_replies.specs.Runs.{guesses_of}
+use Rattle.lane_replies.specs.Writing.{due_at}
+use Rattle.lane_replies.specs.Answered.{HasAnswered, HasRoomFor}
+use Rattle.context_core.specs.declared.books.Books.{Books}
+use Rattle.context_core.specs.declared.lanes.Lane.{Lane}
+use Rattle.context_core.specs.declared.lanes.Stage.{Stage}
+use Rattle.context_core.specs.declared.lanes.Stage.TheVariants.{Fresh, Drawn, Guessed, Tested, Settled}
+use Rattle.context_core.specs.Books.{book_at}
+
+-- ---- calls
+
+abbrev pub lane_calls : Plan → ℕ → List CallLine
+lane_calls plan lane = slice_index_or plan.lanes lane []
+
+-- from this lane on, four events for each call of each lane
+abbrev pub long_ends : ℕ → List (List CallLine) → List ℕ
+long_ends l [] = []
+long_ends l (calls ∷ lanes) = replicate (4 * length calls) l ++ long_ends (l + 1) lanes
+
+-- the items that an opening names
+abbrev pub opening_items : Plan → CallLine → List Item
+opening_items plan (calls.Seal context item) = []
+opening_items plan (calls.Unseal context item) = item ∷ []
+opening_items plan (calls.UnsealAll context first count) = items_from plan.items first count
+opening_items plan (calls.Export context exporter size) = []
+
+abbrev pub IsOpening : CallLine → Type 0
+IsOpening (calls.Seal context item) = ⊥
+IsOpening (calls.Unseal context item) = Unit {0}
+IsOpening (calls.UnsealAll context first count) = Unit {0}
+IsOpening (calls.Export context exporter size) = ⊥
+
+abbrev pub IsSeal : CallLine → Type 0
+IsSeal (calls.Seal context item) = Unit {0}
+IsSeal (calls.Unseal context item) = ⊥
+IsSeal (calls.UnsealAll context first count) = ⊥
+IsSeal (calls.Export context exporter size) = ⊥
+
+-- an opening of several messages keeps its guess
+abbrev pub with_guess : Progress → CallLine → Guess → Progress
+with_guess p (calls.Seal context item) guess = p
+with_guess p (calls.Unseal context item) guess = p
+with_guess p (calls.UnsealAll context first count) guess = with_batch p guess
+with_guess p (calls.Export context exporter size) guess = p
+
+-- ---- the run of a state of the core
+
+abbrev pub run_of : Plan → List (Option ContextView) → Core → Run
+run_of plan contexts w =
+    record {
+      plan = plan;
+      contexts = contexts;
+      journals = journals_of (length plan.contexts) w.history;
+      guesses = map (λ (lane : core.Lane). lane.guesses) w.lanes;
+    }
+
+abbrev pub core_stage : Stage → core_steps.Stage
+core_stage Fresh = core_steps.Fresh
+core_stage (Drawn drawn) = core_steps.HasPlaces
+core_stage (Guessed guess) = core_steps.HasGuess
+core_stage Tested = core_steps.HasTests
+core_stage (Settled first missed) = core_steps.HasPlaces
+
+module _ (plan : Plan) (contexts : List (Option ContextView)) where
+  abbrev pub batch : Batch
+  batch = batch_of plan contexts
+
+  abbrev pub ciphers : ℕ → Cipher
+  ciphers = cipher_at contexts
+
+  -- ---- books
+
+  pub record IsBookOf (h : List Spot) (number : ℕ) (view : ContextView) (book : BookView)
+      : Type 0 where
+    pub limit : book.limit ≡ view.limit
+    pub lanes : length book.quotas ≡ length plan.lanes
+    pub quotas : (lane : ℕ) → lane < length plan.lanes
+        → slice_index book.quotas lane ≡ length (lane_places number lane (lane_of batch lane))
+    pub marks : map mark_of book.entries ≡ stamped_on number 0 h
+    pub fits : Fits batch number (cipher_of view) book.entries
+
+  -- each context that stands has its book of this history, and no other has one
+  pub record AreBooks (h : List Spot) (books : Books) : Type 0 where
+    pub count : length books.books.items ≡ length contexts
+    pub each : (number : ℕ) (view : ContextView) → standing_at contexts number ≡ Some view
+        → (book : BookView) × (book_at books number ≡ Some book) × IsBookOf h number view book
+    pub none : (number : ℕ) → standing_at contexts number ≡ None → book_at books number ≡ None
+    pub absent : (number : ℕ) → standing_at contexts number ≡ None → on number h ≡ []
+    pub places : books.places ≡ length h
+    pub checks : books.checks ≤ books.places
+
+  -- ---- lanes
+
+  -- the calls before this one are answered, as they were at an earlier state
+  pub record Answered (w : Core) (l call : ℕ) (guesses : List ℕ) (progress : Progress)
+      : Type 0 where
+    pub earlier : Core
+    pub more : List Spot
+    pub grown : w.history ≡ earlier.history ++ more
+    pub done : HasDone (run_of plan contexts earlier) l call
+    pub served : JournalsAreServed (run_of plan contexts earlier)
+    pub kept : guesses_of (run_of plan contexts earlier) l ≡ guesses
+    pub lines : HasAnswered (take call (lane_calls plan l))
+        (done_lines (run_of plan contexts earlier) l call) progress
+
+  -- a seal has its place, and what was drawn for it
+  pub record HasDrawn (w : Core) (l number : ℕ) (call : CallLine) (drawn : Draw) : Type 0 where
+    pub seal : IsSeal call
+    pub free : call_refusal contexts call ≡ None
+    pub front : List Place
+    pub stands : StandsBehind (run_of plan contexts w) l number (asked_by plan call) front
+    pub due : due_after batch (ciphers (context_of call)) front
+        ≡ due_at (ciphers (context_of call)).limit drawn
+    pub below : (n : ℕ) → drawn ≡ Number n
+        → n < (ciphers (context_of call)).limit
+
+  -- an opening is served
+  pub record Opens (call : CallLine) : Type 0 where
+    pub opening : IsOpening call
+    pub free : call_refusal contexts call ≡ None
+
+  pub record HasTested (lane : Lane) (call : CallLine) (guess : ℕ) : Type 0 where
+    pub opens : Opens call
+    pub guess_is : lane.table.guess ≡ guess
+    pub table : (view : ContextView) → standing_at contexts (context_of call) ≡ Some view
+        → IsTableFor view plan.pool (opening_items plan call) lane.table
+
+  -- an opening has its places, and its steps are settled
+  pub record HasSettled (w : Core) (l : ℕ) (lane : Lane) (call : CallLine)
+      (guess first missed : ℕ) : Type 0 where
+    pub opens : Opens call
+    pub guess_is : lane.table.guess ≡ guess
+    pub front : List Place
+    pub stands : StandsBehind (run_of plan contexts w) l lane.call (asked_by plan call) front
+    pub due : due_after batch (ciphers (context_of call)) front ≡ first
+    pub steps : take (length (opening_items plan call)) lane.steps.items
+        ≡ steps_from (ciphers (context_of call)) first (unseals plan.pool (opening_items plan call))
+    pub missed_is : missed ≡ guesses.missed guess 0
+        (numbers_from (ciphers (context_of call)) first (unseals plan.pool (opening_items plan call)))
+
+  abbrev pub IsAt : Core → ℕ → Lane → CallLine → ℕ → Stage → Type 0
+  IsAt w l lane call guess Fresh = Unit {0}
+  IsAt w l lane call guess (Drawn drawn) = HasDrawn w l lane.call call drawn
+  IsAt w l lane call guess (Guessed g) = Opens call × (g ≡ guess)
+  IsAt w l lane call guess Tested = HasTested lane call guess
+  IsAt w l lane call guess (Settled first missed) = HasSettled w l lane call guess first missed
+
+  -- there is room for the items of each call
+  pub record HasTools (calls : List CallLine) (room : ℕ) (steps : ℕ) : Type 0 where
+    pub rows : All (λ call. items_of call ≤ room) calls
+    pub steps_room : All (λ call. items_of call ≤ steps) calls
+
+  pub record IsLane (w : Core) (l : ℕ) (lane : Lane) : Type 0 where
+    pub guess : ℕ
+    pub guesses : List ℕ
+    pub at : slice_get w.lanes l
+        ≡ Some (lane_at (lane_of batch l) lane.call (core_stage lane.stage) guess guesses)
+    pub own : own_spots l w.history ≡ all_asked l 0 (take lane.call (lane_of batch l))
+        ++ placed (core_stage lane.stage) l lane.call (drop lane.call (lane_of batch l))
+    pub count : length guesses ≡ guess_count (take lane.call (lane_of batch l))
+    pub answered : Answered w l lane.call guesses lane.progress
+    pub room : HasRoomFor plan (export_limits contexts) (drop lane.call (lane_calls plan l))
+        lane.progress
+    pub within : lane.call ≤ length (lane_calls plan l)
+    pub tools : HasTools (lane_calls plan l) lane.table.room (length lane.steps.items)
+    pub stage : (call : CallLine) → slice_get (lane_calls plan l) lane.call ≡ Some call
+        → IsAt w l lane call guess lane.stage
+
+  -- a lane and the books follow the core
+  pub record Follows (w : Core) (l : ℕ) (lane : Lane) (books : Books) : Type 0 where
+    pub lane_follows : IsLane w l lane
+    pub books_follow : AreBooks w.history books
+
+  -- what a step of a lane, whose next call this is, asks for
+  pub record MayStep (l : ℕ) (lane : Lane) (books : Books) (call : CallLine) : Type 0 where
+    pub within : IsWithinLimits plan
+    pub standing : AreOfLines plan.contexts contexts
+    pub there : l < length plan.lanes
+    pub call_is : slice_get (lane_calls plan l) lane.call ≡ Some call
+    pub few : books.places ≤ 65536
+    pub core : Core
+    pub follows : Follows core l lane books
+
+  -- the step is the core's
+  abbrev pub Steps : ℕ → CallLine → Lane → Lane → Books → Books → Type 0
+  Steps l call old new old_books new_books =
+      (w : Core) → slice_get (lane_calls plan l) old.call ≡ Some call → l < length plan.lanes
+      → Follows w l old old_books → Follows (happens batch ciphers w l) l new new_books
+
+  -- ---- all lanes
+
+  pub record IsRehearsal (w : Core) (lanes : List Lane) (books : Books) : Type 0 where
+    pub books_follow : AreBooks w.history books
+    pub count : length lanes ≡ length plan.lanes
+    pub core_count : length w.lanes ≡ length plan.lanes
+    pub each : (l : ℕ) (lane : Lane) → slice_get lanes l ≡ Some lane → IsLane w l lane
+    pub others : (l : ℕ) → length plan.lanes ≤ l → own_spots l w.history ≡ []

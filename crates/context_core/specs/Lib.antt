@@ -1,0 +1,5 @@
+pub mod Rehearsals
+pub mod Books
+pub mod Following
+pub mod Preparing
+pub mod Tests

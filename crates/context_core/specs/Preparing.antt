@@ -1,0 +1,68 @@
+-- ---- for the proofs: what stands before the first step, and what is handed out and taken back.
+use Rattle.std.specs.Prelude.{ℕ, ◌≡◌, ◌<◌, ◌≤◌, List, [], length, map, sum_by, Option, Some, None, get_or}
+use Rattle.std.specs.List.{All}
+use Rattle.call_places.specs.declared.entries.Mark.{Mark}
+use Rattle.call_places.specs.Entries.{mark_of}
+use Rattle.hpke_context.specs.Contexts.{ContextView}
+use Rattle.context_books.specs.Books.{BookView}
+use Rattle.batch_plans.specs.declared.plan.Plan.{Plan}
+use Rattle.batch_plans.specs.declared.plan.CallLine.{CallLine}
+use Rattle.batch_plans.specs.declared.replies.LaneAnswers.{LaneAnswers}
+use Rattle.batch_plans.specs.Limits.{items_of}
+use Rattle.batch_plans.specs.Calls.{items_on}
+use Rattle.batch_plans.specs.Progress.{Progress, begun}
+use Rattle.due_replies.specs.Standing.{standing_at, export_limits}
+use Rattle.context_core.specs.declared.lanes.Lane.{Lane}
+use Rattle.context_core.specs.declared.lanes.Stage.TheVariants.{Fresh}
+
+-- how many items a lane asks of the context of this number
+abbrev pub lane_quota : Plan → List (Option ContextView) → ℕ → List CallLine → ℕ
+lane_quota plan contexts number calls =
+    sum_by (items_on plan.contexts (export_limits contexts) number) calls
+
+-- the book of a context that stands, before the first step
+abbrev pub fresh_in : Plan → List (Option ContextView) → ℕ → Option ContextView → Option BookView
+fresh_in plan contexts number None = None
+fresh_in plan contexts number (Some view) =
+    Some (record {
+      limit = view.limit;
+      quotas = map (lane_quota plan contexts number) plan.lanes;
+      entries = [];
+    })
+
+abbrev pub fresh_at : Plan → List (Option ContextView) → ℕ → Option BookView
+fresh_at plan contexts number = fresh_in plan contexts number (standing_at contexts number)
+
+-- a lane before its first step, with room for the items of each of its calls
+pub record IsFresh (calls : List CallLine) (lane : Lane) : Type 0 where
+  pub call : lane.call ≡ 0
+  pub stage : lane.stage ≡ Fresh
+  pub rows : All (λ call. items_of call ≤ lane.table.room) calls
+  pub steps : All (λ call. items_of call ≤ length lane.steps.items) calls
+
+abbrev pub AreFresh : List (List CallLine) → List Lane → Type 0
+AreFresh lanes fresh =
+    (l : ℕ) (calls : List CallLine) (lane : Lane) → l < length lanes
+    → IsFresh (get_or lanes l calls) (get_or fresh l lane)
+
+-- the lane begins with these answers
+abbrev pub with_answers : Lane → LaneAnswers → Lane
+with_answers lane answers = record lane { progress = begun answers }
+
+-- what is answered
+abbrev pub answers_of : Progress → LaneAnswers
+answers_of p = record { pool = p.pool; replies = p.replies; batches = p.batches }
+
+-- each reply and each guess was put
+pub record IsEnded (lane : Lane) : Type 0 where
+  pub replies : lane.progress.left ≡ 0
+  pub guesses : lane.progress.batches_left ≡ 0
+
+-- the journal of a context, where it has a book
+abbrev pub written : Option BookView → List Mark → List Mark
+written None journal = journal
+written (Some book) journal = map mark_of book.entries
+
+abbrev pub HasRoom : Option BookView → List Mark → Type 0
+HasRoom None journal = length journal ≡ length journal
+HasRoom (Some book) journal = length journal ≡ length book.entries

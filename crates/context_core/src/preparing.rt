@@ -1,0 +1,158 @@
+//! What a rehearsal needs beside the answers, all of it taken before the first step.
+
+ghost use Rattle.std.specs.Prelude.{ℕ, ◌≡◌, ◌≤◌, ◌<◌, ◌^◌, List, [], All, IfOk, length, map, sum_by};
+ghost use Rattle.std.specs.List.{range_with_len};
+ghost use Rattle.batch_plans.specs.declared.plan.ContextLine.{ContextLine};
+ghost use Rattle.batch_plans.specs.Limits.{IsWithinLimits, items_of};
+ghost use Rattle.batch_plans.specs.Calls.{items_on};
+ghost use Rattle.due_replies.specs.Standing.{AreOfLines, export_limits};
+ghost use Rattle.context_core.specs.Preparing.{lane_quota, fresh_at, IsFresh, AreFresh};
+
+use crate::books::standing;
+use crate::lanes::{Lane, Stage, refusal_of};
+use batch_plans::{CallLine, LaneAnswers, LaneProgress, PlainList, Plan, context_of, items_of};
+use call_places::Step;
+use context_books::Book;
+use hpke_context::Context;
+use speculative_open::GuessTable;
+use std::alloc::{AllocError, Global};
+
+// How many items a call asks of the context of this number.
+fn items_on(contexts: &[Option<Context>], number: u32, call: &CallLine) -> u32
+    ensures { (lines : List ContextLine) → AreOfLines lines contexts.now
+        → result ≡ items_on lines (export_limits contexts.now) number call.now }
+{
+    if context_of(call) != number {
+        return 0;
+    }
+    if let Some(_) = refusal_of(contexts, call) {
+        return 0;
+    }
+    match call {
+        CallLine::Export { .. } => 0,
+        CallLine::Seal { .. } | CallLine::Unseal { .. } | CallLine::UnsealAll { .. } => items_of(
+            call,
+        ),
+    }
+}
+
+// How many items a lane asks of the context of this number.
+fn quota(contexts: &[Option<Context>], number: u32, calls: &[CallLine]) -> u32
+    requires few { sum_by items_of calls.now < 2 ^ 32 }
+    requires standing { (lines : List ContextLine) × AreOfLines lines contexts.now }
+    ensures { (lines : List ContextLine) → AreOfLines lines contexts.now
+        → result ≡ sum_by (items_on lines (export_limits contexts.now) number) calls.now }
+{
+    let mut sum = 0;
+    'calls: for call in calls {
+        sum += items_on(contexts, number, call);
+    }
+    sum
+}
+
+// The quotas of all lanes on the context of this number.
+fn quotas(
+    alloc: Global,
+    plan: &Plan,
+    contexts: &[Option<Context>],
+    number: u32,
+) -> Result<Vec<u32>, AllocError>
+    requires within { IsWithinLimits plan.now }
+    requires standing { AreOfLines plan.now.contexts contexts.now }
+    ensures { IfOk result (λ quotas.
+        quotas.items ≡ map (lane_quota plan.now contexts.now number) plan.now.lanes) }
+{
+    let mut quotas = Vec::new(alloc);
+    'lanes: for calls in plan.lanes.as_slice() {
+        quotas.push(quota(contexts, number, calls.as_slice()))?;
+    }
+    Ok(quotas)
+}
+
+// The book of the context of this number, if it stands.
+fn book(
+    alloc: Global,
+    plan: &Plan,
+    contexts: &[Option<Context>],
+    number: u32,
+) -> Result<Option<Book>, AllocError>
+    requires within { IsWithinLimits plan.now }
+    requires standing { AreOfLines plan.now.contexts contexts.now }
+    ensures { IfOk result (λ book. book ≡ fresh_at plan.now contexts.now number) }
+{
+    let Some(context) = standing(contexts, number) else {
+        return Ok(None);
+    };
+    let quotas = quotas(alloc, plan, contexts, number)?;
+    Ok(Some(Book::new(alloc, context.limit(), &quotas)?))
+}
+
+/// A book for each context that stands.
+pub(crate) fn books(
+    alloc: Global,
+    plan: &Plan,
+    contexts: &[Option<Context>],
+) -> Result<Vec<Option<Book>>, AllocError>
+    requires within { IsWithinLimits plan.now }
+    requires standing { AreOfLines plan.now.contexts contexts.now }
+    ensures { IfOk result (λ books. books.items
+        ≡ map (fresh_at plan.now contexts.now) (range_with_len 0 (length contexts.now))) }
+{
+    let mut books = Vec::new(alloc);
+    'contexts: for number in 0..contexts.len() {
+        books.push(book(alloc, plan, contexts, number as u32)?)?;
+    }
+    Ok(books)
+}
+
+// The most items of one call.
+fn most_items(calls: &[CallLine]) -> usize
+    ensures { All (λ call. items_of call ≤ result) calls.now }
+{
+    let mut most = 0;
+    'calls: for call in calls {
+        most = most.max(items_of(call) as usize);
+    }
+    most
+}
+
+/// Answers with no room.
+pub(crate) fn no_answers(alloc: Global) -> LaneAnswers
+    ensures pool { result.pool ≡ [] }
+    ensures replies { result.replies ≡ [] }
+    ensures batches { result.batches ≡ [] }
+{
+    LaneAnswers {
+        pool: PlainList::from_vec(Vec::new(alloc)),
+        replies: PlainList::from_vec(Vec::new(alloc)),
+        batches: PlainList::from_vec(Vec::new(alloc)),
+    }
+}
+
+// A lane before its first step, which has no answers yet.
+fn lane(alloc: Global, calls: &[CallLine]) -> Result<Lane, AllocError>
+    ensures { IfOk result (λ lane. IsFresh calls.now lane) }
+{
+    let most = most_items(calls);
+    let table = GuessTable::with_room(alloc, most)?;
+    let steps = vec![in alloc; Step::Failed; most]?;
+    Ok(Lane {
+        call: 0,
+        stage: Stage::Fresh,
+        table,
+        steps,
+        progress: LaneProgress::new(no_answers(alloc)),
+    })
+}
+
+/// The lanes of a plan before their first steps. They have no answers yet.
+pub(crate) fn lanes(alloc: Global, plan: &Plan) -> Result<Vec<Lane>, AllocError>
+    ensures count { IfOk result (λ lanes. length lanes.items ≡ length plan.now.lanes) }
+    ensures fresh { IfOk result (λ lanes. AreFresh plan.now.lanes lanes.items) }
+{
+    let mut lanes = Vec::new(alloc);
+    'lanes: for calls in plan.lanes.as_slice() {
+        lanes.push(lane(alloc, calls.as_slice())?)?;
+    }
+    Ok(lanes)
+}

@@ -1,0 +1,249 @@
+//! The rehearsal: the steps of all lanes by a schedule.
+
+ghost use Rattle.std.specs.Prelude.{ℕ, ◌≡◌, ◌^◌, [], None, All, get_or, ◌≤◌, ◌<◌, ◌*◌, length, map, replicate, OnOk, OnErr, IfOk};
+ghost use Rattle.call_places.specs.Entries.{mark_of};
+ghost use Rattle.batch_plans.specs.Limits.{IsWithinLimits};
+ghost use Rattle.batch_plans.specs.Room.{room_for};
+ghost use Rattle.reply_texts.specs.ReplyText.{IsAnswered};
+ghost use Rattle.core_schedules.specs.Core.{Core, happens, all_happen};
+ghost use Rattle.due_replies.specs.Standing.{AreOfLines, export_limits};
+ghost use Rattle.due_replies.specs.Asks.{batch_of, cipher_at};
+ghost use Rattle.context_core.specs.Rehearsals.{rehearsed, AreAnswersOf};
+ghost use Rattle.batch_plans.specs.Replies.{IsPrintable};
+ghost use Rattle.context_core.specs.Following.{lane_calls, long_ends, IsRehearsal};
+ghost use Rattle.context_core.specs.Preparing.{with_answers, answers_of, IsEnded, written, HasRoom};
+
+use crate::books::Books;
+use crate::lanes::Lane;
+use crate::preparing::{books, lanes, no_answers};
+use aes_gcm::Checks;
+use batch_plans::{Answers, LaneAnswers, LaneProgress, PlainList, Plan};
+use call_places::{Entry, Mark};
+use context_books::Book;
+use hpke_context::Context;
+use std::alloc::{AllocError, Global};
+use std::mem;
+use std::thread::Threads;
+
+// The lanes of a plan while they are served, and the books.
+#[derive(Drop)]
+struct Rehearsal {
+    books: Books,
+    lanes: Vec<Lane>,
+}
+
+impl Rehearsal {
+    // An event: a lane does its next step. One at its end, or that isn't there, does nothing.
+    fn event<R: Threads + Sync>(
+        &mut self,
+        rt: &R,
+        plan: &Plan,
+        contexts: &[Option<Context>],
+        number: u8,
+    )
+        requires within { IsWithinLimits plan.now }
+        requires standing { AreOfLines plan.now.contexts contexts.now }
+        requires follows { (w : Core)
+            × IsRehearsal plan.now contexts.now w self.old.lanes.items self.old.books }
+        ensures { (w : Core)
+            → IsRehearsal plan.now contexts.now w self.old.lanes.items self.old.books
+            → IsRehearsal plan.now contexts.now
+            (happens (batch_of plan.now contexts.now) (cipher_at contexts.now) w number)
+            self.new.lanes.items self.new.books }
+    {
+        let i = number as usize;
+        if i >= self.lanes.len() {
+            return;
+        }
+        let calls = &plan.lanes.as_slice()[i];
+        let lane = &mut self.lanes[i];
+        if let Some(call) = calls.as_slice().get(lane.call) {
+            lane.step(rt, plan, contexts, &mut self.books, u32::from(number), call);
+        }
+    }
+
+    // The events of a schedule.
+    fn follow<R: Threads + Sync>(
+        &mut self,
+        rt: &R,
+        plan: &Plan,
+        contexts: &[Option<Context>],
+        schedule: &[u8],
+    )
+        requires within { IsWithinLimits plan.now }
+        requires standing { AreOfLines plan.now.contexts contexts.now }
+        requires follows { (w : Core)
+            × IsRehearsal plan.now contexts.now w self.old.lanes.items self.old.books }
+        ensures { (w : Core)
+            → IsRehearsal plan.now contexts.now w self.old.lanes.items self.old.books
+            → IsRehearsal plan.now contexts.now (all_happen (batch_of plan.now contexts.now)
+            (cipher_at contexts.now) w schedule.now) self.new.lanes.items self.new.books }
+    {
+        'events: for number in schedule {
+            self.event(rt, plan, contexts, *number);
+        }
+    }
+
+    // A lane goes on to its end: no call has more than four steps.
+    fn end<R: Threads + Sync>(
+        &mut self,
+        rt: &R,
+        plan: &Plan,
+        contexts: &[Option<Context>],
+        number: u8,
+    )
+        requires within { IsWithinLimits plan.now }
+        requires standing { AreOfLines plan.now.contexts contexts.now }
+        requires there { number < length plan.now.lanes }
+        requires follows { (w : Core)
+            × IsRehearsal plan.now contexts.now w self.old.lanes.items self.old.books }
+        ensures { (w : Core)
+            → IsRehearsal plan.now contexts.now w self.old.lanes.items self.old.books
+            → IsRehearsal plan.now contexts.now (all_happen (batch_of plan.now contexts.now)
+            (cipher_at contexts.now) w
+            (replicate (4 * length (lane_calls plan.now number)) number))
+            self.new.lanes.items self.new.books }
+    {
+        let calls = plan.lanes.as_slice()[number as usize].as_slice().len();
+        'calls: for _call in 0..calls {
+            self.event(rt, plan, contexts, number);
+            self.event(rt, plan, contexts, number);
+            self.event(rt, plan, contexts, number);
+            self.event(rt, plan, contexts, number);
+        }
+    }
+
+    // Each lane goes on to its end, one after another.
+    fn end_all<R: Threads + Sync>(&mut self, rt: &R, plan: &Plan, contexts: &[Option<Context>])
+        requires within { IsWithinLimits plan.now }
+        requires standing { AreOfLines plan.now.contexts contexts.now }
+        requires follows { (w : Core)
+            × IsRehearsal plan.now contexts.now w self.old.lanes.items self.old.books }
+        ensures { (w : Core)
+            → IsRehearsal plan.now contexts.now w self.old.lanes.items self.old.books
+            → IsRehearsal plan.now contexts.now (all_happen (batch_of plan.now contexts.now)
+            (cipher_at contexts.now) w (long_ends 0 plan.now.lanes))
+            self.new.lanes.items self.new.books }
+    {
+        'lanes: for number in 0..plan.lanes.as_slice().len() {
+            self.end(rt, plan, contexts, number as u8);
+        }
+    }
+}
+
+// Each lane gets its answers.
+fn hand_out(alloc: Global, answers: &mut [LaneAnswers], lanes: &mut [Lane])
+    requires count { length answers.old ≡ length lanes.old }
+    requires small { All (λ answers. length answers.pool < 2 ^ 32) answers.old }
+    ensures { (l : ℕ) (lane : Lane) (given : LaneAnswers) → l < length lanes.old
+        → get_or lanes.new l lane
+        ≡ with_answers (get_or lanes.old l lane) (get_or answers.old l given) }
+{
+    'lanes: for i in 0..lanes.len() {
+        let given = mem::replace(&mut answers[i], no_answers(alloc));
+        let lane = &mut lanes[i];
+        lane.progress = LaneProgress::new(given);
+    }
+}
+
+// The answers of the lanes, which are at their ends.
+fn take_back(alloc: Global, lanes: &mut [Lane], answers: &mut [LaneAnswers])
+    requires count { length answers.old ≡ length lanes.old }
+    requires ended { All IsEnded lanes.old }
+    ensures answers { (l : ℕ) (lane : Lane) (given : LaneAnswers) → l < length lanes.old
+        → get_or answers.new l given ≡ answers_of (get_or lanes.old l lane).progress }
+    ensures printable { All IsPrintable answers.new }
+{
+    'lanes: for i in 0..lanes.len() {
+        let lane = &mut lanes[i];
+        let progress = mem::replace(&mut lane.progress, LaneProgress::new(no_answers(alloc)));
+        answers[i] = progress.finish();
+    }
+}
+
+// The marks of a book's entries, put over those of a journal.
+fn write_journal(entries: &[Entry], journal: &mut [Mark])
+    requires { length journal.old ≡ length entries.now }
+    ensures { journal.new ≡ map mark_of entries.now }
+{
+    'entries: for (i, entry) in entries.iter().enumerate() {
+        journal[i] = entry.mark();
+    }
+}
+
+// The journal of a context that stands.
+fn write_book(book: &Option<Book>, journal: &mut PlainList<Mark>)
+    requires { HasRoom book.now journal.old }
+    ensures { journal.new ≡ written book.now journal.old }
+{
+    if let Some(book) = book {
+        write_journal(book.entries(), journal.as_mut_slice());
+    }
+}
+
+// The journals of the contexts that stand.
+fn write_journals(books: &[Option<Book>], journals: &mut [PlainList<Mark>])
+    requires count { length journals.old ≡ length books.now }
+    requires room { (n : ℕ) → n < length books.now
+        → HasRoom (get_or books.now n None) (get_or journals.old n []) }
+    ensures { (n : ℕ) → n < length books.now → get_or journals.new n []
+        ≡ written (get_or books.now n None) (get_or journals.old n []) }
+{
+    'books: for i in 0..books.len() {
+        write_book(&books[i], &mut journals[i]);
+    }
+}
+
+/// Serves the lanes of a plan on one thread, and fills the answers that were made for the plan and
+/// these contexts.
+///
+/// Each number of the schedule is that of a lane, which does its next step; one at its end, or that
+/// isn't there, does nothing. Then lane 0 goes on to its end, then lane 1, and so on. The steps of a
+/// call are those of core_schedules: Finish for a call that is refused and for an export; Draw and
+/// Finish for a seal; Guess, Check, Commit and Finish for an opening.
+///
+/// All memory is taken before the first step. Tags are tested ahead by several threads, which are
+/// joined in the same step.
+pub fn rehearse<R: Threads + Sync>(
+    rt: &R,
+    alloc: Global,
+    plan: &Plan,
+    contexts: &[Option<Context>],
+    schedule: &[u8],
+    answers: &mut Answers,
+) -> Result<(), AllocError>
+    requires within { IsWithinLimits plan.now }
+    requires standing { AreOfLines plan.now.contexts contexts.now }
+    requires room { answers.old ≡ room_for plan.now answers.old.keys answers.old.contexts
+        (export_limits contexts.now) }
+    requires replies { (length answers.old.keys ≡ length plan.now.keys)
+        × (length answers.old.contexts ≡ length plan.now.contexts) }
+    ensures answered { OnOk result (AreAnswersOf (rehearsed plan.now contexts.now schedule.now)
+        answers.new) }
+    ensures set_up { OnOk result ((answers.new.keys ≡ answers.old.keys)
+        × (answers.new.contexts ≡ answers.old.contexts)) }
+    ensures printable { OnOk result (IsAnswered plan.now answers.new) }
+    ensures kept { OnErr result (answers.new ≡ answers.old) }
+{
+    let books = Books {
+        books: books(alloc, plan, contexts)?,
+        places: 0,
+        checks: Checks::new(rt),
+    };
+    let lanes = lanes(alloc, plan)?;
+    let mut rehearsal = Rehearsal { books, lanes };
+    hand_out(
+        alloc,
+        answers.lanes.as_mut_slice(),
+        rehearsal.lanes.as_mut_slice(),
+    );
+    rehearsal.follow(rt, plan, contexts, schedule);
+    rehearsal.end_all(rt, plan, contexts);
+    take_back(
+        alloc,
+        rehearsal.lanes.as_mut_slice(),
+        answers.lanes.as_mut_slice(),
+    );
+    write_journals(&rehearsal.books.books, answers.journals.as_mut_slice());
+    Ok(())
+}

@@ -1,0 +1,40 @@
+-- What the calls of the KEM ensure, as the definitions say it.
+use Rattle.std.proofs.Common.{◌≡◌, ℕ, List, length, Option, Some, Ok, sym, ap, subst, ◌∙◌}
+use Rattle.std.specs.Prelude.{slice_get}
+use Rattle.ring_core.specs.Sets.{Set}
+use Rattle.sntrup_core.specs.Keys.{FindsG, FindsNoInverse}
+use Rattle.sntrup_kem.specs.Kem.{IsGenerated}
+use Rattle.batch_plans.specs.declared.plan.Plan.{Plan}
+use Rattle.batch_plans.specs.declared.plan.ContextKind.{ContextKind}
+use Rattle.batch_plans.specs.declared.plan.ContextKind.TheVariants.{Send}
+use Rattle.batch_plans.specs.declared.replies.KeyReply.{KeyReply}
+use Rattle.batch_plans.specs.declared.replies.KeyReply.TheVariants.{Generated}
+use Rattle.batch_plans.specs.declared.replies.ContextReply.{ContextReply}
+use Rattle.context_table.specs.declared.keys.Key.{Key}
+use Rattle.context_table.specs.declared.exchanges.Exchange.{Exchange}
+use Rattle.context_table.specs.Streams.{context_words}
+use Rattle.context_table.specs.Keys.{IsPairReply}
+use Rattle.context_table.specs.Contexts.{sender_exchange, exchange}
+use Rattle.context_table.specs.Slots.{view_of, held_in, HoldKeys}
+
+pub pair_reply : (set : Set) (word : ℕ → ℕ) (place j : ℕ) (pk sk : List ℕ) → place ≡ 0
+    → ¬ FindsNoInverse set word place
+    → FindsG set word place j → IsGenerated set word place j pk sk
+    → (reply : KeyReply) → reply ≡ Generated pk sk → IsPairReply set word reply
+pair_reply set word place j pk sk start some found made reply is =
+    let P : ℕ → Type 0 = λ n. (¬ FindsNoInverse set word n)
+    × ((i : ℕ) × FindsG set word n i × IsGenerated set word n i pk sk) in
+    let Q : KeyReply → Type 0 = λ r. IsPairReply set word r in
+    subst Q (sym is) (subst P start (some, (j, found, made)))
+
+pub sends : (plan : Plan) (keys : List KeyReply) (slots : List (Option Key))
+    (earlier : List ContextReply) (kind : ContextKind) (k : ℕ) (key : Key) (word : ℕ → ℕ)
+    (e : Exchange)
+    → HoldKeys plan keys slots → kind ≡ Send k → Some (view_of key) ≡ held_in (slice_get slots k)
+    → word ≡ context_words plan (length earlier) → sender_exchange word (Some (view_of key)) ≡ Ok e
+    → Ok e ≡ exchange plan keys earlier (length earlier) kind
+sends plan keys slots earlier kind k key word e held is found words made =
+    sym made
+    ∙ ap (λ (w : ℕ → ℕ). sender_exchange w (Some (view_of key))) words
+    ∙ ap (sender_exchange (context_words plan (length earlier))) (found ∙ held k)
+    ∙ ap (exchange plan keys earlier (length earlier)) (sym is)

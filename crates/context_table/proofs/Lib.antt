@@ -1,0 +1,10 @@
+pub mod Lists
+pub mod KeyTables
+pub mod ContextTables
+pub mod Answering
+pub mod Scheduling
+pub mod OneKey
+pub mod OneSetUp
+pub mod Messages
+pub mod Sizes
+pub mod Ends

@@ -1,0 +1,6 @@
+pub mod Streams
+pub mod Keys
+pub mod Contexts
+pub mod SetUp
+pub mod Laws
+pub mod Slots

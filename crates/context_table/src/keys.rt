@@ -1,0 +1,147 @@
+//! The keys of a plan.
+
+ghost use Rattle.std.specs.Prelude.{◌≡◌, ◌+◌, ◌*◌, ◌^◌, ◌<◌, ◌≤◌, length, IfOk, option_copied, slice_get};
+ghost use Rattle.batch_plans.specs.Limits.{IsKeyWithin, IsWithinLimits};
+ghost use Rattle.context_table.specs.Keys.{IsKeyReply, AreKeyReplies, kem_of, given_bytes, key_by};
+ghost use Rattle.context_table.specs.Contexts.{sender_exchange, recipient_exchange};
+ghost use Rattle.context_table.specs.Slots.{view_of, held_view, held_in, HoldKeys};
+
+use crate::exchanges::Exchange;
+use crate::pairs::{Answered, KeyPair, given_public, given_secret, made_pair};
+use crate::streams::key_stream;
+use batch_plans::{ContextRefusal, KeyLine, KeyReply, Plan};
+use rand_words::{SeedStream, Words};
+use ring_core::{Multiplier, Sntrup761, Sntrup857};
+use std::alloc::{AllocError as OutOfMemory, Global};
+
+/// A key of either parameter set.
+#[derive(Drop)]
+pub(crate) enum Key {
+    Of761(KeyPair<Sntrup761>),
+    Of857(KeyPair<Sntrup857>),
+}
+
+impl Key {
+    /// A sender's exchange, as [`KeyPair::sender_exchange`].
+    pub(crate) fn sender_exchange<M: Multiplier>(
+        &self,
+        alloc: Global,
+        words: &mut SeedStream,
+        mult: &M,
+    ) -> Result<Exchange, OutOfMemory>
+        requires { ⟦<SeedStream as Words>⟧.place words.old ≡ 0 }
+        ensures { IfOk result (λ e. sender_exchange (⟦<SeedStream as Words>⟧.word words.old)
+            (Some (view_of self.now)) ≡ Ok e) }
+    {
+        match self {
+            Key::Of761(pair) => pair.sender_exchange(alloc, words, mult),
+            Key::Of857(pair) => pair.sender_exchange(alloc, words, mult),
+        }
+    }
+
+    /// A recipient's exchange, as [`KeyPair::recipient_exchange`].
+    pub(crate) fn recipient_exchange<M: Multiplier>(
+        &self,
+        alloc: Global,
+        enc: Option<&[u8]>,
+        mult: &M,
+    ) -> Result<Result<Exchange, ContextRefusal>, OutOfMemory>
+        ensures { IfOk result (λ e. e
+            ≡ recipient_exchange (Some (view_of self.now)) (option_copied enc.entry)) }
+    {
+        match self {
+            Key::Of761(pair) => pair.recipient_exchange(alloc, enc, mult),
+            Key::Of857(pair) => pair.recipient_exchange(alloc, enc, mult),
+        }
+    }
+}
+
+/// What a key line is answered, and the key where it stands.
+#[derive(Drop)]
+struct AnsweredKey {
+    reply: KeyReply,
+    key: Option<Key>,
+}
+
+fn of_761(answered: Answered<Sntrup761>) -> AnsweredKey
+    ensures reply { result.reply ≡ answered.reply }
+    ensures key { held_view result.key ≡ answered.pair }
+{
+    AnsweredKey {
+        reply: answered.reply,
+        key: answered.pair.map(|pair| Key::Of761(pair)),
+    }
+}
+
+fn of_857(answered: Answered<Sntrup857>) -> AnsweredKey
+    ensures reply { result.reply ≡ answered.reply }
+    ensures key { held_view result.key ≡ answered.pair }
+{
+    AnsweredKey {
+        reply: answered.reply,
+        key: answered.pair.map(|pair| Key::Of857(pair)),
+    }
+}
+
+// Answers the key line of this number.
+fn answered_key<M: Multiplier>(
+    alloc: Global,
+    plan: &Plan,
+    number: usize,
+    line: &KeyLine,
+    mult: &M,
+) -> Result<AnsweredKey, OutOfMemory>
+    requires line { IsKeyWithin plan.now.seed (length plan.now.pool) line.now }
+    requires number { number < 2 ^ 32 }
+    ensures reply { IfOk result (λ a. IsKeyReply plan.now number line.now a.reply) }
+    ensures key { IfOk result (λ a. held_view a.key
+        ≡ key_by (kem_of line.now) (given_bytes plan.now.pool line.now) a.reply) }
+{
+    let pool = plan.pool.as_slice();
+    Ok(match *line {
+        KeyLine::Generate => of_761(made_pair(alloc, &mut key_stream(plan, number), mult)?),
+        KeyLine::Secret(bytes) => of_761(given_secret(alloc, bytes.of(pool))?),
+        KeyLine::Peer(bytes) => of_761(given_public(alloc, bytes.of(pool))?),
+        KeyLine::Generate857 => of_857(made_pair(alloc, &mut key_stream(plan, number), mult)?),
+        KeyLine::Secret857(bytes) => of_857(given_secret(alloc, bytes.of(pool))?),
+        KeyLine::Peer857(bytes) => of_857(given_public(alloc, bytes.of(pool))?),
+    })
+}
+
+/// The replies to key lines, and the keys that stand, each in the slot of its number.
+#[derive(Drop)]
+pub(crate) struct KeyTable {
+    pub(crate) replies: Vec<KeyReply>,
+    pub(crate) slots: Vec<Option<Key>>,
+}
+
+impl KeyTable {
+    /// The key of this number, where there is one and it stands.
+    pub(crate) fn key(&self, number: u32) -> Option<&Key>
+        ensures { held_view (option_copied result)
+            ≡ held_in (slice_get self.now.slots.items number) }
+    {
+        self.slots.get(number as usize)?.as_ref()
+    }
+}
+
+/// Answers the key lines of a plan, in their order.
+pub(crate) fn key_table<M: Multiplier>(
+    alloc: Global,
+    plan: &Plan,
+    mult: &M,
+) -> Result<KeyTable, OutOfMemory>
+    requires { IsWithinLimits plan.now }
+    ensures count { IfOk result (λ t. length t.replies.items ≡ length plan.now.keys) }
+    ensures replies { IfOk result (λ t. AreKeyReplies plan.now t.replies.items) }
+    ensures slots { IfOk result (λ t. HoldKeys plan.now t.replies.items t.slots.items) }
+{
+    let mut replies = Vec::new(alloc);
+    let mut slots = Vec::new(alloc);
+    'keys: for (number, line) in plan.keys.as_slice().iter().enumerate() {
+        let answered = answered_key(alloc, plan, number, line, mult)?;
+        replies.push(answered.reply)?;
+        slots.push(answered.key)?;
+    }
+    Ok(KeyTable { replies, slots })
+}

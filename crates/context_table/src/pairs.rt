@@ -1,0 +1,197 @@
+//! Keys of one parameter set, and what their lines are answered.
+
+ghost use Rattle.std.specs.Prelude.{◌≡◌, ◌+◌, ◌*◌, ◌^◌, ◌≤◌, [], IfOk, option_copied};
+ghost use Rattle.context_table.specs.Keys.{IsPairReply, IsSecretReply, IsPeerReply, key_by};
+ghost use Rattle.context_table.specs.Contexts.{sender_exchange, recipient_exchange};
+
+use crate::copies::copied;
+use crate::exchanges::Exchange;
+use batch_plans::{ContextRefusal, ContextReply, KeyRefusal, KeyReply};
+use rand_words::Words;
+use ring_core::{Multiplier, Params};
+use sntrup_kem::{
+    KemParams, KeyBytesFault, KeyFault, PublicKey, SecretKey, decap, encap, generate,
+};
+use std::alloc::{AllocError as OutOfMemory, Global};
+use std::marker::Model;
+
+/// A public key, with its secret key where that is known. Contracts see the KEM and the bytes.
+#[derive(Drop)]
+pub(crate) struct KeyPair<S: KemParams> {
+    public: PublicKey<S>,
+    secret: Option<SecretKey<S>>,
+}
+
+impl<S: KemParams> Model for KeyPair<S> {
+    ghost use Rattle.context_table.specs.Keys.{KeyView};
+
+    ghost Value = { KeyView };
+
+    ghost view = { λ k. record {
+      kem = record { id = S.ID; set = S.set };
+      public = k.public;
+      secret = k.secret;
+    } };
+}
+
+impl<S: KemParams> KeyPair<S> {
+    /// A sender's exchange, by Encap to the public key with words of a source that stands at its
+    /// first.
+    pub(crate) fn sender_exchange<R: Words, M: Multiplier>(
+        &self,
+        alloc: Global,
+        words: &mut R,
+        mult: &M,
+    ) -> Result<Exchange, OutOfMemory>
+        requires { R.place words.old ≡ 0 }
+        ensures { IfOk result (λ e. sender_exchange (R.word words.old) (Some self.now) ≡ Ok e) }
+    {
+        let (enc, key) = encap(alloc, words, mult, &self.public)?;
+        Ok(Exchange {
+            kem: S::ID,
+            shared_secret: copied(alloc, &key)?,
+            reply: ContextReply::Sender {
+                enc: copied(alloc, enc.as_slice())?,
+            },
+        })
+    }
+
+    /// A recipient's exchange, by Decap of an encapsulation with the secret key, where there are
+    /// both.
+    pub(crate) fn recipient_exchange<M: Multiplier>(
+        &self,
+        alloc: Global,
+        enc: Option<&[u8]>,
+        mult: &M,
+    ) -> Result<Result<Exchange, ContextRefusal>, OutOfMemory>
+        ensures { IfOk result (λ e. e
+            ≡ recipient_exchange (Some self.now) (option_copied enc.entry)) }
+    {
+        let Some(secret) = &self.secret else {
+            return Ok(Err(ContextRefusal::NeedSecret));
+        };
+        let Some(enc) = enc else {
+            return Ok(Err(ContextRefusal::NoEnc));
+        };
+        if enc.len() != S::ENC {
+            return Ok(Err(ContextRefusal::EncSize));
+        }
+        let key = decap(alloc, mult, enc, secret)?;
+        Ok(Ok(Exchange {
+            kem: S::ID,
+            shared_secret: copied(alloc, &key)?,
+            reply: ContextReply::Recipient,
+        }))
+    }
+}
+
+/// What a key line is answered, and the key where it stands.
+#[derive(Drop)]
+pub(crate) struct Answered<S: KemParams> {
+    pub(crate) reply: KeyReply,
+    pub(crate) pair: Option<KeyPair<S>>,
+}
+
+// There is no key.
+fn refused<S: KemParams>(refusal: KeyRefusal) -> Answered<S>
+    ensures reply { result.reply ≡ KeyReply.Refused refusal }
+    ensures pair { result.pair ≡ None }
+{
+    Answered {
+        reply: KeyReply::Refused(refusal),
+        pair: None,
+    }
+}
+
+// The pair stands.
+fn generated<S: KemParams>(
+    alloc: Global,
+    public: PublicKey<S>,
+    secret: SecretKey<S>,
+) -> Result<Answered<S>, OutOfMemory>
+    ensures reply { IfOk result (λ a. a.reply ≡ KeyReply.Generated public secret) }
+    ensures pair { IfOk result (λ a. a.pair ≡ Some (record {
+      kem = record { id = S.ID; set = S.set };
+      public = public;
+      secret = Some secret;
+    })) }
+{
+    let reply = KeyReply::Generated {
+        public: copied(alloc, public.as_slice())?,
+        secret: copied(alloc, secret.as_slice())?,
+    };
+    let secret = Some(secret);
+    Ok(Answered {
+        reply,
+        pair: Some(KeyPair { public, secret }),
+    })
+}
+
+/// Makes a pair from the words of a source that stands at its first.
+pub(crate) fn made_pair<S: KemParams, R: Words, M: Multiplier>(
+    alloc: Global,
+    words: &mut R,
+    mult: &M,
+) -> Result<Answered<S>, OutOfMemory>
+    requires { R.place words.old ≡ 0 }
+    ensures reply { IfOk result (λ a. IsPairReply S.set (R.word words.old) a.reply) }
+    ensures pair { IfOk result (λ a. a.pair
+        ≡ key_by (record { id = S.ID; set = S.set }) [] a.reply) }
+{
+    match generate::<S, R, M>(alloc, words, mult) {
+        Ok((public, secret)) => generated(alloc, public, secret),
+        Err(KeyFault::Exhausted) => Ok(refused(KeyRefusal::Exhausted)),
+        Err(KeyFault::NoInverse) => Ok(refused(KeyRefusal::NoInverse)),
+        Err(KeyFault::OutOfMemory) => Err(OutOfMemory),
+    }
+}
+
+/// Takes the bytes of a secret key.
+pub(crate) fn given_secret<S: KemParams>(
+    alloc: Global,
+    bytes: &[u8],
+) -> Result<Answered<S>, OutOfMemory>
+    ensures reply { IfOk result (λ a. IsSecretReply S.set bytes.now a.reply) }
+    ensures pair { IfOk result (λ a. a.pair
+        ≡ key_by (record { id = S.ID; set = S.set }) bytes.now a.reply) }
+{
+    match SecretKey::<S>::from_bytes(alloc, bytes) {
+        Ok(secret) => {
+            let public = secret.public(alloc)?;
+            let reply = KeyReply::Secret {
+                public: copied(alloc, public.as_slice())?,
+            };
+            let secret = Some(secret);
+            Ok(Answered {
+                reply,
+                pair: Some(KeyPair { public, secret }),
+            })
+        }
+        Err(KeyBytesFault::Length) => Ok(refused(KeyRefusal::Length)),
+        Err(KeyBytesFault::Form) => Ok(refused(KeyRefusal::Form)),
+        Err(KeyBytesFault::OutOfMemory) => Err(OutOfMemory),
+    }
+}
+
+/// Takes the bytes of another's public key.
+pub(crate) fn given_public<S: KemParams>(
+    alloc: Global,
+    bytes: &[u8],
+) -> Result<Answered<S>, OutOfMemory>
+    ensures reply { IfOk result (λ a. IsPeerReply S.set bytes.now a.reply) }
+    ensures pair { IfOk result (λ a. a.pair
+        ≡ key_by (record { id = S.ID; set = S.set }) bytes.now a.reply) }
+{
+    match PublicKey::<S>::from_bytes(alloc, bytes) {
+        Ok(public) => Ok(Answered {
+            reply: KeyReply::Peer,
+            pair: Some(KeyPair {
+                public,
+                secret: None,
+            }),
+        }),
+        Err(KeyBytesFault::Length) => Ok(refused(KeyRefusal::Length)),
+        Err(KeyBytesFault::Form) => unreachable!(),
+        Err(KeyBytesFault::OutOfMemory) => Err(OutOfMemory),
+    }
+}

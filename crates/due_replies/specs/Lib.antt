@@ -1,0 +1,4 @@
+pub mod Standing
+pub mod Asks
+pub mod Runs
+pub mod Lanes

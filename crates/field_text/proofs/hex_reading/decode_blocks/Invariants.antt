@@ -1,0 +1,16 @@
+use Rattle.std.proofs.Common.{◌≡◌, ◌≤◌, ◌-◌, ◌*◌, ◌++◌, length, take, drop}
+use Rattle.std.specs.List.{list_all}
+use Rattle.field_text.specs.Fields.{is_hex_digit}
+use Rattle.field_text.specs.HexLanes.{pairs_of}
+use Rattle.field_text.proofs.hex_reading.decode_blocks.Given as goal
+
+abbrev pub invariant-lanes : goal.invariant-lanes
+invariant-lanes l = record {
+  size : length l.room ≡ length l.initial.room;
+  within : l.done ≤ length l.room;
+  good : list_all is_hex_digit l.digits ≡ list_all is_hex_digit (drop (2 * l.done) l.digits);
+  bytes : take l.done l.room ++ pairs_of (drop (2 * l.done) l.digits) ≡ pairs_of l.digits;
+}
+
+abbrev pub decreases-lanes : goal.decreases-lanes
+decreases-lanes l = length l.room - l.done

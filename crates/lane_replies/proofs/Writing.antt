@@ -1,0 +1,93 @@
+-- What is written, reply by reply.
+use Rattle.std.proofs.Common.{◌≡◌, ◌≤◌, ◌<◌, ◌+◌, ℕ, false, List, [], ◌∷◌, ◌++◌, take, Some, refl, sym, ap, ◌∙◌, subst, arith, append_assoc, length-append}
+use Rattle.std.specs.List.{All}
+use Rattle.std.proofs.lemmas.List.{take-take, map-append}
+use Rattle.std.proofs.lemmas.List.Elements.{All-append, All-weaker, All-nil, All-cons}
+use Rattle.batch_plans.specs.declared.replies.Reply.{Reply}
+use Rattle.batch_plans.specs.declared.replies.Reply.TheVariants.{Blank, Sealed, Opened, Failed, Limit, Exported, Refused}
+use Rattle.batch_plans.specs.Replies.{IsInRange}
+use Rattle.batch_plans.specs.Progress.{Progress, with_reply}
+use Rattle.legal_journals.proofs.Lists.{append-nil}
+use Rattle.reply_texts.specs.Lines.{reply_line}
+use Rattle.reply_texts.specs.ReplyText.{is_refused}
+use Rattle.reply_texts.proofs.Pools.{reply_lines-same}
+use Rattle.lane_replies.specs.Writing.{PutsReplies, WritesReply}
+
+abbrev IsNoRefusal : Reply → Type 0
+IsNoRefusal reply = is_refused (Some reply) ≡ false
+
+-- a span in less room lies in more
+in_more : (size more : ℕ) (reply : Reply) → size ≤ more → IsInRange size reply
+    → IsInRange more reply
+in_more size more Blank fits range = tt
+in_more size more (Sealed number text) fits range = omega arith
+in_more size more (Opened number text) fits range = omega arith
+in_more size more (Failed number) fits range = tt
+in_more size more Limit fits range = tt
+in_more size more (Exported text) fits range = omega arith
+in_more size more (Refused refusal) fits range = tt
+
+pub all_in_more : (size more : ℕ) (replies : List Reply) → size ≤ more
+    → All (IsInRange size) replies → All (IsInRange more) replies
+all_in_more size more replies fits all =
+    All-weaker (IsInRange size) (IsInRange more) (λ r. in_more size more r fits) replies all
+
+-- nothing
+pub puts_none : (p : Progress) → PutsReplies p p 0 []
+puts_none p = record {
+  more = [];
+  replies = sym (append-nil p.replies);
+  left = omega arith;
+  lines_are = refl;
+  served = All-nil IsNoRefusal;
+  taken = omega arith;
+  range = All-nil (IsInRange p.taken);
+  pool = refl;
+  kept = refl;
+  batches = refl;
+  batches_left = refl;
+}
+
+-- a reply is written, and then it is put
+pub puts_one : (old mid new : Progress) (size : ℕ) (reply : Reply) (line : List ℕ)
+    → WritesReply old mid size reply line
+    → new ≡ with_reply mid reply → 0 < mid.left → PutsReplies old new size (line ∷ [])
+puts_one old mid new size reply line t is some =
+    subst (λ (p : Progress). PutsReplies old p size (line ∷ [])) (sym is) (record {
+      more = reply ∷ [];
+      replies = ap (λ replies. replies ++ reply ∷ []) t.replies;
+      left = omega (arith, t.left);
+      lines_are = ap (λ l. l ∷ []) t.line_is;
+      served = All-cons IsNoRefusal reply [] t.served (All-nil IsNoRefusal);
+      taken = t.taken;
+      range = All-cons (IsInRange mid.taken) reply [] t.range (All-nil (IsInRange mid.taken));
+      pool = t.pool;
+      kept = t.kept;
+      batches = t.batches;
+      batches_left = t.batches_left;
+    })
+
+-- what is written behind something changes nothing of it
+pub puts_more : (old mid new : Progress) (size more : ℕ) (lines others : List (List ℕ))
+    → PutsReplies old mid size lines → PutsReplies mid new more others
+    → PutsReplies old new (size + more) (lines ++ others)
+puts_more old mid new size more lines others a b =
+    let first = all_in_more mid.taken new.taken a.more (omega (arith, b.taken)) a.range in
+    let old_in_mid : old.taken ≤ mid.taken = omega (arith, a.taken) in
+    record {
+      more = a.more ++ b.more;
+      replies = b.replies ∙ ap (λ replies. replies ++ b.more) a.replies
+          ∙ append_assoc old.replies a.more b.more;
+      left = omega (arith, a.left, b.left, length-append lines others);
+      lines_are = map-append (reply_line new.pool) a.more b.more
+          ∙ (λ i. (reply_lines-same mid.taken new.pool mid.pool b.kept a.more a.range
+          ∙ a.lines_are) i ++ b.lines_are i);
+      served = All-append IsNoRefusal a.more b.more a.served b.served;
+      taken = omega (arith, a.taken, b.taken);
+      range = All-append (IsInRange new.taken) a.more b.more first b.range;
+      pool = b.pool ∙ a.pool;
+      kept = sym (take-take old.taken mid.taken new.pool old_in_mid) ∙ ap (take old.taken) b.kept
+          ∙ take-take old.taken mid.taken mid.pool old_in_mid ∙ a.kept;
+      batches = b.batches ∙ a.batches;
+      batches_left = b.batches_left ∙ a.batches_left;
+    }

@@ -1,0 +1,4 @@
+pub mod Numbering
+pub mod Calls
+pub mod Pools
+pub mod Lanes

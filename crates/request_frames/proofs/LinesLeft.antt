@@ -1,0 +1,131 @@
+-- The lines of a list from one of its elements on: what the next element adds, and the end.
+use Rattle.std.proofs.Common.{◌≡◌, ◌<◌, ◌≤◌, ◌+◌, ℕ, suc, List, [], ◌∷◌, ◌++◌, length, map, take, drop, get_or, sym, ap, ◌∙◌, append_assoc, add-one}
+use Rattle.std.proofs.Math.Seq.{drop-cons}
+use Rattle.std.proofs.lemmas.List.{drop_all}
+use Rattle.std.proofs.lemmas.List.Folds.{concat-append}
+use Rattle.std.specs.Prelude.{slice_get}
+use Rattle.std.specs.List.{concat}
+use Rattle.batch_plans.specs.declared.plan.CallLine.{CallLine}
+use Rattle.batch_plans.specs.declared.replies.Reply.{Reply}
+use Rattle.batch_plans.specs.declared.replies.Batch.{Batch}
+use Rattle.batch_plans.specs.declared.replies.LaneAnswers.{LaneAnswers}
+use Rattle.reply_texts.specs.Lines.{reply_line}
+use Rattle.reply_texts.specs.ReplyText.{numbered, all_lines, reply_count, batch_count, guess_line, calls_lines, answered_lines, lanes_lines, lane_lines}
+use Rattle.reply_texts.proofs.Lanes.{IsLane}
+
+-- the element of this number, and those behind it
+drop-next : {A : Type 0} (xs : List A) (i : ℕ) (d x : A) → i < length xs → x ≡ get_or xs i d
+    → drop i xs ≡ x ∷ drop (i + 1) xs
+drop-next xs i d x lt is =
+    drop-cons xs i d lt ∙ ap (λ y. y ∷ drop (suc i) xs) (sym is)
+    ∙ ap (λ (n : ℕ). x ∷ drop n xs) (sym (add-one i))
+
+-- ---- one line for each element
+
+module _ {A : Type 0} (line : A → List ℕ) (xs : List A) where
+  abbrev pub each_from : ℕ → List ℕ
+  each_from i = concat (map line (drop i xs))
+
+  pub each-next : (i : ℕ) (d x : A) → i < length xs → x ≡ get_or xs i d
+      → each_from i ≡ line x ++ each_from (i + 1)
+  each-next i d x lt is = ap (λ ys. concat (map line ys)) (drop-next xs i d x lt is)
+
+  pub each-end : (i : ℕ) → length xs ≤ i → each_from i ≡ []
+  each-end i le = ap (λ ys. concat (map line ys)) (drop_all i xs le)
+
+-- ---- one line for each element and its number
+
+module _ {A : Type 0} (line : ℕ → A → List ℕ) (xs : List A) where
+  abbrev pub numbered_from : ℕ → List ℕ
+  numbered_from i = concat (numbered line i (drop i xs))
+
+  pub numbered-next : (i : ℕ) (d x : A) → i < length xs → x ≡ get_or xs i d
+      → numbered_from i ≡ line i x ++ numbered_from (i + 1)
+  numbered-next i d x lt is = ap (λ ys. concat (numbered line i ys)) (drop-next xs i d x lt is)
+
+  pub numbered-end : (i : ℕ) → length xs ≤ i → numbered_from i ≡ []
+  numbered-end i le = ap (λ ys. concat (numbered line i ys)) (drop_all i xs le)
+
+-- ---- some lines for each element and its number
+
+module _ {A : Type 0} (lines : ℕ → A → List (List ℕ)) (xs : List A) where
+  abbrev pub parts_from : ℕ → List ℕ
+  parts_from i = concat (all_lines (numbered lines i (drop i xs)))
+
+  pub parts-next : (i : ℕ) (d x : A) → i < length xs → x ≡ get_or xs i d
+      → parts_from i ≡ concat (lines i x) ++ parts_from (i + 1)
+  parts-next i d x lt is =
+      ap (λ ys. concat (all_lines (numbered lines i ys))) (drop-next xs i d x lt is)
+      ∙ concat-append (lines i x) (all_lines (numbered lines (i + 1) (drop (i + 1) xs)))
+
+  pub parts-end : (i : ℕ) → length xs ≤ i → parts_from i ≡ []
+  parts-end i le = ap (λ ys. concat (all_lines (numbered lines i ys))) (drop_all i xs le)
+
+-- ---- the lanes
+
+module _ (lanes : List (List CallLine)) (answers : List LaneAnswers) where
+  -- the lines of these lanes and these answers, numbered from i on
+  abbrev lines_of : ℕ → List (List CallLine) → List LaneAnswers → List (List ℕ)
+  lines_of i calls given = all_lines (numbered lane_lines i (lanes_lines calls given))
+
+  abbrev pub lanes_from : ℕ → List ℕ
+  lanes_from i = concat (lines_of i (drop i lanes) (drop i answers))
+
+  pub lanes-next : (i : ℕ) (calls : List CallLine) (lane : LaneAnswers)
+      → IsLane lanes answers i calls lane
+      → lanes_from i ≡ concat (lane_lines i (answered_lines calls lane)) ++ lanes_from (i + 1)
+  lanes-next i calls lane h =
+      let more = drop (i + 1) lanes in
+      let given = drop (i + 1) answers in
+      ap (λ ls. concat (lines_of i ls (drop i answers)))
+      (drop-next lanes i calls calls h.one_of_lanes h.calls_are)
+      ∙ ap (λ ls. concat (lines_of i (calls ∷ more) ls))
+      (drop-next answers i lane lane h.one_of_answers h.lane_is)
+      ∙ concat-append (lane_lines i (answered_lines calls lane)) (lines_of (i + 1) more given)
+
+  pub lanes-end : (i : ℕ) → length lanes ≤ i → lanes_from i ≡ []
+  lanes-end i le = ap (λ ls. concat (lines_of i ls (drop i answers))) (drop_all i lanes le)
+
+-- ---- the calls of a lane
+
+-- the replies and the guesses of a call that come next, and those behind them
+pub record IsParted (call : CallLine) (replies own later : List Reply)
+    (batches kept rest : List Batch) : Type 0 where
+  pub own_are : own ≡ take (reply_count call (slice_get replies 0)) replies
+  pub later_are : later ≡ drop (reply_count call (slice_get replies 0)) replies
+  pub kept_are : kept ≡ take (batch_count call (slice_get replies 0)) batches
+  pub rest_are : rest ≡ drop (batch_count call (slice_get replies 0)) batches
+
+module _ (pool : List ℕ) (calls : List CallLine) where
+  abbrev pub calls_from : ℕ → List Reply → List Batch → List ℕ
+  calls_from i replies batches = concat (calls_lines pool (drop i calls) replies batches)
+
+  pub calls-next : (i : ℕ) (d call : CallLine) (replies own later : List Reply)
+      (batches kept rest : List Batch) → i < length calls → call ≡ get_or calls i d
+      → IsParted call replies own later batches kept rest
+      → calls_from i replies batches
+      ≡ (concat (map (reply_line pool) own) ++ concat (map guess_line kept))
+      ++ calls_from (i + 1) later rest
+  calls-next i d call replies own later batches kept rest lt is h =
+      let more = calls_lines pool (drop (i + 1) calls) later rest in
+      let lines = map (reply_line pool) own in
+      let guess = map guess_line kept in
+      ap (λ cs. concat (calls_lines pool cs replies batches)) (drop-next calls i d call lt is)
+      ∙ rw (← h.own_are, ← h.later_are, ← h.kept_are, ← h.rest_are)
+      (concat-append lines (guess ++ more))
+      ∙ ap (λ (text : List ℕ). concat lines ++ text) (concat-append guess more)
+      ∙ sym (append_assoc (concat lines) (concat guess) (concat more))
+
+  pub calls-end : (i : ℕ) (replies : List Reply) (batches : List Batch) → length calls ≤ i
+      → calls_from i replies batches ≡ []
+  calls-end i replies batches le =
+      ap (λ cs. concat (calls_lines pool cs replies batches)) (drop_all i calls le)
+
+  -- the answers of a lane, by their parts
+  pub answered-parts : (lane : LaneAnswers) (replies : List Reply) (batches : List Batch)
+      → pool ≡ lane.pool → replies ≡ lane.replies → batches ≡ lane.batches
+      → concat (calls_lines pool calls replies batches) ≡ concat (answered_lines calls lane)
+  answered-parts lane replies batches pool_is replies_are batches_are =
+      ap (λ p. concat (calls_lines p calls replies batches)) pool_is
+      ∙ ap (λ rs. concat (calls_lines lane.pool calls rs batches)) replies_are
+      ∙ ap (λ bs. concat (calls_lines lane.pool calls lane.replies bs)) batches_are

@@ -1,0 +1,218 @@
+-- The pieces of a call line are those of what it spells.
+use Rattle.std.proofs.Common.{◌≡◌, ℕ, ◌+◌, ◌*◌, ◌%◌, ◌<◌, ◌≤◌, ◌==◌, ◌&&◌, nat_lt, List, [], ◌∷◌, ◌++◌, length, sum_by, codes, decimal, Ok, refl, sym, ap, subst, ◌∙◌, append_assoc, append-nil, lit<, arith}
+use Rattle.std.specs.List.{All, flat_map}
+use Rattle.std.proofs.lemmas.Bool.{and_parts, ltb-true}
+use Rattle.std.proofs.lemmas.List.Elements.{All-nil, All-cons}
+use Rattle.std.proofs.lemmas.List.Sums.{sum_by-cons}
+use Rattle.call_places.specs.declared.spans.Item.{Item}
+use Rattle.field_text.specs.declared.reasons.Reason.TheVariants.{Fields}
+use Rattle.field_text.specs.Fields.{number, bytes}
+use Rattle.field_text.proofs.Spellings.{ok_same, step_ok, test_ok, next_ok, exactly_ok, number_ok, bytes_ok, IsFront, IsFront-same, IsFront-then}
+use Rattle.field_text.proofs.SpelledLines.{no_piece}
+use Rattle.batch_plans.specs.declared.plan.CallLine.{CallLine}
+use Rattle.batch_plans.specs.Limits.{most_field, most_plaintext, most_ciphertext, text_size, IsItemWithin, IsCallWithin}
+use Rattle.request_frames.specs.Forms.{item, one_item, seal, unseal, export, pairs, unseal_all}
+use Rattle.request_frames.specs.PlanText.{item_pieces, call_pieces}
+use Rattle.request_frames.proofs.SpelledFields.{piece_is, front_length, field_within}
+
+-- ---- items
+
+-- an item that was read, and the pieces behind it: the pool grew by its text at least
+record IsItem (most : ℕ) (old new : List ℕ) (read : Item) (rest pieces : List (List ℕ)) : Type 0 where
+  grown : IsFront old new
+  spelled : (whole : List ℕ) → IsFront new whole → item_pieces whole read ++ rest ≡ pieces
+  within : (size : ℕ) → length new ≤ size → IsItemWithin most size read
+  text : length old + read.text.len ≤ length new
+  count : length pieces ≡ length rest + 2
+
+item_ok : (most : ℕ) (pool : List ℕ) (pieces : List (List ℕ)) (read : (Item × List ℕ) × List (List ℕ)) → item most pool pieces ≡ Ok read
+    → IsItem most pool read.0.1 read.0.0 read.1 pieces
+unfolding item
+item_ok most pool pieces read e =
+    next_ok (bytes most_field pool) pieces _ read _
+    (λ p1 aad r1 cut1 read1 e.
+    next_ok (bytes most aad.pool) r1 _ read _
+    (λ p2 text r2 cut2 read2 e.
+    let field1 = bytes_ok most_field pool p1 aad read1 in
+    let field2 = bytes_ok most aad.pool p2 text read2 in
+    let few1 = front_length pool aad.pool field1.grown in
+    let few2 = front_length aad.pool text.pool field2.grown in
+    let IsRead : (Item × List ℕ) × List (List ℕ) → Type 0 = λ read. IsItem most pool read.0.1 read.0.0 read.1 pieces in
+    subst IsRead (ok_same _ _ e) record {
+      grown = IsFront-then pool aad.pool text.pool field1.grown field2.grown;
+      spelled = λ whole h.
+          piece_is cut1 (field1.spelled whole (IsFront-then aad.pool text.pool whole field2.grown h)) (piece_is cut2 (field2.spelled whole h) refl);
+      within = λ size long. record {
+        aad = field_within most_field pool p1 aad size field1 (omega (arith, few2, long));
+        text = field_within most aad.pool p2 text size field2 long;
+      };
+      text = omega (arith, few1, field2.start, field2.end);
+      count = omega (arith, ap length cut1, ap length cut2);
+    })
+    e)
+    e
+
+-- `CTX AAD TEXT`
+record IsOne (most : ℕ) (old : List ℕ) (read : ℕ × Item × List ℕ) (pieces : List (List ℕ)) : Type 0 where
+  context : read.0 ≤ 65535
+  grown : IsFront old read.2
+  spelled : (whole : List ℕ) → IsFront read.2 whole → decimal read.0 ∷ item_pieces whole read.1 ≡ pieces
+  within : (size : ℕ) → length read.2 ≤ size → IsItemWithin most size read.1
+  text : length old + read.1.text.len ≤ length read.2
+
+one_item_ok : (most : ℕ) (pool : List ℕ) (pieces : List (List ℕ)) (read : ℕ × Item × List ℕ) → one_item most pool pieces ≡ Ok read → IsOne most pool read pieces
+unfolding one_item
+one_item_ok most pool pieces read e =
+    let counted = exactly_ok 3 pieces _ read e in
+    next_ok (number 0 65535) pieces _ read _
+    (λ p1 context r1 cut1 read1 e.
+    let found = step_ok (item most pool r1) _ read e in
+    let one = item_ok most pool r1 found.0 found.1 in
+    let field1 = number_ok 0 65535 p1 context (lit< tt) read1 in
+    let last : found.0.1 ≡ [] = no_piece found.0.1 (omega (arith, counted.0, ap length cut1, one.count)) in
+    subst (λ (read : ℕ × Item × List ℕ). IsOne most pool read pieces) (ok_same _ _ found.2) record {
+      context = field1.most;
+      grown = one.grown;
+      spelled = λ whole h.
+          piece_is cut1 field1.spelled
+          (ap (λ (rest : List (List ℕ)). item_pieces whole found.0.0.0 ++ rest) (sym last) ∙ one.spelled whole h);
+      within = one.within;
+      text = one.text;
+    })
+    counted.1
+
+-- ---- calls of one item
+
+-- a call line that was read: the pool grew by the call's text at least, over each longer pool the line has
+-- these pieces, and it is within its limits, whatever the plan's items are
+pub record IsCall (old new : List ℕ) (call : CallLine) (pieces : List (List ℕ)) : Type 0 where
+  pub grown : IsFront old new
+  pub spelled : (whole : List ℕ) (items : List Item) → IsFront new whole → call_pieces whole items call ≡ pieces
+  pub within : (items size : ℕ) → length new ≤ size → IsCallWithin items size call
+  pub text : (items : List Item) → length old + text_size items call ≤ length new
+
+pub seal_ok : (pool : List ℕ) (pieces : List (List ℕ)) (read : CallLine × List ℕ) → seal pool pieces ≡ Ok read → IsCall pool read.1 read.0 (codes "seal" ∷ pieces)
+seal_ok pool pieces read e =
+    let found = step_ok (one_item most_plaintext pool pieces) _ read e in
+    let one = one_item_ok most_plaintext pool pieces found.0 found.1 in
+    subst (λ (read : CallLine × List ℕ). IsCall pool read.1 read.0 (codes "seal" ∷ pieces)) (ok_same _ _ found.2) record {
+      grown = one.grown;
+      spelled = λ whole items h. ap (λ (pieces : List (List ℕ)). codes "seal" ∷ pieces) (one.spelled whole h);
+      within = λ items size long. (one.context, one.within size long);
+      text = λ items. one.text;
+    }
+
+pub unseal_ok : (pool : List ℕ) (pieces : List (List ℕ)) (read : CallLine × List ℕ) → unseal pool pieces ≡ Ok read → IsCall pool read.1 read.0 (codes "unseal" ∷ pieces)
+unseal_ok pool pieces read e =
+    let found = step_ok (one_item most_ciphertext pool pieces) _ read e in
+    let one = one_item_ok most_ciphertext pool pieces found.0 found.1 in
+    subst (λ (read : CallLine × List ℕ). IsCall pool read.1 read.0 (codes "unseal" ∷ pieces)) (ok_same _ _ found.2) record {
+      grown = one.grown;
+      spelled = λ whole items h. ap (λ (pieces : List (List ℕ)). codes "unseal" ∷ pieces) (one.spelled whole h);
+      within = λ items size long. (one.context, one.within size long);
+      text = λ items. one.text;
+    }
+
+pub export_ok : (pool : List ℕ) (pieces : List (List ℕ)) (read : CallLine × List ℕ) → export pool pieces ≡ Ok read → IsCall pool read.1 read.0 (codes "export" ∷ pieces)
+unfolding export
+export_ok pool pieces read e =
+    let counted = exactly_ok 3 pieces _ read e in
+    next_ok (number 0 65535) pieces _ read _
+    (λ p1 context r1 cut1 read1 e.
+    next_ok (bytes most_field pool) r1 _ read _
+    (λ p2 exporter r2 cut2 read2 e.
+    next_ok (number 0 65535) r2 _ read _
+    (λ p3 size r3 cut3 read3 e.
+    let field1 = number_ok 0 65535 p1 context (lit< tt) read1 in
+    let field2 = bytes_ok most_field pool p2 exporter read2 in
+    let field3 = number_ok 0 65535 p3 size (lit< tt) read3 in
+    let few = front_length pool exporter.pool field2.grown in
+    let last : r3 ≡ [] = no_piece r3 (omega (arith, counted.0, ap length cut1, ap length cut2, ap length cut3)) in
+    subst (λ (read : CallLine × List ℕ). IsCall pool read.1 read.0 (codes "export" ∷ pieces)) (ok_same _ _ e) record {
+      grown = field2.grown;
+      spelled = λ whole items h.
+          ap (λ (pieces : List (List ℕ)). codes "export" ∷ pieces)
+          (piece_is cut1 field1.spelled (piece_is cut2 (field2.spelled whole h) (piece_is cut3 field3.spelled (sym last))));
+      within = λ items longer long. (field1.most, field_within most_field pool p2 exporter longer field2 long, field3.most);
+      text = λ items. omega (arith, few);
+    })
+    e) e)
+    counted.1
+
+-- ---- a call of several items
+
+-- pairs that were read behind these items
+record IsPairs (old : List ℕ) (before : List Item) (read : List Item × List ℕ) (pieces : List (List ℕ)) : Type 0 where
+  more : List Item
+  items : read.0 ≡ before ++ more
+  grown : IsFront old read.1
+  spelled : (whole : List ℕ) → IsFront read.1 whole → flat_map (item_pieces whole) more ≡ pieces
+  within : (size : ℕ) → length read.1 ≤ size → All (IsItemWithin most_ciphertext size) more
+  text : length old + sum_by (λ item. item.text.len) more ≤ length read.1
+  count : 2 * length more ≡ length pieces
+
+pairs_ok : (pool : List ℕ) (before : List Item) (pieces : List (List ℕ)) (read : List Item × List ℕ) → pairs pool before pieces ≡ Ok read → IsPairs pool before read pieces
+unfolding pairs
+pairs_ok pool before [] read e =
+    subst (λ (read : List Item × List ℕ). IsPairs pool before read []) (ok_same _ _ e) record {
+      more = [];
+      items = sym (append-nil before);
+      grown = IsFront-same pool;
+      spelled = λ whole h. refl;
+      within = λ size long. All-nil (IsItemWithin most_ciphertext size);
+      text = omega arith;
+      count = refl;
+    }
+pairs_ok pool before (piece ∷ []) read e = absurd cc
+pairs_ok pool before (aad ∷ text ∷ rest) read e =
+    let found = step_ok (item most_ciphertext pool (aad ∷ text ∷ [])) _ read e in
+    let one = item_ok most_ciphertext pool (aad ∷ text ∷ []) found.0 found.1 in
+    let first = found.0.0.0 in
+    let after = found.0.0.1 in
+    let others = pairs_ok after (before ++ first ∷ []) rest read found.2 in
+    let alone : found.0.1 ≡ [] = no_piece found.0.1 (omega (arith, one.count)) in
+    let few = front_length after read.1 others.grown in
+    record {
+      more = first ∷ others.more;
+      items = others.items ∙ append_assoc before (first ∷ []) others.more;
+      grown = IsFront-then pool after read.1 one.grown others.grown;
+      spelled = λ whole h.
+          let here = one.spelled whole (IsFront-then after read.1 whole others.grown h) in
+          let two : item_pieces whole first ≡ aad ∷ text ∷ [] = ap (λ (rest : List (List ℕ)). item_pieces whole first ++ rest) (sym alone) ∙ here in
+          ap (λ (pieces : List (List ℕ)). pieces ++ flat_map (item_pieces whole) others.more) two
+          ∙ ap (λ (pieces : List (List ℕ)). aad ∷ text ∷ pieces) (others.spelled whole h);
+      within = λ size long. All-cons (IsItemWithin most_ciphertext size) first others.more (one.within size (omega (arith, few, long))) (others.within size long);
+      text = omega (arith, one.text, others.text, sum_by-cons (λ (item : Item). item.text.len) first others.more);
+      count = omega (arith, others.count);
+    }
+
+-- `unsealall CTX AAD CT ..`
+pub record IsSeveral (old : List ℕ) (read : ℕ × List Item × List ℕ) (pieces : List (List ℕ)) : Type 0 where
+  pub context : read.0 ≤ 65535
+  pub grown : IsFront old read.2
+  pub spelled : (whole : List ℕ) → IsFront read.2 whole → decimal read.0 ∷ flat_map (item_pieces whole) read.1 ≡ pieces
+  pub within : (size : ℕ) → length read.2 ≤ size → All (IsItemWithin most_ciphertext size) read.1
+  pub text : length old + sum_by (λ item. item.text.len) read.1 ≤ length read.2
+  pub some : 1 ≤ length read.1
+
+pub unseal_all_ok : (pool : List ℕ) (pieces : List (List ℕ)) (read : ℕ × List Item × List ℕ) → unseal_all pool pieces ≡ Ok read → IsSeveral pool read pieces
+unfolding unseal_all
+unseal_all_ok pool pieces read e =
+    let counted = test_ok (nat_lt 1 (length pieces) && (length pieces % 2 == 1)) pieces Fields _ read e in
+    let many : 1 < length pieces = ltb-true 1 (length pieces) (and_parts _ _ counted.0).0 in
+    next_ok (number 0 65535) pieces _ read _
+    (λ p1 context r1 cut1 read1 e.
+    let found = step_ok (pairs pool [] r1) _ read e in
+    let all = pairs_ok pool [] r1 found.0 found.1 in
+    let field1 = number_ok 0 65535 p1 context (lit< tt) read1 in
+    let IsRead : List Item → Type 0 = λ items. IsSeveral pool (context, items, found.0.1) pieces in
+    subst (λ (read : ℕ × List Item × List ℕ). IsSeveral pool read pieces) (ok_same _ _ found.2)
+    (subst IsRead (sym all.items) record {
+      context = field1.most;
+      grown = all.grown;
+      spelled = λ whole h. piece_is cut1 field1.spelled (all.spelled whole h);
+      within = all.within;
+      text = all.text;
+      some = omega (arith, many, all.count, ap length cut1);
+    }))
+    counted.1

@@ -1,0 +1,114 @@
+-- A text that was read begins with the text of its plan, which is within its limits.
+use Rattle.std.proofs.Common.{◌≡◌, ℕ, ◌⊎◌, ◌+◌, ◌-◌, ◌<◌, ◌≤◌, List, [], ◌∷◌, ◌++◌, length, codes, decimal, Result, Ok, Err, refl, sym, ap, subst, ◌∙◌, append_assoc, append-nil, inl, inr, lit<, arith}
+use Rattle.std.specs.List.{flat_map, join_with_byte}
+use Rattle.std.proofs.lemmas.Fmt.{decimal_digit}
+use Rattle.std.proofs.lemmas.List.{length-append}
+use Rattle.call_places.specs.declared.spans.Item.{Item}
+use Rattle.field_text.specs.declared.reasons.Reason.TheVariants as reasons
+use Rattle.field_text.specs.Cuts.{line_feed, lines_of}
+use Rattle.field_text.specs.declared.faults.BadBatch.{BadBatch}
+use Rattle.field_text.specs.Lines.{FrontText, front, whole}
+use Rattle.field_text.proofs.Spellings.{joined, word_ok, IsFront-same}
+use Rattle.field_text.proofs.SpelledLines.{IsText, text_read, front_read}
+use Rattle.batch_plans.specs.declared.plan.Plan.{Plan}
+use Rattle.request_frames.specs.Batch.{ended, front_batch, header, batch_lines, batch, empty_plan, Spells}
+use Rattle.batch_plans.specs.Limits.{most_input, IsWithinLimits}
+use Rattle.request_frames.specs.PlanText.{seed_text, key_text, context_text, lane_text, text_of}
+use Rattle.request_frames.proofs.Growth as growth
+use Rattle.request_frames.proofs.SpelledPlans.{Begins-same, body, Adds, spelling}
+
+-- the first line of a version
+record IsHeader (line : List ℕ) (plan : Plan) : Type 0 where
+  version : (plan.version ≡ 1) ⊎ (plan.version ≡ 2)
+  is : line ≡ codes "hpkebatch " ++ decimal plan.version
+  empty : (pool : List ℕ) (items : List Item) → body pool items plan ≡ []
+  built : growth.IsBuilt plan
+
+one_digit : (n : ℕ) → n < 10 → codes "hpkebatch " ++ decimal n ≡ codes "hpkebatch " ++ (48 + n) ∷ []
+one_digit n small = ap (λ (digits : List ℕ). codes "hpkebatch " ++ digits) (decimal_digit n small)
+
+header_ok : (line : List ℕ) (plan : Plan) → header line ≡ Ok plan → IsHeader line plan
+header_ok line plan e =
+    word_ok (codes "hpkebatch 1") line (empty_plan 1) plan _ _
+    (λ is same. subst (λ (plan : Plan). IsHeader line plan) same record { version = inl refl; is = is ∙ sym (one_digit 1 (lit< tt)); empty = λ pool items. refl; built = growth.empty 1 (inl refl) })
+    (λ rest.
+    word_ok (codes "hpkebatch 2") line (empty_plan 2) plan (Err reasons.Header) _
+    (λ is same. subst (λ (plan : Plan). IsHeader line plan) same record { version = inr refl; is = is ∙ sym (one_digit 2 (lit< tt)); empty = λ pool items. refl; built = growth.empty 2 (inr refl) })
+    (λ err. absurd cc) rest)
+    e
+
+-- the parts of a text
+text_parts : (a b c d e f g h : List ℕ)
+    → (((a ++ b) ++ c) ++ (((d ++ e) ++ f) ++ g)) ++ h ≡ (((((((a ++ b) ++ c) ++ d) ++ e) ++ f) ++ g) ++ h)
+text_parts a b c d e f g h = simp append_assoc
+
+-- what a text was read as: its front is the text of the plan, which is within its limits where the pool is
+pub record IsRead (plan : Plan) (text rest : List ℕ) : Type 0 where
+  pub parts : text ≡ text_of plan ++ rest
+  pub limits : length plan.pool ≤ most_input → IsWithinLimits plan
+
+is_read : (plan : Plan) (text rest : List ℕ) → IsText batch_lines Adds plan text rest → IsRead plan text rest
+is_read plan text rest read =
+    let first = header_ok read.header read.start read.first in
+    let added : body plan.pool plan.items plan ≡ read.body =
+    read.adds.added plan.pool plan.items (IsFront-same plan.pool) (Begins-same plan.items)
+    ∙ ap (λ (front : List ℕ). front ++ read.body) (first.empty plan.pool plan.items) in
+    let line : read.header ≡ codes "hpkebatch " ++ decimal plan.version = first.is ∙ ap (λ (n : ℕ). codes "hpkebatch " ++ decimal n) (sym read.adds.version) in
+    record {
+      parts =
+          read.parts
+          ∙ ap (λ (line : List ℕ). (((line ++ codes "\n") ++ read.body) ++ codes "end\n") ++ rest) line
+          ∙ ap (λ (body : List ℕ). ((((codes "hpkebatch " ++ decimal plan.version) ++ codes "\n") ++ body) ++ codes "end\n") ++ rest) (sym added)
+          ∙ ap (λ (text : List ℕ). text ++ rest)
+          (text_parts (codes "hpkebatch ") (decimal plan.version) (codes "\n") (seed_text plan.seed) (flat_map (key_text plan.pool) plan.keys)
+          (flat_map (context_text plan.pool) plan.contexts) (flat_map (lane_text plan.pool plan.items) plan.lanes) (codes "end\n"));
+      limits = λ small. (read.adds.built small first.built).limits;
+    }
+
+-- a text that spells a plan
+pub whole_read : (text : List ℕ) (plan : Plan) → Spells text plan → IsRead plan text []
+unfolding batch
+whole_read text plan e = is_read plan text [] (text_read batch_lines Adds spelling most_input text plan e)
+
+-- a text whose front spells a plan
+pub front_plan_read : (text : List ℕ) (found : FrontText Plan) → front batch_lines most_input text ≡ Ok found
+    → IsRead found.plan text (join_with_byte line_feed found.rest)
+front_plan_read text found e =
+    is_read found.plan text (join_with_byte line_feed found.rest) (front_read batch_lines Adds spelling most_input text found e)
+
+-- a text that spells a plan is the text of that plan
+pub text_back : (text : List ℕ) (plan : Plan) → Spells text plan → text ≡ text_of plan
+text_back text plan e = (whole_read text plan e).parts ∙ append-nil (text_of plan)
+
+-- ---- how a whole text is answered
+
+-- the plan that was read is within its limits
+pub whole_within : (text : List ℕ) (plan : Plan) → whole (front batch_lines most_input text) ≡ Ok plan → length plan.pool ≤ most_input → IsWithinLimits plan
+unfolding batch
+whole_within text plan e small = (whole_read text plan e).limits small
+
+pub front_within : (text : List ℕ) (found : FrontText Plan) → front batch_lines most_input text ≡ Ok found → length found.plan.pool ≤ most_input
+    → IsWithinLimits found.plan
+front_within text found e small = (front_plan_read text found e).limits small
+
+-- what a front gives, and where it ends
+pub ended_ok : (text : List ℕ) (read : Result (FrontText Plan) BadBatch) (plan : Plan) (end : ℕ) → ended text read ≡ Ok (plan, end)
+    → (found : FrontText Plan) × (read ≡ Ok found) × (found.plan ≡ plan) × (length text - length (join_with_byte line_feed found.rest) ≡ end)
+ended_ok text (Ok found) plan end e =
+    let same : (found.plan, length text - length (join_with_byte line_feed found.rest)) ≡ (plan, end) = cc in
+    (found, refl, ap (λ (front : Plan × ℕ). front.0) same, ap (λ (front : Plan × ℕ). front.1) same)
+ended_ok text (Err fault) plan end e = absurd cc
+
+-- what stands behind a front is no longer than the text
+pub behind_front : (text after : List ℕ) (found : FrontText Plan) → front batch_lines most_input text ≡ Ok found → found.rest ≡ lines_of after → length after ≤ length text
+behind_front text after found e is =
+    let read = front_plan_read text found e in
+    let rest : join_with_byte line_feed found.rest ≡ after = ap (join_with_byte line_feed) is ∙ joined line_feed after in
+    omega (arith, ap length read.parts, length-append (text_of found.plan) (join_with_byte line_feed found.rest), ap length rest)
+
+-- where it ends
+pub front_found : (text after : List ℕ) (plan : Plan) (lines : ℕ) → front batch_lines most_input text ≡ Ok (record { plan = plan; lines = lines; rest = lines_of after })
+    → front_batch text ≡ Ok (plan, length text - length after)
+unfolding front_batch
+front_found text after plan lines e =
+    ap (ended text) e ∙ ap (λ (rest : List ℕ). Ok (plan, length text - length rest)) (joined line_feed after)
