@@ -1,0 +1,13 @@
+pub mod Found
+pub mod Going
+pub mod Onward
+pub mod Told
+pub mod Within
+pub mod Answering
+pub mod Opened
+pub mod Ready
+pub mod Joined
+pub mod Ended
+pub mod Gathered
+pub mod Whole
+pub mod Handing

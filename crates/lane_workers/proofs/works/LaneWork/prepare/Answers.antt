@@ -1,0 +1,45 @@
+use Rattle.std.proofs.Common.{◌≡◌, ◌≤◌, ◌∙◌, List, Option, All, ap, get_or, sym, subst, arith}
+use Rattle.turn_lock.specs.Passes.{PassView}
+use Rattle.speculative_open.specs.Tables.{TableView}
+use Rattle.batch_plans.specs.Limits.{items_of}
+use Rattle.batch_plans.specs.declared.plan.CallLine.{CallLine}
+use Rattle.lane_workers.specs.declared.works.LaneWork.{LaneWork}
+use Rattle.lane_workers.specs.Lanes.{lane_calls}
+use Rattle.lane_workers.specs.Returned.{IsGiven}
+use Rattle.lane_workers.proofs.Ended.{begins}
+use Rattle.lane_workers.proofs.Found.{lane_here}
+use Rattle.lane_workers.proofs.works.LaneWork.prepare.Goals as goal
+
+pub returns-clause-fresh : goal.returns-clause-fresh
+returns-clause-fresh g c = λ contexts counter t.
+    let plan = c.args.plan.now in
+    let lane = c.args.lane in
+    let w : LaneWork = record {
+      lane = lane;
+      passes = c.into_vec.result;
+      seat = c.args.seat;
+      table = c.in_ok-table.table;
+      steps = c.in_ok-steps.steps;
+      checks = c.new.result;
+      progress = c.new-2.result;
+    } in
+    let found = lane_here plan.lanes lane c.index-as_slice-lane.result c.requires.there
+    (c.index-as_slice-lane.is
+    ∙ ap (λ ls. get_or ls lane c.index-as_slice-lane.result) c.as_slice.ensures.items) in
+    let calls : c.as_slice-2.result.now ≡ lane_calls plan lane = c.as_slice-2.ensures.items ∙ found in
+    let most = subst (λ (cs : List CallLine). All (λ call. items_of call ≤ c.most_items-most.result) cs)
+    calls c.most_items-most.ensures in
+    let room : c.in_ok-table.table.room ≡ c.most_items-most.result =
+    ap (λ (x : TableView). x.room) c.in_ok-table.ensures in
+    let size = c.in_ok-steps.ensures.len in
+    let whole = c.in_ok-steps.steps.ok in
+    record {
+      there = c.requires.there;
+      is_at = begins plan contexts counter w c.args.answers
+          (subst (λ (ps : List (Option PassView)). IsGiven plan contexts counter lane ps c.args.seat
+          c.args.answers) (sym c.into_vec.ensures.items) t) c.new-2.ensures
+          (subst (λ i. All (λ call. items_of call ≤ i) (lane_calls plan lane)) (sym room) most)
+          (subst (λ i. All (λ call. items_of call ≤ i) (lane_calls plan lane))
+          (omega (arith, size, whole)) most)
+          c.new.ensures;
+    }

@@ -1,0 +1,39 @@
+-- ---- for the proofs: lanes side by side, before they are served and after.
+use Rattle.std.specs.Prelude.{◌≡◌, ◌<◌, List, [], ◌∷◌, length, Option}
+use Rattle.std.specs.Borrow.{Bor}
+use Rattle.stamp_counter.specs.Seats.{CounterView}
+use Rattle.shared_context.specs.Calls.{SharedView}
+use Rattle.batch_plans.specs.declared.plan.Plan.{Plan}
+use Rattle.lane_workers.specs.declared.works.LaneWork.{LaneWork}
+use Rattle.lane_workers.specs.Lanes.{lane_calls, LaneIsAt}
+
+-- the lane is one of the plan's and has made no call
+pub record IsFresh (plan : Plan) (contexts : List (Option SharedView))
+    (counter : Option (Bor CounterView)) (w : LaneWork) : Type 0 where
+  pub there : w.lane < length plan.lanes
+  pub is_at : LaneIsAt plan contexts counter w.lane 0 w
+
+-- the lane has made all its calls
+pub record IsServed (plan : Plan) (contexts : List (Option SharedView))
+    (counter : Option (Bor CounterView)) (old new : LaneWork) : Type 0 where
+  pub lane : new.lane ≡ old.lane
+  pub is_at : LaneIsAt plan contexts counter old.lane (length (lane_calls plan old.lane)) new
+
+-- the same, of the lane itself
+abbrev pub IsDone : Plan → List (Option SharedView) → Option (Bor CounterView) → LaneWork → Type 0
+IsDone plan contexts counter w =
+    LaneIsAt plan contexts counter w.lane (length (lane_calls plan w.lane)) w
+
+abbrev pub AllFresh : Plan → List (Option SharedView) → Option (Bor CounterView) → List LaneWork
+    → Type 0
+AllFresh plan contexts counter [] = Unit {0}
+AllFresh plan contexts counter (w ∷ ws) =
+    IsFresh plan contexts counter w × AllFresh plan contexts counter ws
+
+abbrev pub AllServed : Plan → List (Option SharedView) → Option (Bor CounterView) → List LaneWork
+    → List LaneWork → Type 0
+AllServed plan contexts counter [] [] = Unit {0}
+AllServed plan contexts counter [] (v ∷ vs) = ⊥
+AllServed plan contexts counter (w ∷ ws) [] = ⊥
+AllServed plan contexts counter (w ∷ ws) (v ∷ vs) =
+    IsServed plan contexts counter w v × AllServed plan contexts counter ws vs

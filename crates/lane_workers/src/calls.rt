@@ -1,0 +1,365 @@
+//! The calls of a lane.
+
+ghost use Rattle.std.specs.Prelude.{◌≡◌, ◌+◌, ◌<◌, ◌≤◌, ◌^◌, [], ◌∷◌, All, MatchOption, Some, None, length, map, take, sum_by};
+ghost use Rattle.call_places.specs.Spans.{IsInPool, ItemIsInPool, span_bytes};
+ghost use Rattle.hpke_context.specs.Answers.{run};
+ghost use Rattle.hpke_context.specs.Contexts.{CanSeal, CanOpen, HasCipher, cipher_of, export_limit, exported_by};
+ghost use Rattle.context_books.specs.Openings.{IsTableFor, opening_steps, opening_misses, unseals};
+ghost use Rattle.batch_plans.specs.Room.{opened_room};
+ghost use Rattle.reply_texts.specs.Lines.{exported_line};
+ghost use Rattle.due_replies.specs.Runs.{answer_line};
+ghost use Rattle.lane_replies.specs.Writing.{PutsReplies};
+ghost use Rattle.batch_plans.specs.Limits.{IsCallWithin};
+ghost use Rattle.due_replies.specs.Standing.{refusal_on};
+ghost use Rattle.shared_context.specs.Calls.{MayCall, HasCommitted};
+ghost use Rattle.shared_context.specs.Stamped.{IsNote};
+ghost use Rattle.lane_workers.specs.Turns.{shared_at, view_of, with_table, with_progress, opening_items, IsOpening, CanTurn, Draws, Peeks, Commits, Opens};
+ghost use Rattle.lane_workers.specs.Lanes.{lane_calls, AreShared, LaneIsAt, MayAnswer, MayServe};
+
+use crate::works::LaneWork;
+use aes_gcm::Checks;
+use batch_io::{Gate, Point};
+use batch_plans::{Batch, CallLine, CallRefusal, Plan, context_of, items_from, refusal_by};
+use call_places::{Item, Span, Step};
+use context_books::Draw;
+use lane_replies::{export, finish_opening, finish_seal, refuse};
+use shared_context::SharedContext;
+use speculative_open::GuessTable;
+use stamp_counter::{StampCounter, StampSeat};
+use std::sync::Wait;
+use std::thread::Threads;
+use turn_lock::Pass;
+
+/// What all lanes share while they are served.
+#[derive(Drop)]
+pub(crate) struct Service<'a, R, G> {
+    pub(crate) rt: &'a R,
+    pub(crate) plan: &'a Plan,
+    pub(crate) contexts: &'a [Option<SharedContext>],
+    pub(crate) counter: Option<&'a StampCounter>,
+    pub(crate) gate: &'a G,
+}
+
+// The items of an opening.
+fn items_of_opening<'a>(plan: &'a Plan, call: &'a CallLine) -> &'a [Item]
+    requires { IsCallWithin (length plan.now.items) (length plan.now.pool) call.now }
+    ensures { result.now ≡ opening_items plan.now call.now }
+{
+    match call {
+        CallLine::Unseal { item, .. } => std::slice::from_ref(item),
+        CallLine::UnsealAll { first, count, .. } => items_from(
+            plan.items.as_slice(),
+            *first,
+            *count,
+        ),
+        CallLine::Seal { .. } | CallLine::Export { .. } => &[],
+    }
+}
+
+// Why a call is refused on a context that may not stand.
+fn refusal_of(context: Option<&SharedContext>, call: &CallLine) -> Option<CallRefusal>
+    ensures { result ≡ refusal_on (view_of context.entry) call.now }
+{
+    let Some(shared) = context else {
+        return Some(CallRefusal::NoContext);
+    };
+    let context = shared.context();
+    refusal_by(
+        context.role(),
+        context.suite().aead,
+        context.export_limit() as u32,
+        call,
+    )
+}
+
+// Commits items, whose steps go to the front of `steps`.
+fn commit_front<R: Wait>(
+    rt: &R,
+    shared: &SharedContext,
+    pass: Pass,
+    counter: &StampCounter,
+    seat: StampSeat,
+    call: u32,
+    pool: &[u8],
+    items: &[Item],
+    table: &GuessTable,
+    steps: &mut [Step],
+    checks: &mut Checks,
+) -> (u64, u32, Pass, StampSeat)
+    requires may { MayCall shared.now.lock pass call (length items.now) }
+    requires opens { CanOpen shared.now.context }
+    requires counter { shared.now.lock.terms.counter ≡ counter.now.id }
+    requires seat { IsNote counter.now.id seat }
+    requires spans { All (ItemIsInPool (length pool.now)) items.now }
+    requires table { IsTableFor shared.now.context pool.now items.now table.now }
+    requires steps { length items.now ≤ length steps.old }
+    requires checks { checks.old + length items.now < 2 ^ 64 }
+    ensures committed { HasCommitted pass result.2 seat result.3 call
+        (opening_steps shared.now.context result.0 pool.now items.now) result.0 }
+    ensures steps { take (length items.now) steps.new
+        ≡ opening_steps shared.now.context result.0 pool.now items.now }
+    ensures room { length steps.new ≡ length steps.old }
+    ensures missed { result.1
+        ≡ opening_misses shared.now.context result.0 pool.now items.now table.now.guess }
+    ensures checks { checks.new ≤ checks.old + result.1 }
+{
+    let front = &mut steps[..items.len()];
+    shared.commit(
+        rt, pass, counter, seat, call, pool, items, table, front, checks,
+    )
+}
+
+impl<R: Threads + Wait + Sync, G: Gate> Service<'_, R, G> {
+    // The context of this number, where there is one and it stands.
+    fn standing(&self, number: u32) -> Option<&SharedContext>
+        ensures { MatchOption result (shared_at self.now.contexts.now number ≡ None)
+            (λ shared. shared_at self.now.contexts.now number ≡ Some shared.now) }
+    {
+        self.contexts.get(number as usize)?.as_ref()
+    }
+
+    // Draws the number of a seal.
+    fn draw(&self, work: &mut LaneWork, shared: &SharedContext, number: u32, call: u32) -> Draw
+        requires turn { CanTurn work.old shared.now self.now.counter number call 1 }
+        requires seals { CanSeal shared.now.context }
+        ensures { Draws work.old work.new number call result }
+    {
+        let i = number as usize;
+        let (Some(counter), Some(pass), Some(seat)) = (
+            self.counter,
+            work.passes[i].take(),
+            work.seat.take(),
+        ) else {
+            unreachable!()
+        };
+        let (drawn, pass, seat) = shared.draw(self.rt, pass, counter, seat, call);
+        work.passes[i] = Some(pass);
+        work.seat = Some(seat);
+        self.gate.reached(work.lane, call, Point::Drawn);
+        drawn
+    }
+
+    // Looks at the number that is due.
+    fn guess(&self, work: &mut LaneWork, shared: &SharedContext, number: u32, call: u32) -> u64
+        requires turn { CanTurn work.old shared.now self.now.counter number call 0 }
+        ensures { Peeks work.old work.new number result }
+    {
+        let i = number as usize;
+        let Some(pass) = work.passes[i].take() else {
+            unreachable!()
+        };
+        let (guess, pass) = shared.peek(self.rt, pass);
+        work.passes[i] = Some(pass);
+        self.gate.reached(work.lane, call, Point::Guessed);
+        guess
+    }
+
+    // Tests the tags of an opening around the guess.
+    fn test(&self, work: &mut LaneWork, shared: &SharedContext, guess: u64, items: &[Item])
+        requires cipher { HasCipher shared.now.context }
+        requires room { length items.now ≤ work.old.table.room }
+        requires spans { All (ItemIsInPool (length self.now.plan.now.pool)) items.now }
+        ensures table { IsTableFor shared.now.context self.now.plan.now.pool items.now work.new.table }
+        ensures guess { work.new.table.guess ≡ guess }
+        ensures room { work.new.table.room ≡ work.old.table.room }
+        ensures same { work.new ≡ with_table work.old work.new.table }
+    {
+        let context = shared.context();
+        let (Some(key), Some(base_nonce)) = (context.cipher(), context.base_nonce()) else {
+            unreachable!()
+        };
+        let pool = self.plan.pool.as_slice();
+        work.table.fill(
+            self.rt,
+            key,
+            base_nonce,
+            guess,
+            context.limit(),
+            pool,
+            items,
+        );
+    }
+
+    // Gives the items of an opening their places, and tells which number was due before them and how
+    // many of theirs the guess missed.
+    fn commit(
+        &self,
+        work: &mut LaneWork,
+        shared: &SharedContext,
+        number: u32,
+        call: u32,
+        items: &[Item],
+    ) -> (u64, u32)
+        requires turn { CanTurn work.old shared.now self.now.counter number call
+            (length items.now) }
+        requires opens { CanOpen shared.now.context }
+        requires spans { All (ItemIsInPool (length self.now.plan.now.pool)) items.now }
+        requires table { IsTableFor shared.now.context self.now.plan.now.pool items.now
+            work.old.table }
+        requires room { length items.now ≤ length work.old.steps.items }
+        requires checks { work.old.checks + length items.now < 2 ^ 64 }
+        ensures { Commits work.old work.new shared.now.context number call
+            self.now.plan.now.pool items.now result.0 result.1 }
+    {
+        let i = number as usize;
+        let (Some(counter), Some(pass), Some(seat)) = (
+            self.counter,
+            work.passes[i].take(),
+            work.seat.take(),
+        ) else {
+            unreachable!()
+        };
+        let pool = self.plan.pool.as_slice();
+        let (first, missed, pass, seat) = commit_front(
+            self.rt,
+            shared,
+            pass,
+            counter,
+            seat,
+            call,
+            pool,
+            items,
+            &work.table,
+            work.steps.as_mut_slice(),
+            &mut work.checks,
+        );
+        work.passes[i] = Some(pass);
+        work.seat = Some(seat);
+        (first, missed)
+    }
+
+    // Seals a text at the number that is due.
+    fn seal(&self, work: &mut LaneWork, shared: &SharedContext, number: u32, call: u32, item: &Item)
+        requires { MayServe self.now.plan.now self.now.contexts.now self.now.counter call
+            (CallLine.Seal number item.now) shared.now work.old }
+        ensures { LaneIsAt self.now.plan.now self.now.contexts.now self.now.counter work.old.lane
+            (call + 1) work.new }
+    {
+        let drawn = self.draw(work, shared, number, call);
+        let pool = self.plan.pool.as_slice();
+        let (aad, text) = (item.aad.of(pool), item.text.of(pool));
+        finish_seal(&mut work.progress, shared.context(), drawn, aad, text);
+    }
+
+    // Opens the items of a call, and tells what it guessed.
+    fn open(&self, work: &mut LaneWork, shared: &SharedContext, call: u32, line: &CallLine) -> Batch
+        requires may { MayServe self.now.plan.now self.now.contexts.now self.now.counter call
+            line.now shared.now work.old }
+        requires opening { IsOpening line.now }
+        ensures { Opens self.now.plan.now shared.now work.old work.new call line.now result.guess
+            result.missed }
+    {
+        let items = items_of_opening(self.plan, line);
+        let number = context_of(line);
+        let guess = self.guess(work, shared, number, call);
+        self.test(work, shared, guess, items);
+        let (first, missed) = self.commit(work, shared, number, call, items);
+        self.finish(work, shared, items, first);
+        Batch { guess, missed }
+    }
+
+    // Writes the replies to items whose steps are settled.
+    fn finish(&self, work: &mut LaneWork, shared: &SharedContext, items: &[Item], first: u64)
+        requires cipher { HasCipher shared.now.context }
+        requires spans { All (ItemIsInPool (length self.now.plan.now.pool)) items.now }
+        requires few { length items.now ≤ length work.old.steps.items }
+        requires steps { take (length items.now) work.old.steps.items
+            ≡ opening_steps shared.now.context first self.now.plan.now.pool items.now }
+        requires room { work.old.progress.taken + sum_by opened_room items.now
+            ≤ length work.old.progress.pool }
+        requires left { length items.now ≤ work.old.progress.left }
+        ensures puts { PutsReplies work.old.progress work.new.progress
+            (sum_by opened_room items.now) (map answer_line (run (cipher_of shared.now.context) first
+            (unseals self.now.plan.now.pool items.now))) }
+        ensures same { work.new ≡ with_progress work.old work.new.progress }
+    {
+        let steps = &work.steps[..items.len()];
+        let pool = self.plan.pool.as_slice();
+        finish_opening(
+            &mut work.progress,
+            shared.context(),
+            pool,
+            items,
+            first,
+            steps,
+        );
+    }
+
+    // Exports a secret.
+    fn export(&self, work: &mut LaneWork, shared: &SharedContext, exporter: Span, size: u32)
+        requires size { size ≤ export_limit shared.now.context }
+        requires span { IsInPool (length self.now.plan.now.pool) exporter }
+        requires room { work.old.progress.taken + size ≤ length work.old.progress.pool }
+        requires left { 0 < work.old.progress.left }
+        ensures puts { PutsReplies work.old.progress work.new.progress size
+            (exported_line (exported_by shared.now.context
+            (span_bytes self.now.plan.now.pool exporter) size) ∷ []) }
+        ensures same { work.new ≡ with_progress work.old work.new.progress }
+    {
+        let exporter_context = exporter.of(self.plan.pool.as_slice());
+        export(&mut work.progress, shared.context(), exporter_context, size);
+    }
+
+    // A call that is served.
+    fn serve_call(&self, work: &mut LaneWork, shared: &SharedContext, call: u32, line: &CallLine)
+        requires { MayServe self.now.plan.now self.now.contexts.now self.now.counter call line.now
+            shared.now work.old }
+        ensures { LaneIsAt self.now.plan.now self.now.contexts.now self.now.counter work.old.lane
+            (call + 1) work.new }
+    {
+        match *line {
+            CallLine::Seal { context, item } => self.seal(work, shared, context, call, &item),
+            CallLine::Unseal { .. } => {
+                let _ = self.open(work, shared, call, line);
+            }
+            CallLine::UnsealAll { .. } => {
+                let batch = self.open(work, shared, call, line);
+                work.progress.put_batch(batch);
+            }
+            CallLine::Export { exporter, size, .. } => self.export(work, shared, exporter, size),
+        }
+    }
+
+    // A call, served or refused.
+    fn reply(&self, work: &mut LaneWork, call: u32, line: &CallLine)
+        requires { MayAnswer self.now.plan.now self.now.contexts.now self.now.counter call line.now
+            work.old }
+        ensures { LaneIsAt self.now.plan.now self.now.contexts.now self.now.counter work.old.lane
+            (call + 1) work.new }
+    {
+        let context = self.standing(context_of(line));
+        if let Some(refusal) = refusal_of(context, line) {
+            refuse(&mut work.progress, refusal);
+            return;
+        }
+        let Some(shared) = context else {
+            unreachable!()
+        };
+        self.serve_call(work, shared, call, line);
+    }
+
+    fn answer(&self, work: &mut LaneWork, call: u32, line: &CallLine)
+        requires { MayAnswer self.now.plan.now self.now.contexts.now self.now.counter call line.now
+            work.old }
+        ensures { LaneIsAt self.now.plan.now self.now.contexts.now self.now.counter work.old.lane
+            (call + 1) work.new }
+    {
+        self.reply(work, call, line);
+        self.gate.reached(work.lane, call, Point::Answered);
+    }
+
+    /// Serves the calls of a lane in their order.
+    pub(crate) fn serve_lane(&self, work: &mut LaneWork)
+        requires shared { AreShared self.now.plan.now self.now.contexts.now self.now.counter }
+        requires there { work.old.lane < length self.now.plan.now.lanes }
+        requires fresh { LaneIsAt self.now.plan.now self.now.contexts.now self.now.counter
+            work.old.lane 0 work.old }
+        ensures { LaneIsAt self.now.plan.now self.now.contexts.now self.now.counter work.old.lane
+            (length (lane_calls self.now.plan.now work.old.lane)) work.new }
+    {
+        let lines = self.plan.lanes.as_slice()[work.lane as usize].as_slice();
+        'calls: for (call, line) in lines.iter().enumerate() {
+            self.answer(work, call as u32, line);
+        }
+    }
+}

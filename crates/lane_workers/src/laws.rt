@@ -1,0 +1,24 @@
+//! From the lanes that were served to the run of the plan.
+
+ghost use Rattle.std.specs.Prelude.{List, Option, map};
+ghost use Rattle.call_places.specs.declared.entries.Entry.{Entry};
+ghost use Rattle.call_places.specs.Entries.{mark_of};
+ghost use Rattle.turn_lock.specs.Passes.{PassView};
+ghost use Rattle.hpke_context.specs.Contexts.{ContextView};
+ghost use Rattle.batch_plans.specs.declared.plan.Plan.{Plan};
+ghost use Rattle.batch_plans.specs.declared.replies.LaneAnswers.{LaneAnswers};
+ghost use Rattle.batch_plans.specs.Limits.{IsWithinLimits};
+ghost use Rattle.lane_workers.specs.Gathered.{AllLanesServed, AllClosed, AreOfARun};
+
+/// What each lane shows by itself, over contexts that are closed, is one run of the plan: the journals
+/// are legal and each guess may have been made, in both versions, and the lanes' answers have the
+/// lines that are due.
+///
+/// A law of the definitions: the call does nothing.
+pub fn served_lanes_make_a_run()
+    ensures { (plan : Plan) (contexts : List (Option ContextView))
+        (passes : List (List (Option PassView))) (answers : List LaneAnswers)
+        (books : List (List Entry)) → IsWithinLimits plan
+        → AllLanesServed plan contexts passes answers → AllClosed plan passes books
+        → AreOfARun plan contexts answers (map (map mark_of) books) }
+{}

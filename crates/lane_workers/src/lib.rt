@@ -1,0 +1,26 @@
+//! Lanes of calls on contexts that threads share.
+//!
+//! A [`LaneWork`] is a lane with its pass of each context, its seat at the counter of stamps, and its
+//! answers. [`serve`] serves lanes by so many workers: each has a group of lanes that stand side by
+//! side, and serves them in order, each lane's calls in order. A seal draws its number and an opening
+//! commits its items while the lane holds the context's turn; all encryption, decryption and testing
+//! of tags is done while it holds none (RFC 9180, 5.2).
+//!
+//! What a lane shows when it is served is `LaneIsServed` of `specs/Served.antt`, by its own passes
+//! alone. That all lanes together make legal journals is shown once the contexts are closed
+//! (`gathered_lanes`).
+//!
+//! `serve` may wait for a turn. It takes no memory and refuses nothing. That a turn ever comes, and in
+//! which order lanes get theirs, is not said.
+#![tactic(auto)]
+
+mod calls;
+mod laws;
+mod passes;
+mod serving;
+mod works;
+
+pub use laws::served_lanes_make_a_run;
+pub use passes::take_passes;
+pub use serving::serve;
+pub use works::{LanePasses, LaneWork, SharedList};
