@@ -27,6 +27,8 @@ class Batch:
     keys: list = field(default_factory=list)  # (word, bytes)
     contexts: list = field(default_factory=list)  # dictionaries
     lanes: list = field(default_factory=list)  # lists of calls, each a dictionary
+    items: int = 0  # of all lanes
+    exported: int = 0  # the sum of all LEN
 
 
 def number(piece, least, most):
@@ -147,19 +149,21 @@ def add(word, read, batch):
     elif word == "lane":
         batch.lanes.append([])
     else:
-        batch.lanes[-1].append({"word": word, **read})
+        call = {"word": word, **read}
+        batch.lanes[-1].append(call)
+        batch.items += items_of(call)
+        batch.exported += call.get("size", 0)
 
 
-def passes_a_limit(batch):
-    """Whether a batch whose last line is new has more of something than it may have."""
-    calls = [call for lane in batch.lanes for call in lane]
+def passes_a_limit(batch, read):
+    """Whether a batch has more of something than it may have, with the line that was just read."""
     return (
         len(batch.keys) > 64
         or len(batch.contexts) > 256
         or len(batch.lanes) > 16
-        or any(call["word"] == "unsealall" and len(call["items"]) > 4096 for call in calls[-1:])
-        or sum(map(items_of, calls)) > 65_536
-        or sum(call.get("size", 0) for call in calls) > 16_777_216
+        or len(read.get("items", [])) > 4096
+        or batch.items > 65_536
+        or batch.exported > 16_777_216
     )
 
 
@@ -187,7 +191,7 @@ def read_batch(data):
                     raise Bad(at + 1, "trailing")
                 return batch
             add(word, read, batch)
-            if passes_a_limit(batch):
+            if passes_a_limit(batch, read):
                 raise Reason("count")
         except Reason as reason:
             raise Bad(at, str(reason)) from None

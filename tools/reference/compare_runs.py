@@ -1,11 +1,14 @@
-"""Runs of the built program, for comparison with the reference."""
+"""Runs of the built program, for comparison with the reference. HPKEBATCH in the environment names another
+program than the one that the gate builds."""
 
 import os
 import subprocess
 
-PROGRAM = os.path.join(os.path.dirname(os.path.abspath(__file__)), "../../crates/hpkebatch/out/hpkebatch")
+BUILT = os.path.join(os.path.dirname(os.path.abspath(__file__)), "../../crates/hpkebatch/out/hpkebatch")
+PROGRAM = os.environ.get("HPKEBATCH", BUILT)
 
 
-def told(data, words):
-    done = subprocess.run([PROGRAM, *words], input=data, capture_output=True, check=False)
-    return done.stdout.decode(), done.returncode
+def told(data, words, seconds=None):
+    """Standard output, a character for each byte, and the status."""
+    done = subprocess.run([PROGRAM, *words], input=data, capture_output=True, check=False, timeout=seconds)
+    return done.stdout.decode("latin-1"), done.returncode

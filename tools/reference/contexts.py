@@ -5,6 +5,7 @@ import hashlib
 import hmac
 import os
 import sys
+from functools import lru_cache
 
 from cryptography.exceptions import InvalidTag
 from cryptography.hazmat.primitives.ciphers.aead import AESGCM
@@ -186,13 +187,31 @@ def words_of(seed, stream):
     return words
 
 
+# Kept, since batches that differ by a byte have most of their keys in common.
+@lru_cache(maxsize=256)
+def pair_of(p, seed, number):
+    """The pair that key line `number` makes of this seed, or the word of the refusal."""
+    return KEMS[p].generate(words_of(seed, 2 * number))
+
+
+@lru_cache(maxsize=256)
+def sent_to(p, seed, number, public):
+    """What context line `number` encapsulates by this seed, and the shared secret."""
+    return KEMS[p].encap(words_of(seed, 2 * number + 1), public)
+
+
+@lru_cache(maxsize=256)
+def received(p, enc, secret):
+    return KEMS[p].decap(enc, secret)
+
+
 def key_of(batch, number):
     """The reply to a key line, and its set, public and secret encoding where it stands."""
     word, given = batch.keys[number]
     p = 857 if word.endswith("857") else 761
     kem = KEMS[p]
     if word.startswith("keygen"):
-        pair = kem.generate(words_of(batch.seed, 2 * number))
+        pair = pair_of(p, batch.seed, number)
         if isinstance(pair, str):
             return f"refused {pair}", None
         return f"generated {pair[0].hex()} {pair[1].hex()}", (p, *pair)
@@ -229,7 +248,7 @@ def secret_of(batch, keys, encs, number):
         return "nokey"
     p, public, secret = key
     if line["word"] == "send":
-        enc, shared = KEMS[p].encap(words_of(batch.seed, 2 * number + 1), public)
+        enc, shared = sent_to(p, batch.seed, number, public)
         return "sender", KEM_IDS[p], shared, enc
     if secret is None:
         return "needsecret"
@@ -238,7 +257,7 @@ def secret_of(batch, keys, encs, number):
         return "noenc"
     if len(enc) != KEMS[p].enc:
         return "encsize"
-    return "recipient", KEM_IDS[p], KEMS[p].decap(enc, secret), enc
+    return "recipient", KEM_IDS[p], received(p, enc, secret), enc
 
 
 def set_up(batch):

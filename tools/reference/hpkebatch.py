@@ -3,7 +3,8 @@
 
     tools/reference/hpkebatch.py rehearse SCHEDULE < BATCH     the reply, status 0; or the bad line, status 3
     tools/reference/hpkebatch.py run < BATCH                   that of the lanes one after another
-    tools/reference/hpkebatch.py judge BATCH REPLY             whether `run` may have written the reply
+
+What threads may have answered is judged by tools/reference/judge.
 
 It is slow and plain: a context is a list of places, and each item is answered at its place. AES-GCM is
 that of `cryptography`, the hashes are hashlib's, the KEM is tools/vectors/sntrup.py.
@@ -132,103 +133,8 @@ def answer(data, schedule):
     return run.text(), 0
 
 
-# ---- the judge
-
-
-def read_reply(run, text):
-    """The journals and guesses that a reply prints, put into the run in place of its own."""
-    lines = text.split("\n")
-    at = lines.index("journal 0") if "journal 0" in lines else len(lines) - 2
-    guesses = [line.split() for line in lines[:at] if line.startswith("batch ")]
-    openings = [
-        (lane, call)
-        for lane, calls in enumerate(run.batch.lanes)
-        for call, asked in enumerate(calls)
-        if asked["word"] == "unsealall" and not refusal(run.batch, run.contexts, asked)
-    ]
-    run.guesses.update({opening: int(words[1]) for opening, words in zip(openings, guesses)})
-    context = -1
-    for line in lines[at:]:
-        if line.startswith("journal "):
-            context += 1
-        elif line[:1].isdigit():
-            run.journals[context].append(tuple(map(int, line.split())))
-
-
-def served(run, context):
-    return [
-        (lane, call, item)
-        for lane, calls in enumerate(run.batch.lanes)
-        for call, asked in enumerate(calls)
-        if asked["word"] != "export" and asked["context"] == context and not refusal(run.batch, run.contexts, asked)
-        for item in range(items_of(asked))
-    ]
-
-
-def judge_journal(run, context):
-    """What is wrong with a journal, or None."""
-    journal = run.journals[context]
-    places = [place[:3] for place in journal]
-    if sorted(places) != served(run, context):
-        return f"journal {context}: other places than those served"
-    for lane in range(len(run.batch.lanes)):
-        own = [place for place in places if place[0] == lane]
-        if own != sorted(own):
-            return f"journal {context}: lane {lane} out of order"
-    for lane, call, item in places:
-        asked = run.batch.lanes[lane][call]
-        if item == 0 and asked["word"] == "unsealall":
-            at, count = places.index((lane, call, 0)), items_of(asked)
-            if places[at : at + count] != [(lane, call, k) for k in range(count)]:
-                return f"journal {context}: an opening torn apart"
-            guess = run.guesses[lane, call]
-            earlier = [k for k in range(at) if places[k][0] == lane]
-            low = run.due(context, earlier[-1] + 1)[0] if earlier else 0
-            if not low <= guess <= run.due(context, at)[0]:
-                return f"lane {lane} call {call}: guess {guess}"
-    return None
-
-
-def judge_stamps(run):
-    marks = [place for journal in run.journals for place in journal]
-    if sorted(mark[3] for mark in marks) != list(range(len(marks))):
-        return "stamps are not 0 to n-1"
-    if any(journal != sorted(journal, key=lambda mark: mark[3]) for journal in run.journals):
-        return "stamps fall in a journal"
-    history = sorted(marks, key=lambda mark: mark[3])
-    for lane in range(len(run.batch.lanes)):
-        own = [mark[:3] for mark in history if mark[0] == lane]
-        if own != sorted(own):
-            return f"stamps of lane {lane} fall"
-    for at, (lane, call, item, _) in enumerate(history):
-        if item and history[at - 1][:3] != (lane, call, item - 1):
-            return "an opening torn apart by stamps"
-    return None
-
-
-def judge(data, text):
-    """What is wrong with a reply to a batch, or None."""
-    run = Run(read_batch(data))
-    read_reply(run, text)
-    for context in range(len(run.contexts)):
-        wrong = judge_journal(run, context)
-        if wrong:
-            return wrong
-    wrong = judge_stamps(run) if run.batch.version == 2 else None
-    if wrong or run.text() == text:
-        return wrong
-    for at, (one, other) in enumerate(zip(run.text().split("\n"), text.split("\n")), 1):
-        if one != other:
-            return f"line {at}: {one[:60]} wanted, {other[:60]} got"
-    return "the text ends early or late"
-
-
 if __name__ == "__main__":
     command = sys.argv[1]
-    if command == "judge":
-        wrong = judge(open(sys.argv[2], "rb").read(), open(sys.argv[3]).read())
-        print(wrong or "legal")
-        sys.exit(7 if wrong else 0)
     given = sys.argv[2] if command == "rehearse" else "-"
     steps = [] if given == "-" else [int(step) for step in given.split(",")]
     reply, status = answer(sys.stdin.buffer.read(), steps)

@@ -7,7 +7,8 @@ use Rattle.aes_block.specs.declared.tables.TheConstants.{S_BOX, COLUMNS}
 use Rattle.aes_block.specs.Field.{xtime, by_power, low_product, product, s_box}
 use Rattle.byte_strings.specs.Bytes.{xor_bytes}
 use Rattle.aes_block.specs.Cipher.{mixed_column}
-use Rattle.aes_block.specs.Words.{word_of, column0, column1, column2, column3, word_bytes}
+use Rattle.std.specs.Int.{byte_at}
+use Rattle.aes_block.specs.Words.{word_of, column0, column1, column2, column3, word_bytes, mixed_word}
 use Rattle.aes_block.proofs.ByteTables.{s_box_is}
 
 mapped : (f : ℕ → ℕ) (t : List ℕ) → map f S_BOX ≡ t → (x : ℕ) → x < 256 → get_or t x 0 ≡ f (s_box x)
@@ -135,6 +136,17 @@ column_sum x y z w px py pz pw =
     ∙ ap (λ u. xor_bytes (xor_bytes (xor_bytes (product 2 a ∷ a ∷ a ∷ product 3 a ∷ []) u) (word_bytes (column2 c))) (word_bytes (column3 d))) (bytes1 y py)
     ∙ ap (λ u. xor_bytes (xor_bytes (xor_bytes (product 2 a ∷ a ∷ a ∷ product 3 a ∷ []) (product 3 b ∷ product 2 b ∷ b ∷ b ∷ [])) u) (word_bytes (column3 d))) (bytes2 z pz)
     ∙ ap (λ u. xor_bytes (xor_bytes (xor_bytes (product 2 a ∷ a ∷ a ∷ product 3 a ∷ []) (product 3 b ∷ product 2 b ∷ b ∷ b ∷ [])) (c ∷ product 3 c ∷ product 2 c ∷ c ∷ [])) u) (bytes3 w pw)
+
+-- the bytes of a column after a round
+pub mixed_bytes : (a b c d key : ℕ) → word_bytes (mixed_word a b c d key)
+    ≡ xor_bytes (mixed_column (s_box (byte_at 0 a)) (s_box (byte_at 1 b)) (s_box (byte_at 2 c)) (s_box (byte_at 3 d))) (word_bytes key)
+mixed_bytes a b c d key =
+    let x = byte_at 0 a in
+    let y = byte_at 1 b in
+    let z = byte_at 2 c in
+    let w = byte_at 3 d in
+    word_bytes-xor (bit_xor (bit_xor (bit_xor (column0 (s_box x)) (column1 (s_box y))) (column2 (s_box z))) (column3 (s_box w))) key
+    ∙ ap (λ v. xor_bytes v (word_bytes key)) (column_sum x y z w (omega arith) (omega arith) (omega arith) (omega arith))
 
 -- the byte of the S-box in each row of a column
 row0_table : map (λ s. bit_and (column2 s) 0xff) S_BOX ≡ S_BOX

@@ -1,8 +1,8 @@
 -- ---- for the proofs
 -- A state as four words, one a column, each with its low byte first.
-use Rattle.std.specs.Prelude.{ℕ, ◌+◌, ◌*◌, ◌^◌, List, ◌++◌, slice_index}
-use Rattle.std.specs.Int.{w32, to_le_bytes}
-use Rattle.aes_block.specs.Field.{product}
+use Rattle.std.specs.Prelude.{ℕ, ◌+◌, ◌*◌, ◌^◌, List, [], ◌∷◌, ◌++◌, slice_index, bit_xor}
+use Rattle.std.specs.Int.{w32, byte_at, to_le_bytes}
+use Rattle.aes_block.specs.Field.{product, s_box}
 
 -- the four bytes of a word
 abbrev pub word_bytes : ℕ → List ℕ
@@ -29,3 +29,32 @@ column2 s = word_of s (product 3 s) (product 2 s) s
 
 unfoldable pub column3 : ℕ → ℕ
 column3 s = word_of s s (product 3 s) (product 2 s)
+
+-- a column after a round: the words that four bytes bring to it, from the columns a to d, and the
+-- round key's
+abbrev pub mixed_word : ℕ → ℕ → ℕ → ℕ → ℕ → ℕ
+mixed_word a b c d key = bit_xor (bit_xor (bit_xor (bit_xor (column0 (s_box (byte_at 0 a)))
+    (column1 (s_box (byte_at 1 b)))) (column2 (s_box (byte_at 2 c)))) (column3 (s_box (byte_at 3 d)))) key
+
+-- the columns after a round
+abbrev pub round_words : List ℕ → List ℕ → List ℕ
+round_words s key =
+    mixed_word (slice_index s 0) (slice_index s 1) (slice_index s 2) (slice_index s 3) (slice_index key 0)
+    ∷ mixed_word (slice_index s 1) (slice_index s 2) (slice_index s 3) (slice_index s 0) (slice_index key 1)
+    ∷ mixed_word (slice_index s 2) (slice_index s 3) (slice_index s 0) (slice_index s 1) (slice_index key 2)
+    ∷ mixed_word (slice_index s 3) (slice_index s 0) (slice_index s 1) (slice_index s 2) (slice_index key 3)
+    ∷ []
+
+-- the columns s, and the words that the bytes of column 0, t, bring to them in a round
+abbrev pub with_column : List ℕ → ℕ → List ℕ
+with_column s t =
+    bit_xor (slice_index s 0) (column0 (s_box (byte_at 0 t)))
+    ∷ bit_xor (slice_index s 1) (column3 (s_box (byte_at 3 t)))
+    ∷ bit_xor (slice_index s 2) (column2 (s_box (byte_at 2 t)))
+    ∷ bit_xor (slice_index s 3) (column1 (s_box (byte_at 1 t)))
+    ∷ []
+
+-- the columns after round 2 of the block of a run that ends in `last`, from what the run keeps
+abbrev pub run_columns : ℕ → ℕ → List ℕ → ℕ → List ℕ
+run_columns mask first second last =
+    with_column second (bit_xor first (column3 (s_box (bit_xor last mask))))

@@ -11,8 +11,8 @@ use std::marker::Model;
 /// A key of AES-128 or AES-256 and its round keys. A contract sees the key's bytes.
 #[derive(Drop)]
 pub struct AesKey {
-    expanded: ArrayVec<u8, 240>,
-    rounds: usize,
+    pub(crate) expanded: ArrayVec<u8, 240>,
+    pub(crate) rounds: usize,
 }
 
 // The key stands at the front of its expansion; it has four bytes for each round above six.

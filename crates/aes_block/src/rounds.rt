@@ -7,19 +7,19 @@
 //! `proofs/Columns.antt`). The last round has no MixColumns: it takes the S-box of each byte out of a
 //! word that has it in the row where it goes (`byte_sum`).
 
-ghost use Rattle.std.specs.Prelude.{◌≡◌, ◌≤◌, ◌+◌, ◌*◌, [], ◌∷◌, length};
+ghost use Rattle.std.specs.Prelude.{◌≡◌, ◌≤◌, ◌+◌, ◌-◌, ◌*◌, ℕ, List, [], ◌∷◌, length};
 ghost use Rattle.std.specs.Int.{byte_at};
 ghost use Rattle.byte_strings.specs.Bytes.{xor_bytes};
 ghost use Rattle.aes_block.specs.Field.{s_box};
-ghost use Rattle.aes_block.specs.Cipher.{sub_bytes, shift_rows, mixed_column, mix_columns, round_key, cipher_rounds};
-ghost use Rattle.aes_block.specs.Words.{word_bytes, state_bytes};
+ghost use Rattle.aes_block.specs.Cipher.{sub_bytes, shift_rows, mixed_column, mix_columns, round_key, state_after, cipher_rounds};
+ghost use Rattle.aes_block.specs.Words.{word_bytes, state_bytes, mixed_word, round_words};
 
 use crate::lookups::{byte0, byte1, byte2, byte3, column0, column1, column2, column3};
 
-type Columns = [u32; 4];
+pub(crate) type Columns = [u32; 4];
 
 #[tactic(auto, using(crate::proofs::Columns::bytes_of_word))]
-fn word(a: u8, b: u8, c: u8, d: u8) -> u32
+pub(crate) fn word(a: u8, b: u8, c: u8, d: u8) -> u32
     ensures { word_bytes result ≡ a ∷ b ∷ c ∷ d ∷ [] }
 {
     u32::from_le_bytes([a, b, c, d])
@@ -53,7 +53,8 @@ fn store(s: Columns) -> [u8; 16]
 
 // A column after a round. `a` to `d` are the columns that its four bytes come from.
 fn mixed_word(a: u32, b: u32, c: u32, d: u32, key: u32) -> u32
-    ensures { word_bytes result ≡ xor_bytes
+    ensures word { result ≡ mixed_word a b c d key }
+    ensures bytes { word_bytes result ≡ xor_bytes
         (mixed_column (s_box (byte_at 0 a)) (s_box (byte_at 1 b)) (s_box (byte_at 2 c))
         (s_box (byte_at 3 d)))
         (word_bytes key) }
@@ -62,8 +63,9 @@ fn mixed_word(a: u32, b: u32, c: u32, d: u32, key: u32) -> u32
 }
 
 #[tactic(auto, unfolding(crate::specs::Cipher::mix_columns, crate::specs::Cipher::shift_rows, crate::specs::Cipher::sub_bytes))]
-fn round(s: Columns, key: Columns) -> Columns
-    ensures { state_bytes result
+pub(crate) fn round(s: Columns, key: Columns) -> Columns
+    ensures words { result ≡ round_words s key }
+    ensures bytes { state_bytes result
         ≡ xor_bytes (mix_columns (shift_rows (sub_bytes (state_bytes s)))) (state_bytes key) }
 {
     [
@@ -103,7 +105,7 @@ fn add_word(a: u32, key: u32) -> u32
     a ^ key
 }
 
-fn add_round_key(s: Columns, key: Columns) -> Columns
+pub(crate) fn add_round_key(s: Columns, key: Columns) -> Columns
     ensures { state_bytes result ≡ xor_bytes (state_bytes s) (state_bytes key) }
 {
     [
@@ -115,24 +117,37 @@ fn add_round_key(s: Columns, key: Columns) -> Columns
 }
 
 // Round key `j` of an expanded key.
-fn round_key(w: &[u8], j: usize) -> Columns
+pub(crate) fn round_key(w: &[u8], j: usize) -> Columns
     requires { 16 * j + 16 ≤ length w.now }
     ensures { state_bytes result ≡ round_key w.now j }
 {
     load(&w[16 * j..16 * j + 16])
 }
 
-// Cipher with an expanded key and its number of rounds.
+// Cipher from round `first` on, with an expanded key and its number of rounds.
 #[tactic(auto, using(crate::proofs::Expanding::round_steps), unfolding(crate::specs::Cipher::cipher_rounds))]
+#[inline(always)]
+pub(crate) fn finish(w: &[u8], nr: usize, first: usize, state: Columns) -> [u8; 16]
+    requires some { 1 ≤ first }
+    requires last { first ≤ nr }
+    requires within { 16 * nr + 16 ≤ length w.now }
+    ensures { (block : List ℕ) → state_bytes state ≡ state_after w.now block (first - 1)
+        → result ≡ cipher_rounds w.now nr block }
+{
+    let mut state = state;
+    for i in first..nr {
+        let next = round(state, round_key(w, i));
+        state = next;
+    }
+    store(last_round(state, round_key(w, nr)))
+}
+
+// Cipher with an expanded key and its number of rounds.
 pub(crate) fn cipher(w: &[u8], nr: usize, block: &[u8; 16]) -> [u8; 16]
     requires one { 1 ≤ nr }
     requires within { 16 * nr + 16 ≤ length w.now }
     ensures { result ≡ cipher_rounds w.now nr block.now }
 {
-    let mut state = add_round_key(load(block), round_key(w, 0));
-    for i in 1..nr {
-        let next = round(state, round_key(w, i));
-        state = next;
-    }
-    store(last_round(state, round_key(w, nr)))
+    let state = add_round_key(load(block), round_key(w, 0));
+    finish(w, nr, 1, state)
 }

@@ -37,21 +37,32 @@ const BLOCKS256: [BlockCase; 1] = [BlockCase {
     last_round_key: "24fc79ccbf0979e9371ac23c6d68de36",
 }];
 
+// The same block as one of a run.
+fn in_run(key: &AesKey, block: &[u8; 16]) -> [u8; 16] {
+    let mut front = [0u8; 15];
+    front.copy_from_slice(&block[..15]);
+    key.run(&front).encrypt(block[15])
+}
+
 #[test]
 fn blocks_are_those_published(rt: HostRuntime) -> Result<(), Fail> {
     for case in &BLOCKS128 {
         let source = case.source;
         let key = AesKey::new128(&<[u8; 16]>::from_hex(case.key)?);
-        let block = key.encrypt_block(&<[u8; 16]>::from_hex(case.plaintext)?);
-        assert_eq!(rt; block, <[u8; 16]>::from_hex(case.ciphertext)?, "{source}");
+        let plaintext = <[u8; 16]>::from_hex(case.plaintext)?;
+        let ciphertext = <[u8; 16]>::from_hex(case.ciphertext)?;
+        assert_eq!(rt; key.encrypt_block(&plaintext), ciphertext, "{source}");
+        assert_eq!(rt; in_run(&key, &plaintext), ciphertext, "{source}, in a run");
         let last = <[u8; 16]>::from_hex(case.last_round_key)?;
         assert_eq!(rt; *key.round_key(10), last, "{source}, round key 10");
     }
     for case in &BLOCKS256 {
         let source = case.source;
         let key = AesKey::new256(&<[u8; 32]>::from_hex(case.key)?);
-        let block = key.encrypt_block(&<[u8; 16]>::from_hex(case.plaintext)?);
-        assert_eq!(rt; block, <[u8; 16]>::from_hex(case.ciphertext)?, "{source}");
+        let plaintext = <[u8; 16]>::from_hex(case.plaintext)?;
+        let ciphertext = <[u8; 16]>::from_hex(case.ciphertext)?;
+        assert_eq!(rt; key.encrypt_block(&plaintext), ciphertext, "{source}");
+        assert_eq!(rt; in_run(&key, &plaintext), ciphertext, "{source}, in a run");
         let last = <[u8; 16]>::from_hex(case.last_round_key)?;
         assert_eq!(rt; *key.round_key(14), last, "{source}, round key 14");
     }

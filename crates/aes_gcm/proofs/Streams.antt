@@ -1,8 +1,9 @@
 -- The key stream, block by block.
-use Rattle.std.proofs.Common.{◌≡◌, ◌<◌, ◌≤◌, ◌+◌, ◌-◌, ◌*◌, ◌%◌, ◌^◌, ℕ, suc, List, [], ◌∷◌, ◌++◌, length, take, drop, min, inl, inr, sym, ◌∙◌, ap, refl, arith, append_assoc, length-drop, drop-drop}
+use Rattle.std.proofs.Common.{◌≡◌, ◌<◌, ◌≤◌, ◌+◌, ◌-◌, ◌*◌, ◌/◌, ◌%◌, ◌^◌, ℕ, suc, List, [], ◌∷◌, ◌++◌, length, take, drop, min, inl, inr, sym, ◌∙◌, ap, refl, arith, append_assoc, length-drop, drop-drop}
 use Rattle.std.proofs.lemmas.List.{append-nil, take-append-drop, length-take-le, take_all, take_at, drop_at}
 use Rattle.std.proofs.lemmas.Nat.{from_be_bytes-to_be_bytes_4}
 use Rattle.std.proofs.Math.ListN.{drop_of_length-le}
+use Rattle.std.proofs.Math.Seq.{take-append-add}
 use Rattle.std.proofs.lemmas.Bool.{cases_lt}
 use Rattle.std.specs.Int.{w32, div_ceil, from_be_bytes}
 use Rattle.byte_strings.specs.Bytes.{i2osp, xor_bytes}
@@ -75,37 +76,50 @@ gctr-block key nonce i text stream start front whole done next is size more plac
     ap (λ n. front ++ gctr_from key nonce (i + 1) (drop n text)) place
     ∙ gctr-more key nonce i text stream start front whole done 16 is size (omega arith) (omega arith) so_far sum
 
--- the step over four blocks, from block number `blocks` of the text on
-pub gctr-four : (key nonce : List ℕ) (blocks : ℕ) (text s0 s1 s2 s3 out0 out1 out2 out3 out4 whole : List ℕ)
-    → s0 ≡ cipher key (counter_block nonce (blocks + 1)) → s1 ≡ cipher key (counter_block nonce (blocks + 1 + 1))
-    → s2 ≡ cipher key (counter_block nonce (blocks + 1 + 2)) → s3 ≡ cipher key (counter_block nonce (blocks + 1 + 3))
-    → length s0 ≡ 16 → length s1 ≡ 16 → length s2 ≡ 16 → length s3 ≡ 16
-    → 16 * blocks + 64 ≤ length text
-    → take (16 * blocks) out0 ++ gctr_from key nonce (blocks + 1) (drop (16 * blocks) text) ≡ whole
-    → take (16 * blocks + 16) out1 ≡ take (16 * blocks) out0 ++ xor_bytes (take 16 (drop (16 * blocks) text)) s0
-    → take (16 * blocks + 16 + 16) out2 ≡ take (16 * blocks + 16) out1 ++ xor_bytes (take 16 (drop (16 * blocks + 16) text)) s1
-    → take (16 * blocks + 32 + 16) out3 ≡ take (16 * blocks + 32) out2 ++ xor_bytes (take 16 (drop (16 * blocks + 32) text)) s2
-    → take (16 * blocks + 48 + 16) out4 ≡ take (16 * blocks + 48) out3 ++ xor_bytes (take 16 (drop (16 * blocks + 48) text)) s3
-    → take (16 * (blocks + 4)) out4 ++ gctr_from key nonce (blocks + 4 + 1) (drop (16 * (blocks + 4)) text) ≡ whole
-gctr-four key nonce blocks text s0 s1 s2 s3 out0 out1 out2 out3 out4 whole i0 i1 i2 i3 z0 z1 z2 z3 more so_far b0 b1 b2 b3 =
-    let at = 16 * blocks in
-    let i = blocks + 1 in
-    let p2 : at + 16 + 16 ≡ at + 32 = omega arith in
-    let p3 : at + 32 + 16 ≡ at + 48 = omega arith in
-    let p4 : at + 48 + 16 ≡ 16 * (blocks + 4) = omega arith in
-    let n2 : i + 1 + 1 ≡ i + 2 = omega arith in
-    let n3 : i + 2 + 1 ≡ i + 3 = omega arith in
-    let n4 : i + 3 + 1 ≡ blocks + 4 + 1 = omega arith in
-    let t1 = gctr-block key nonce i text s0 (take at out0) (take (at + 16) out1) whole at (at + 16) i0 z0 (omega arith) refl so_far b0 in
-    let t2 = gctr-block key nonce (i + 1) text s1 (take (at + 16) out1) (take (at + 32) out2) whole (at + 16) (at + 32) i1 z1 (omega arith) (sym p2) t1
-    (ap (λ n. take n out2) (sym p2) ∙ b1) in
-    let t2' = ap (λ k. take (at + 32) out2 ++ gctr_from key nonce k (drop (at + 32) text)) (sym n2) ∙ t2 in
-    let t3 = gctr-block key nonce (i + 2) text s2 (take (at + 32) out2) (take (at + 48) out3) whole (at + 32) (at + 48) i2 z2 (omega arith) (sym p3) t2'
-    (ap (λ n. take n out3) (sym p3) ∙ b2) in
-    let t3' = ap (λ k. take (at + 48) out3 ++ gctr_from key nonce k (drop (at + 48) text)) (sym n3) ∙ t3 in
-    let t4 = gctr-block key nonce (i + 3) text s3 (take (at + 48) out3) (take (16 * (blocks + 4)) out4) whole (at + 48) (16 * (blocks + 4)) i3 z3 (omega arith) (sym p4) t3'
-    (ap (λ n. take n out4) (sym p4) ∙ b3) in
-    ap (λ k. take (16 * (blocks + 4)) out4 ++ gctr_from key nonce k (drop (16 * (blocks + 4)) text)) (sym n4) ∙ t4
+-- the step over block k of a text
+pub gctr-next : (key nonce : List ℕ) (k : ℕ) (text stream out next whole : List ℕ)
+    → stream ≡ cipher key (counter_block nonce (k + 1)) → length stream ≡ 16 → 16 * k + 16 ≤ length text
+    → take (16 * k) out ++ gctr_from key nonce (k + 1) (drop (16 * k) text) ≡ whole
+    → take (16 * k + 16) next ≡ take (16 * k) out ++ xor_bytes (take 16 (drop (16 * k) text)) stream
+    → take (16 * (k + 1)) next ++ gctr_from key nonce (k + 1 + 1) (drop (16 * (k + 1)) text) ≡ whole
+gctr-next key nonce k text stream out next whole is size more so_far sum =
+    let place : 16 * (k + 1) ≡ 16 * k + 16 = omega arith in
+    gctr-block key nonce (k + 1) text stream (take (16 * k) out) (take (16 * (k + 1)) next) whole (16 * k) (16 * (k + 1)) is size more place so_far
+    (ap (λ n. take n next) place ∙ sum)
+
+-- the last block of a text, which may be cut
+pub gctr_from-rest : (key nonce : List ℕ) (i : ℕ) (text stream : List ℕ)
+    → stream ≡ cipher key (counter_block nonce i) → length stream ≡ 16 → 0 < length text → length text ≤ 16
+    → gctr_from key nonce i text ≡ xor_bytes text stream
+gctr_from-rest key nonce i text stream is size some short =
+    let n = length text in
+    let count : n ≡ min n 16 = omega arith in
+    let none : length (drop n text) ≡ 0 = omega (arith, length-drop n text) in
+    gctr_from-first key nonce i text stream n is size some count
+    ∙ ap (λ xs. xor_bytes (take n text) stream ++ xs) (gctr_from-none key nonce (i + 1) (drop n text) none)
+    ∙ append-nil (xor_bytes (take n text) stream)
+    ∙ ap (λ xs. xor_bytes xs stream) (take_all n text (omega arith))
+
+-- counter blocks that differ in the last byte alone
+pub run_block : (nonce : List ℕ) (i j last : ℕ) → length nonce ≡ 12 → (1 + i) / 256 ≡ (1 + j) / 256 → last ≡ (1 + j) % 256
+    → take 15 (counter_block nonce i) ++ last ∷ [] ≡ counter_block nonce j
+unfolding counter_block
+run_block nonce i j last size same is =
+    let m = (1 + i) % 2 ^ 32 in
+    let n = (1 + j) % 2 ^ 32 in
+    let high : m / 256 ≡ n / 256 = omega arith in
+    let b3 : m / 16777216 % 256 ≡ n / 16777216 % 256 = omega arith in
+    let b2 : m / 65536 % 256 ≡ n / 65536 % 256 = omega arith in
+    let b1 : m / 256 % 256 ≡ n / 256 % 256 = omega arith in
+    let b0 : last ≡ n % 256 = omega arith in
+    let place : 15 ≡ length nonce + 3 = omega arith in
+    ap (λ k. take k (nonce ++ i2osp m 4) ++ last ∷ []) place
+    ∙ ap (λ xs. xs ++ last ∷ []) (take-append-add nonce (i2osp m 4) 3)
+    ∙ append_assoc nonce (m / 16777216 % 256 ∷ m / 65536 % 256 ∷ m / 256 % 256 ∷ []) (last ∷ [])
+    ∙ ap (λ x. nonce ++ x ∷ m / 65536 % 256 ∷ m / 256 % 256 ∷ last ∷ []) b3
+    ∙ ap (λ x. nonce ++ n / 16777216 % 256 ∷ x ∷ m / 256 % 256 ∷ last ∷ []) b2
+    ∙ ap (λ x. nonce ++ n / 16777216 % 256 ∷ n / 65536 % 256 ∷ x ∷ last ∷ []) b1
+    ∙ ap (λ x. nonce ++ n / 16777216 % 256 ∷ n / 65536 % 256 ∷ n / 256 % 256 ∷ x ∷ []) b0
 
 -- the counter block after a counter block
 pub counter_block-next : (nonce : List ℕ) (i : ℕ) → length nonce ≡ 12 → counter_block nonce (i + 1) ≡ inc32 (counter_block nonce i)

@@ -1,6 +1,6 @@
 //! Sums of blocks, and of a text and blocks of a key stream.
 
-ghost use Rattle.std.specs.Prelude.{◌≡◌, ◌≤◌, ◌+◌, ◌-◌, ◌++◌, length, take, drop, min};
+ghost use Rattle.std.specs.Prelude.{◌≡◌, ◌≤◌, ◌+◌, ◌++◌, length, take, drop};
 ghost use Rattle.byte_strings.specs.Bytes.{xor_bytes};
 
 use crate::counters::Block;
@@ -24,18 +24,14 @@ pub(crate) fn add_block_at(out: &mut [u8], text: &[u8], at: usize, stream: &Bloc
     sum.copy_to_slice(&mut out[at..]);
 }
 
-// Writes at most 16 bytes of the text from `at` on, with a block of the key stream added, and tells
-// how many they were.
-pub(crate) fn add_at(out: &mut [u8], text: &[u8], at: usize, stream: &Block) -> usize
+// Writes the rest of the text, from `at` on, with a block of the key stream added.
+pub(crate) fn add_rest(out: &mut [u8], text: &[u8], at: usize, stream: &Block)
     requires within { at ≤ length text.now }
+    requires short { length text.now ≤ at + 16 }
     requires room { length out.old ≡ length text.now }
-    ensures count { result ≡ min (length text.now - at) 16 }
-    ensures bytes { take (at + result) out.new
-        ≡ take at out.old ++ xor_bytes (take result (drop at text.now)) stream.now }
+    ensures { out.new ≡ take at out.old ++ xor_bytes (drop at text.now) stream.now }
 {
-    let count = (text.len() - at).min(16);
-    for i in 0..count {
+    for i in 0..text.len() - at {
         out[at + i] = text[at + i] ^ stream[i];
     }
-    count
 }

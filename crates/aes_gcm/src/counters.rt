@@ -1,6 +1,6 @@
 //! Counter blocks (SP 800-38D, 6.2 and 7.1).
 
-ghost use Rattle.std.specs.Prelude.{◌≡◌, ◌<◌, ◌^◌};
+ghost use Rattle.std.specs.Prelude.{◌≡◌, ◌<◌, ◌^◌, take};
 ghost use Rattle.aes_gcm.specs.Gcm.{counter_block};
 
 /// A block of the cipher.
@@ -17,4 +17,14 @@ pub(crate) fn counter_block(nonce: &[u8; 12], i: u64) -> Block
     block[..12].copy_from_slice(nonce);
     block[12..].copy_from_slice(&counter.to_be_bytes());
     block
+}
+
+// The first 15 bytes of counter block `i`, and of each whose counter differs in the last byte alone.
+pub(crate) fn run_front(nonce: &[u8; 12], i: u64) -> [u8; 15]
+    requires { i < 2 ^ 63 }
+    ensures { result ≡ take 15 (counter_block nonce.now i) }
+{
+    let mut front = [0u8; 15];
+    front.copy_from_slice(&counter_block(nonce, i)[..15]);
+    front
 }

@@ -4,9 +4,9 @@ ghost use Rattle.std.specs.Prelude.{◌≡◌, ◌≤◌, ◌<◌, ◌+◌, ◌-
 ghost use Rattle.aes_block.specs.Cipher.{IsKey, cipher};
 ghost use Rattle.aes_gcm.specs.Gcm.{hash_key, counter_block, gctr_from, gctr, hash_of, tag_of, seal, Holds, clear};
 
-use crate::adding::{add_at, add_block_at, add_blocks};
+use crate::adding::{add_block_at, add_blocks, add_rest};
 use crate::checks::Checks;
-use crate::counters::{Block, counter_block};
+use crate::counters::{Block, counter_block, run_front};
 use aes_block::AesKey;
 use ghash_core::{Ghash, GhashKey};
 use std::marker::Model;
@@ -84,29 +84,41 @@ impl GcmKey {
         self.aes.encrypt_block(&counter_block(nonce, i))
     }
 
-    // Adds the key stream, four counter blocks at a time while there are 64 bytes, and tells how
-    // many blocks that were.
-    fn add_fours(&self, nonce: &[u8; 12], text: &[u8], out: &mut [u8]) -> usize
-        requires { length out.old ≡ length text.now }
+    // Adds the key stream to the blocks of a text from block `from` to before block `to`. Their
+    // counters differ in the last byte alone.
+    fn add_run(&self, nonce: &[u8; 12], from: usize, to: usize, text: &[u8], out: &mut [u8])
+        requires order { from ≤ to }
+        requires one_run { to + 2 ≤ (from + 2) / 256 * 256 + 256 }
+        requires within { 16 * to ≤ length text.now }
+        requires room { length out.old ≡ length text.now }
         ensures size { length out.new ≡ length text.now }
-        ensures within { 16 * result ≤ length text.now }
+        ensures sum { (whole : List ℕ) → take (16 * from) out.old
+            ++ gctr_from self.now nonce.now (from + 1) (drop (16 * from) text.now) ≡ whole
+            → take (16 * to) out.new
+            ++ gctr_from self.now nonce.now (to + 1) (drop (16 * to) text.now) ≡ whole }
+    {
+        let run = self.aes.run(&run_front(nonce, from as u64 + 1));
+        for k in from..to {
+            let stream = run.encrypt(((k + 2) % 256) as u8);
+            add_block_at(out, text, 16 * k, &stream);
+        }
+    }
+
+    // Adds the key stream to the whole blocks of a text, and tells how many they are.
+    fn add_blocks_of(&self, nonce: &[u8; 12], text: &[u8], out: &mut [u8]) -> usize
+        requires { length out.old ≡ length text.now }
+        ensures count { result ≡ length text.now / 16 }
+        ensures size { length out.new ≡ length text.now }
         ensures sum { take (16 * result) out.new
             ++ gctr_from self.now nonce.now (result + 1) (drop (16 * result) text.now)
             ≡ gctr self.now nonce.now text.now }
     {
-        let mut blocks = 0usize;
-        'fours: while text.len() - 16 * blocks >= 64 {
-            let at = 16 * blocks;
-            let next = blocks as u64 + 1;
-            let first = self.stream_block(nonce, next);
-            let second = self.stream_block(nonce, next + 1);
-            let third = self.stream_block(nonce, next + 2);
-            let fourth = self.stream_block(nonce, next + 3);
-            add_block_at(out, text, at, &first);
-            add_block_at(out, text, at + 16, &second);
-            add_block_at(out, text, at + 32, &third);
-            add_block_at(out, text, at + 48, &fourth);
-            blocks += 4;
+        let blocks = text.len() / 16;
+        let mut done = 0usize;
+        'runs: while done < blocks {
+            let next = ((done + 2) / 256 * 256 + 254).min(blocks);
+            self.add_run(nonce, done, next, text, out);
+            done = next;
         }
         blocks
     }
@@ -116,13 +128,10 @@ impl GcmKey {
         requires { length out.old ≡ length text.now }
         ensures { out.new ≡ gctr self.now nonce.now text.now }
     {
-        let blocks = self.add_fours(nonce, text, out);
-        let mut done = 16 * blocks;
-        let mut i = blocks as u64 + 1;
-        while done < text.len() {
-            let stream = self.stream_block(nonce, i);
-            done += add_at(out, text, done, &stream);
-            i += 1;
+        let blocks = self.add_blocks_of(nonce, text, out);
+        if 16 * blocks < text.len() {
+            let stream = self.stream_block(nonce, blocks as u64 + 1);
+            add_rest(out, text, 16 * blocks, &stream);
         }
     }
 

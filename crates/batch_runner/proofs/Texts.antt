@@ -1,4 +1,4 @@
--- Answers that are those of a rehearsal have its text.
+-- Answers that are those of a rehearsal, or of lanes that threads served, have its text.
 use Rattle.std.proofs.Common.{◌≡◌, ℕ, List, Option, subst}
 use Rattle.std.specs.List.{concat}
 use Rattle.hpke_context.specs.Contexts.{ContextView}
@@ -6,13 +6,12 @@ use Rattle.batch_plans.specs.declared.plan.Plan.{Plan}
 use Rattle.batch_plans.specs.declared.replies.KeyReply.{KeyReply}
 use Rattle.batch_plans.specs.declared.replies.ContextReply.{ContextReply}
 use Rattle.batch_plans.specs.declared.replies.Answers.{Answers}
-use Rattle.batch_plans.specs.Limits.{IsWithinLimits}
 use Rattle.reply_texts.specs.ReplyText.{reply_lines, answers_text}
 use Rattle.due_replies.specs.Standing.{AreOfLines}
 use Rattle.due_replies.specs.Runs.{run_text}
 use Rattle.context_table.specs.SetUp.{IsSetUp}
 use Rattle.context_core.specs.Rehearsals.{rehearsed, AreAnswersOf}
-use Rattle.context_core.proofs.Allowed.{allowed}
+use Rattle.lane_workers.specs.Gathered.{AreOfARun}
 use Rattle.batch_runner.specs.Text.{IsReply, IsRehearsal}
 
 -- keys and contexts are answered as the set-up says, and the lanes as the rehearsal over its contexts
@@ -40,14 +39,27 @@ module _ (plan : Plan) (keys : List KeyReply) (contexts : List ContextReply)
     text_is = text;
   }
 
-  pub is_reply : IsWithinLimits plan → IsReply plan (answers_text plan answers)
-  is_reply within = record {
-    keys = keys;
-    contexts = contexts;
-    standing = standing;
-    set_up = t.set_up;
-    journals = (rehearsed plan standing schedule).journals;
-    guesses = (rehearsed plan standing schedule).guesses;
-    allowed = allowed plan standing schedule within t.lines;
-    text_is = text;
-  }
+-- ---- answers of lanes that threads served
+
+-- keys and contexts are answered as the set-up says, and the lanes as a run that is allowed
+pub record IsServed (plan : Plan) (keys : List KeyReply) (contexts : List ContextReply)
+    (standing : List (Option ContextView)) (answers : Answers) : Type 0 where
+  pub set_up : IsSetUp plan keys contexts standing
+  pub run : AreOfARun plan standing answers.lanes answers.journals
+  pub keys_are : answers.keys ≡ keys
+  pub contexts_are : answers.contexts ≡ contexts
+
+pub is_reply : (plan : Plan) (keys : List KeyReply) (contexts : List ContextReply)
+    (standing : List (Option ContextView)) (answers : Answers)
+    → IsServed plan keys contexts standing answers → IsReply plan (answers_text plan answers)
+is_reply plan keys contexts standing answers t = record {
+  keys = keys;
+  contexts = contexts;
+  standing = standing;
+  set_up = t.set_up;
+  journals = answers.journals;
+  guesses = t.run.guesses;
+  allowed = t.run.allowed;
+  text_is = (λ i. concat (reply_lines plan.version (t.keys_are i) (t.contexts_are i) (t.run.lines i)
+      answers.journals));
+}

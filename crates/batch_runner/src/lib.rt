@@ -25,3 +25,5 @@ pub use serving::{serve_pure, serve_words};
 mod runs;
 #[cfg(test)]
 mod tests;
+#[cfg(test)]
+mod thread_tests;

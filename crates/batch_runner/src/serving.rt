@@ -15,6 +15,7 @@ ghost use Rattle.batch_runner.specs.Outcomes.{outcome_for};
 ghost use Rattle.batch_runner.specs.Text.{IsReplyBy, IsDue};
 ghost use Rattle.batch_words.specs.declared.commands.Command.{Command as Command_};
 ghost use Rattle.batch_words.specs.Words.{command_of};
+ghost use Rattle.batch_words.specs.Words.{IsWithin};
 
 use crate::answering::answers_to;
 use crate::outcomes::Outcome;
@@ -29,14 +30,16 @@ use std::sync::Wait;
 use std::thread::Threads;
 
 // Writes the replies to a plan.
-fn reply_to<R: Threads + Sync, K: Sink>(
+fn reply_to<R: Threads + Wait + Sync, K: Sink, G: Gate + Sync>(
     rt: &R,
     alloc: Global,
     plan: &Plan,
     command: &Command,
     sink: &mut K,
+    gate: &G,
 ) -> Outcome
-    requires { IsWithinLimits plan.now }
+    requires plan { IsWithinLimits plan.now }
+    requires command { IsWithin command.now }
     ensures outcomes { (result ≡ Outcome.Done) ⊎ (result ≡ Outcome.WriteFault)
         ⊎ (result ≡ Outcome.OutOfMemory) }
     ensures done { result ≡ Outcome.Done → (text : List ℕ) × IsReplyBy command.now plan.now text
@@ -47,7 +50,7 @@ fn reply_to<R: Threads + Sync, K: Sink>(
     ensures no_fault { result ≢ Outcome.WriteFault → K.faults sink.new ≡ K.faults sink.old }
     ensures unwritten { result ≡ Outcome.OutOfMemory → sink.new ≡ sink.old }
 {
-    let Ok(answers) = answers_to(rt, alloc, plan, command) else {
+    let Ok(answers) = answers_to(rt, alloc, plan, command, gate) else {
         return Outcome::OutOfMemory;
     };
     match print_answers(plan, &answers, sink) {
@@ -77,13 +80,15 @@ fn tell_bad<K: Sink>(bad: &BadBatch, sink: &mut K) -> Outcome
 }
 
 // Writes a text that is due for an input.
-fn answer_input<R: Threads + Sync, K: Sink>(
+fn answer_input<R: Threads + Wait + Sync, K: Sink, G: Gate + Sync>(
     rt: &R,
     alloc: Global,
     input: &[u8],
     command: &Command,
     sink: &mut K,
+    gate: &G,
 ) -> Outcome
+    requires { IsWithin command.now }
     ensures outcomes { (result ≡ outcome_for (batch input.now)) ⊎ (result ≡ Outcome.WriteFault)
         ⊎ (result ≡ Outcome.OutOfMemory) }
     ensures whole { result ≡ outcome_for (batch input.now) → (text : List ℕ)
@@ -97,7 +102,7 @@ fn answer_input<R: Threads + Sync, K: Sink>(
     ensures unwritten { result ≡ Outcome.OutOfMemory → sink.new ≡ sink.old }
 {
     match read_batch(alloc, input) {
-        Ok(plan) => reply_to(rt, alloc, &plan, command, sink),
+        Ok(plan) => reply_to(rt, alloc, &plan, command, sink, gate),
         Err(fault) => match fault {
             ReadBatchFault::Bad(bad) => tell_bad(&bad, sink),
             ReadBatchFault::OutOfMemory => Outcome::OutOfMemory,
@@ -106,13 +111,15 @@ fn answer_input<R: Threads + Sync, K: Sink>(
 }
 
 // Reads a batch and answers it by a command.
-fn answer<R: Threads + Sync, S: Source, K: Sink>(
+fn answer<R: Threads + Wait + Sync, S: Source, K: Sink, G: Gate + Sync>(
     rt: &R,
     alloc: Global,
     command: &Command,
     source: &mut S,
     sink: &mut K,
+    gate: &G,
 ) -> Outcome
+    requires { IsWithin command.now }
     ensures usage { result ≢ Outcome.Usage }
     ensures done { result ≡ Outcome.Done → (input : List ℕ)
         × IsInput (S.left source.old) (S.left source.new) input × IsOk (batch input)
@@ -145,7 +152,7 @@ fn answer<R: Threads + Sync, S: Source, K: Sink>(
         → (result ≡ outcome_for (batch input)) ⊎ (result ≡ Outcome.OutOfMemory) }
 {
     match read_input(alloc, source) {
-        Ok(input) => answer_input(rt, alloc, &input, command, sink),
+        Ok(input) => answer_input(rt, alloc, &input, command, sink, gate),
         Err(ReadStop::Fault) => Outcome::ReadFault,
         Err(ReadStop::OutOfMemory) => Outcome::OutOfMemory,
     }
@@ -159,8 +166,9 @@ fn answer<R: Threads + Sync, S: Source, K: Sink>(
 /// contexts, which the text itself prints; for `rehearse` the replies along the journals of its
 /// schedule; and for either the first bad line of an input that is no batch. At most 67,108,865
 /// bytes are taken, each turn of the reading takes one at least, and all memory that the answers
-/// need is taken before the first call is answered. `run` serves the lanes one after another,
-/// however many workers the words ask for, and `gate` is told nothing.
+/// need is taken before the first call is answered. `run` serves the lanes by so many workers as the
+/// words ask for, on contexts that they share, and tells `gate` of each draw, each guess and each
+/// call that is answered; it may wait. `rehearse` serves them on one thread, and tells it nothing.
 ///
 /// The input is what the source tells, and the text written what the sink tells; over ends that
 /// tell nothing the clauses speak of the outcomes and the counts of faults alone.
@@ -170,7 +178,7 @@ pub fn serve_words<R: Threads + Wait + Sync, S: Source, K: Sink, G: Gate + Sync>
     words: &[String],
     source: &mut S,
     sink: &mut K,
-    _gate: &G,
+    gate: &G,
 ) -> Outcome
     ensures usage { result ≢ Outcome.OutOfMemory
         → ((result ≡ Outcome.Usage) ↔ (command_of (map string_bytes words.now) ≡ None)) }
@@ -218,7 +226,7 @@ pub fn serve_words<R: Threads + Wait + Sync, S: Source, K: Sink, G: Gate + Sync>
         → (result ≡ outcome_for (batch input)) ⊎ (result ≡ Outcome.OutOfMemory) }
 {
     match read_words(alloc, words) {
-        Ok(Some(command)) => answer(rt, alloc, &command, source, sink),
+        Ok(Some(command)) => answer(rt, alloc, &command, source, sink, gate),
         Ok(None) => Outcome::Usage,
         Err(_) => Outcome::OutOfMemory,
     }

@@ -2,7 +2,7 @@
 
 use crate::runs::{BAD, EXCHANGES, RUNS, SCHEDULED};
 use crate::{Outcome, serve_pure, serve_words, status};
-use batch_io::{FreeGate, MemorySink, MemorySource, PureSink, PureSource};
+use batch_io::{FreeGate, Gate, MemorySink, MemorySource, PureSink, PureSource};
 use request_frames::Reason;
 use std::alloc::Global;
 use std::sync::Wait;
@@ -105,34 +105,45 @@ const RUN_WORDS: [&'static [&'static str]; 4] = [
 ];
 
 // The outcome of these words over a source and a sink.
-fn outcome_of<R: Threads + Wait + Sync>(
+fn outcome_of<R: Threads + Wait + Sync, G: Gate + Sync>(
     rt: &R,
     alloc: Global,
     words: &[&str],
     mut source: MemorySource,
     sink: &mut MemorySink,
+    gate: &G,
 ) -> Result<Outcome, Fail> {
     let mut owned = Vec::new(alloc);
     for word in words {
         owned.push(String::from_str(alloc, word)?)?;
     }
-    let gate = FreeGate::new();
-    Ok(serve_words(rt, alloc, &owned, &mut source, sink, &gate))
+    Ok(serve_words(rt, alloc, &owned, &mut source, sink, gate))
 }
 
-// The text that an input is answered, and the outcome.
-fn answer_to<R: Threads + Wait + Sync>(
+// The text that an input is answered, and the outcome, where the lanes tell this gate their points.
+pub fn gated_answer_to<R: Threads + Wait + Sync, G: Gate + Sync>(
+    rt: &R,
+    alloc: Global,
+    words: &[&str],
+    input: &str,
+    step: usize,
+    gate: &G,
+) -> Result<(Outcome, MemorySink), Fail> {
+    let input = input.as_bytes().to_vec(alloc)?;
+    let source = MemorySource::new(input, step.max(1), Vec::new(alloc));
+    let mut sink = MemorySink::new(vec![in alloc; 0; 32_768]?, 4096, Vec::new(alloc));
+    let outcome = outcome_of(rt, alloc, words, source, &mut sink, gate)?;
+    Ok((outcome, sink))
+}
+
+pub fn answer_to<R: Threads + Wait + Sync>(
     rt: &R,
     alloc: Global,
     words: &[&str],
     input: &str,
     step: usize,
 ) -> Result<(Outcome, MemorySink), Fail> {
-    let input = input.as_bytes().to_vec(alloc)?;
-    let source = MemorySource::new(input, step.max(1), Vec::new(alloc));
-    let mut sink = MemorySink::new(vec![in alloc; 0; 32_768]?, 4096, Vec::new(alloc));
-    let outcome = outcome_of(rt, alloc, words, source, &mut sink)?;
-    Ok((outcome, sink))
+    gated_answer_to(rt, alloc, words, input, step, &FreeGate::new())
 }
 
 #[test]
@@ -226,7 +237,7 @@ fn a_fault_leaves_a_front_of_the_text(rt: HostRuntime) -> Result<(), Fail> {
         let room = vec![in alloc; 0; 64]?;
         let step = case.sink_step.max(1);
         let mut sink = MemorySink::new(room, step, case.failing_writes.to_vec(alloc)?);
-        let outcome = outcome_of(&rt, alloc, &["run"], source, &mut sink)?;
+        let outcome = outcome_of(&rt, alloc, &["run"], source, &mut sink, &FreeGate::new())?;
         assert_eq!(rt; outcome, case.outcome, "{name}");
         assert_eq!(rt; sink.bytes(), case.written.as_bytes(), "{name}");
     }
@@ -240,7 +251,7 @@ fn other_words_read_and_write_nothing(rt: HostRuntime) -> Result<(), Fail> {
         // A call of either end would be a fault.
         let source = MemorySource::new(Vec::new(alloc), 1, [1].to_vec(alloc)?);
         let mut sink = MemorySink::new(Vec::new(alloc), 1, [1].to_vec(alloc)?);
-        let outcome = outcome_of(&rt, alloc, words, source, &mut sink)?;
+        let outcome = outcome_of(&rt, alloc, words, source, &mut sink, &FreeGate::new())?;
         assert_eq!(rt; outcome, Outcome::Usage);
     }
     Ok(())
@@ -263,4 +274,23 @@ fn statuses_are_those_of_the_manual(rt: HostRuntime) {
     for (outcome, want) in rows {
         assert_eq!(rt; status(&outcome), want);
     }
+}
+
+// Numbers of lanes that aren't there do nothing: so the text is that of no schedule.
+#[test]
+fn the_longest_schedule_is_taken(rt: HostRuntime) -> Result<(), Fail> {
+    let alloc = rt.alloc();
+    let mut steps = String::from_str(alloc, "15")?;
+    for _ in 1..65_536 {
+        steps.push_str(",15")?;
+    }
+    let (_, none) = answer_to(&rt, alloc, &["rehearse", "-"], RUNS[1].input, 4096)?;
+    let (outcome, sink) = answer_to(&rt, alloc, &["rehearse", &steps], RUNS[1].input, 4096)?;
+    assert_eq!(rt; outcome, Outcome::Done);
+    assert_eq!(rt; sink.bytes(), none.bytes());
+    steps.push_str(",15")?;
+    let (outcome, sink) = answer_to(&rt, alloc, &["rehearse", &steps], RUNS[1].input, 4096)?;
+    assert_eq!(rt; outcome, Outcome::Usage);
+    assert_eq!(rt; sink.bytes(), b"".as_slice());
+    Ok(())
 }

@@ -1,10 +1,10 @@
--- The entries of one call, which stand side by side.
-use Rattle.std.proofs.Common.{◌≡◌, ℕ, suc, ◌+◌, ◌<◌, ◌≤◌, List, [], ◌∷◌, ◌++◌, length, inr, refl, ap, ◌∙◌, arith}
+-- The places and the entries of one call, which stand side by side.
+use Rattle.std.proofs.Common.{◌≡◌, ℕ, zero, suc, ◌+◌, ◌<◌, ◌≤◌, List, [], ◌∷◌, ◌++◌, length, inr, refl, ap, ◌∙◌, arith}
 use Rattle.std.specs.List.{range_with_len}
 use Rattle.call_places.specs.declared.entries.Entry.{Entry}
 use Rattle.call_places.specs.declared.entries.Step.{Step}
 use Rattle.call_places.specs.Entries.{IsOwn, CallsWithin, PlacesRise, stamps_of, StampsBelow}
-use Rattle.legal_journals.specs.Batches.{place}
+use Rattle.legal_journals.specs.Batches.{place, block}
 use Rattle.legal_journals.specs.Entries.{entry, entries_from}
 
 pub IsOwn-entries : (lane call item stamp : ℕ) (steps : List Step) → IsOwn lane (entries_from lane call item stamp steps)
@@ -44,3 +44,9 @@ entries-push lane call item stamp (x ∷ steps) s =
     let t : stamp + 1 + length steps ≡ stamp + suc (length steps) = omega arith in
     ap (λ (l : List Entry). entry (place lane call item) stamp x ∷ l)
     (entries-push lane call (item + 1) (stamp + 1) steps s ∙ (λ k. entries_from lane call (item + 1) (stamp + 1) steps ++ entry (place lane call (i k)) (t k) s ∷ []))
+
+-- ---- their places
+
+pub length-block : (lane call item n : ℕ) → length (block lane call item n) ≡ n
+length-block lane call item zero = refl
+length-block lane call item (suc n) = ap suc (length-block lane call (item + 1) n)

@@ -17,6 +17,7 @@ use Rattle.core_schedules.proofs.Lists.{one_value}
 use Rattle.core_schedules.proofs.Steps.{Fresh, HasPlaces, placed}
 use Rattle.core_schedules.proofs.Matching.{drop_at}
 use Rattle.context_books.specs.Books.{BookView}
+use Rattle.context_books.proofs.Blocks.{length-block}
 use Rattle.batch_plans.specs.declared.plan.Plan.{Plan}
 use Rattle.due_replies.specs.Standing.{standing_at}
 use Rattle.due_replies.specs.Asks.{batch_of}
@@ -27,10 +28,6 @@ use Rattle.context_core.proofs.Histories.{stamped_on-append, stamped_on-block, s
 use Rattle.context_core.proofs.Allowed.{within_contexts}
 
 -- ---- the places of a call among those of its lane
-
-length-block : (l k i n : ℕ) → length (block l k i n) ≡ n
-length-block l k i zero = refl
-length-block l k i (suc n) = ap suc (length-block l k (i + 1) n)
 
 length-spots : (c : ℕ) (ps : List Place) → length (spots c ps) ≡ length ps
 length-spots c [] = refl
@@ -211,3 +208,17 @@ module _ (plan : Plan) (contexts : List (Option ContextView)) (h : List Spot) (o
           ∙ sym (length-append h (asked l k a));
       checks = (let p = adds.places in let q = adds.checks in let r = t.checks in omega arith);
     }
+
+-- ---- a book that is read
+
+-- the book that is read is the one of its number
+pub book_read : (books : List (Option BookView)) (number : ℕ) (book read : BookView)
+    (found : Option BookView) → slice_index_or books number None ≡ Some book
+    → found ≡ slice_index_or books number found → found ≡ Some read → read ≡ book
+book_read [] number book read found is here some = absurd (let f : None ≡ Some book = is in cc)
+book_read (b ∷ books) zero book read found is here some =
+    let first : b ≡ Some book = is in
+    let second : found ≡ b = here in
+    let both : Some read ≡ Some book = sym some ∙ second ∙ first in cc
+book_read (b ∷ books) (suc number) book read found is here some =
+    book_read books number book read found is here some

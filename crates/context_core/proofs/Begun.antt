@@ -1,16 +1,13 @@
 -- Lanes and books before the first step follow the start of the core.
-use Rattle.std.proofs.Common.{◌≡◌, ◌<◌, ◌≤◌, ◌^◌, ℕ, zero, suc, ◌+◌, ◌==◌, Bool, true, false, cond, List, [], ◌∷◌, ◌++◌, length, map, take, drop, get_or, sym, refl, ap, ◌∙◌, subst, arith, Option, Some, None, inl, inr, length-append, if◌then◌else◌}
+use Rattle.std.proofs.Common.{◌≡◌, ◌<◌, ◌≤◌, ◌^◌, ℕ, List, [], ◌∷◌, ◌++◌, length, map, take, drop, get_or, sym, refl, ap, ◌∙◌, subst, arith, Option, Some, None, inl, inr}
 use Rattle.std.specs.Prelude.{slice_get, slice_index_or, sum_by, option_map}
 use Rattle.std.specs.List.{All, range_with_len}
 use Rattle.std.proofs.lemmas.Bool.{cases_lt}
 use Rattle.std.proofs.lemmas.List.{length-map, length-replicate, get_or_past, get_or-map}
 use Rattle.std.proofs.lemmas.List.FromFn.{get_or-map-range_with_len, length-map-range_with_len}
-use Rattle.std.proofs.lemmas.List.Sums.{sum_by-cons}
-use Rattle.std.proofs.lemmas.List.Elements.{All-head, All-tail}
 use Rattle.std.proofs.lemmas.Option.{slice_get-map, slice_get_within, slice_get-get_or, get_or_from_slice_get}
 use Rattle.hpke_context.specs.Contexts.{ContextView}
-use Rattle.legal_journals.specs.Batches.{Batch, Ask, spots, block, asked, all_asked, items_in, lane_of, lane_places, on}
-use Rattle.legal_journals.proofs.Lists.{on-append, on-spots}
+use Rattle.legal_journals.specs.Batches.{Batch, Ask, all_asked, lane_of, on}
 use Rattle.core_schedules.specs.Core as core
 use Rattle.core_schedules.specs.Core.{Core, all_tasks, at_first, start}
 use Rattle.core_schedules.proofs.Steps as core_steps
@@ -18,98 +15,27 @@ use Rattle.core_schedules.proofs.Steps.{tasks_at, placed}
 use Rattle.core_schedules.proofs.Matching.{lane_at}
 use Rattle.context_books.specs.Books.{BookView}
 use Rattle.batch_plans.specs.declared.plan.Plan.{Plan}
-use Rattle.batch_plans.specs.declared.plan.CallLine.{CallLine}
-use Rattle.batch_plans.specs.declared.plan.CallLine.TheVariants as calls
-use Rattle.batch_plans.specs.declared.replies.CallRefusal.{CallRefusal}
 use Rattle.batch_plans.specs.declared.replies.LaneAnswers.{LaneAnswers}
-use Rattle.batch_plans.specs.Limits.{IsCallWithin, IsWithinLimits}
-use Rattle.batch_plans.specs.Calls.{items_at, items_on, if_served}
+use Rattle.batch_plans.specs.Limits.{IsWithinLimits}
 use Rattle.batch_plans.specs.Room.{lane_room, call_room}
 use Rattle.batch_plans.specs.Progress.{begun}
 use Rattle.batch_plans.proofs.Rooms.{lane_within, lane_is_small}
-use Rattle.due_replies.specs.Standing.{call_refusal, export_limits, AreOfLines}
-use Rattle.due_replies.specs.Asks.{asked_by, ask_unless, ask_of, batch_of}
-use Rattle.due_replies.proofs.Done.{lane_asks, length-messages}
+use Rattle.due_replies.specs.Standing.{export_limits, AreOfLines}
+use Rattle.due_replies.specs.Asks.{ask_of, batch_of}
 use Rattle.lane_replies.specs.Answered.{HasRoomFor}
 use Rattle.lane_replies.proofs.Answering.{answered_begun}
 use Rattle.lane_replies.proofs.Rooms.{room_begun}
 use Rattle.context_core.specs.declared.books.Books.{Books}
 use Rattle.context_core.specs.declared.lanes.Lane.{Lane}
 use Rattle.context_core.specs.Books.{book_at}
-use Rattle.context_core.specs.Following.{run_of, lane_calls, core_stage, AreBooks, Answered, IsLane, IsAt, IsRehearsal}
-use Rattle.context_core.specs.Preparing.{lane_quota, fresh_in, fresh_at, IsFresh, AreFresh, with_answers}
+use Rattle.lane_replies.specs.LaneCalls.{lane_calls}
+use Rattle.context_core.specs.Following.{core_stage, AreBooks, Answered, IsLane, IsAt, IsRehearsal}
+use Rattle.lane_quotas.specs.Quotas.{lane_quota}
+use Rattle.context_core.specs.Preparing.{fresh_in, fresh_at, IsFresh, AreFresh, with_answers}
 use Rattle.context_core.proofs.Allowed.{within_contexts}
 use Rattle.context_core.proofs.Adding.{nothing_placed}
 use Rattle.context_core.proofs.Runs.{guesses_are, has_done, all_served}
-use Rattle.context_core.proofs.Quotas.{counted, refused_call}
-
--- ---- the places that a lane asks for on one context
-
-module _ (plan : Plan) (contexts : List (Option ContextView)) (t : AreOfLines plan.contexts contexts)
-    (number : ℕ) where
-  abbrev limits : List ℕ
-  limits = export_limits contexts
-
-  abbrev count : CallLine → ℕ
-  count = items_on plan.contexts limits number
-
-  on_block : (l k c n items : ℕ) → length (block l k 0 n) ≡ items
-      → length (on number (spots c (block l k 0 n))) ≡ (if c == number then items else 0)
-  on_block l k c n items size =
-      ap length (on-spots number c (block l k 0 n)) ∙ step (c == number)
-    where
-      step : (b : Bool) → length (cond b (block l k 0 n) []) ≡ (if b then items else 0)
-      step true = size
-      step false = refl
-
-  on_call : (l k : ℕ) (call : CallLine) (refusal : Option CallRefusal)
-      → call_refusal contexts call ≡ refusal
-      → IsCallWithin (length plan.items) (length plan.pool) call
-      → length (on number (asked l k (ask_unless refusal (asked_by plan call)))) ≡ count call
-  on_call l k call (Some why) is within =
-      sym (refused_call plan.contexts contexts t number call why is)
-  on_call l k (calls.Seal c item) None is within =
-      on_block l k c 1 1 refl
-      ∙ ap (λ r. items_at (if_served r c) number 1) (sym is)
-      ∙ sym (counted plan.contexts contexts t number (calls.Seal c item) tt)
-  on_call l k (calls.Unseal c item) None is within =
-      on_block l k c 1 1 refl
-      ∙ ap (λ r. items_at (if_served r c) number 1) (sym is)
-      ∙ sym (counted plan.contexts contexts t number (calls.Unseal c item) tt)
-  on_call l k (calls.UnsealAll c first n) None is within =
-      let call = calls.UnsealAll c first n in
-      let size = length-messages plan.items plan.pool first n within.3 in
-      on_block l k c (length (items_in (asked_by plan call))) n
-      (block_size (length (items_in (asked_by plan call))) 0 ∙ size)
-      ∙ ap (λ r. items_at (if_served r c) number n) (sym is)
-      ∙ sym (counted plan.contexts contexts t number call tt)
-    where
-      block_size : (n i : ℕ) → length (block l k i n) ≡ n
-      block_size zero i = refl
-      block_size (suc n) i = ap suc (block_size n (i + 1))
-  on_call l k (calls.Export c exporter size) None is within = refl
-
-  on_calls : (l k : ℕ) (calls : List CallLine)
-      → All (IsCallWithin (length plan.items) (length plan.pool)) calls
-      → length (on number (all_asked l k (map (ask_of plan contexts) calls))) ≡ sum_by count calls
-  on_calls l k [] all = refl
-  on_calls l k (call ∷ calls) all =
-      let P = IsCallWithin (length plan.items) (length plan.pool) in
-      let first = asked l k (ask_of plan contexts call) in
-      let rest = all_asked l (k + 1) (map (ask_of plan contexts) calls) in
-      ap length (on-append number first rest) ∙ length-append (on number first) (on number rest)
-      ∙ (λ i. on_call l k call (call_refusal contexts call) refl (All-head P call calls all) i
-      + on_calls l (k + 1) calls (All-tail P call calls all) i)
-      ∙ sym (sum_by-cons count call calls)
-
-  -- as many as its quota
-  pub quota_is : IsWithinLimits plan → (l : ℕ) → l < length plan.lanes
-      → length (lane_places number l (lane_of (batch_of plan contexts) l))
-      ≡ lane_quota plan contexts number (lane_calls plan l)
-  quota_is within l low =
-      let w : Core = record { history = []; lanes = [] } in
-      ap (λ asks. length (lane_places number l asks)) (lane_asks (run_of plan contexts w) l)
-      ∙ on_calls l 0 (lane_calls plan l) (lane_within plan within l [] low).lines
+use Rattle.lane_quotas.proofs.Places.{quota_is}
 
 -- ---- the start
 

@@ -1,21 +1,18 @@
 -- Lanes and books after the last step have the answers of the rehearsed run.
-use Rattle.std.proofs.Common.{◌≡◌, ◌<◌, ◌≤◌, ℕ, zero, suc, ◌+◌, List, [], ◌∷◌, length, map, take, drop, get_or, sym, refl, ap, ◌∙◌, subst, arith, Option, Some, None, inl, inr}
+use Rattle.std.proofs.Common.{◌≡◌, ◌<◌, ◌≤◌, ℕ, zero, suc, ◌+◌, List, [], ◌∷◌, length, map, take, drop, get_or, sym, refl, ap, ◌∙◌, subst, arith, Option, Some, None}
 use Rattle.std.specs.Prelude.{slice_get, replicate}
 use Rattle.std.specs.List.{All, range_with_len, refill}
-use Rattle.std.proofs.lemmas.Bool.{cases_lt}
 use Rattle.std.proofs.lemmas.List.{length-map, length-replicate, take_all, take-append-le, drop_all, nil_from_length}
 use Rattle.std.proofs.lemmas.List.FromFn.{fill_by_all, get_or-map-range_with_len}
 use Rattle.std.proofs.lemmas.Option.{slice_get-get_or, get_or_from_slice_get}
 use Rattle.call_places.specs.declared.entries.Mark.{Mark}
-use Rattle.call_places.specs.declared.entries.Place.{Place}
 use Rattle.call_places.specs.declared.entries.Entry.{Entry}
 use Rattle.hpke_context.specs.Answers.{Cipher}
 use Rattle.hpke_context.specs.Contexts.{ContextView}
-use Rattle.legal_journals.specs.Batches.{Batch, Ask, Nothing, ToSeal, ToOpen, ToOpenAll, lane_of, on, own_places}
+use Rattle.legal_journals.specs.Batches.{Batch, Ask, Nothing, ToSeal, ToOpen, ToOpenAll, lane_of, on}
 use Rattle.legal_journals.specs.Histories.{stamped_on, journals_of}
 use Rattle.legal_journals.proofs.Lists.{own_places-on}
-use Rattle.legal_journals.proofs.Members.{In, got}
-use Rattle.legal_journals.proofs.Places.{in_own}
+use Rattle.legal_journals.proofs.Members.{got}
 use Rattle.legal_journals.proofs.Legals.{lane_is}
 use Rattle.legal_journals.proofs.HistoryJournals.{places-stamped_on}
 use Rattle.core_schedules.specs.Core as core
@@ -40,12 +37,13 @@ use Rattle.context_core.specs.declared.books.Books.{Books}
 use Rattle.context_core.specs.declared.lanes.Lane.{Lane}
 use Rattle.context_core.specs.Rehearsals.{rehearsed}
 use Rattle.context_core.specs.Books.{book_at}
-use Rattle.context_core.specs.Following.{run_of, lane_calls, long_ends, core_stage, IsBookOf, IsRehearsal}
-use Rattle.context_core.specs.Preparing.{lane_quota, answers_of, IsEnded, written, HasRoom}
+use Rattle.lane_replies.specs.LaneCalls.{lane_calls}
+use Rattle.context_core.specs.Following.{run_of, long_ends, core_stage, IsBookOf, IsRehearsal}
+use Rattle.lane_quotas.specs.Journals.{written, HasRoom}
+use Rattle.context_core.specs.Preparing.{answers_of, IsEnded}
 use Rattle.context_core.proofs.Histories.{places_are}
 use Rattle.context_core.proofs.Runs.{guesses_are, grows}
-use Rattle.context_core.proofs.Counting.{count_parts, sum_numbers}
-use Rattle.context_core.proofs.Begun.{quota_is}
+use Rattle.lane_quotas.proofs.Places.{journal_count}
 use Rattle.context_core.proofs.Events.{ends_are}
 
 -- a list of the same length put over another
@@ -161,21 +159,9 @@ module _ (plan : Plan) (contexts : List (Option ContextView)) (schedule : List �
         ≡ all_items_on plan.contexts (export_limits contexts) n plan.lanes
     places_count n =
         let ps = on n last.history in
-        let own_none : (l : ℕ) → length plan.lanes ≤ l → own_places l ps ≡ [] = λ l high.
-        own_places-on l n last.history ∙ ap (on n) (t.others l high) in
-        let known : (p : Place) → In p ps → p.lane < length plan.lanes = λ p has.
-        elim (cases_lt p.lane (length plan.lanes)) [
-          | inl low ↦ low
-          | inr high ↦ absurd (subst (In p) (own_none p.lane high) (in_own p ps has))
-        ] in
-        let parts = count_parts (λ (p : Place). p.lane) (length plan.lanes) ps known in
-        let each = sum_numbers (λ l. length (own_places l ps))
-        (lane_quota plan contexts n) [] 0 plan.lanes
-        (λ i low. let start : 0 + i ≡ i = omega arith in
-        ap (λ l. length (own_places l ps)) start
-        ∙ ap length (lane_is batch n ps (journals_legal batch ciphers schedule n) i)
-        ∙ quota_is plan contexts standing n within i low) in
-        sym parts ∙ each
+        journal_count plan contexts standing n within ps
+        (λ l low. lane_is batch n ps (journals_legal batch ciphers schedule n) l)
+        (λ l high. own_places-on l n last.history ∙ ap (on n) (t.others l high))
 
     module _ (room : List (List Mark))
         (room_is : room ≡ map (journal_room plan.contexts (export_limits contexts) plan.lanes)

@@ -26,9 +26,11 @@ use Rattle.due_replies.specs.Asks.{batch_of, cipher_at, ask_of}
 use Rattle.due_replies.proofs.Done.{lane_asks}
 use Rattle.context_core.specs.declared.books.Books.{Books}
 use Rattle.context_core.specs.declared.lanes.Lane.{Lane}
-use Rattle.context_core.specs.Following.{run_of, long_ends, lane_calls, core_stage, IsLane, Follows, IsRehearsal}
+use Rattle.lane_replies.specs.LaneCalls.{lane_calls}
+use Rattle.context_core.specs.Following.{run_of, long_ends, core_stage, IsLane, Follows, IsRehearsal}
 use Rattle.context_core.proofs.Going.{lane_stays}
-use Rattle.context_core.proofs.Counting.{count_parts, sum_numbers-le, own-le, asks_size}
+use Rattle.lane_quotas.proofs.Sums.{count_parts, sum_numbers-le}
+use Rattle.context_core.proofs.Counting.{own-le, asks_size}
 
 module _ (plan : Plan) (contexts : List (Option ContextView)) where
   abbrev batch : Batch

@@ -1,11 +1,10 @@
 -- A lane that goes on with the core, and the others meanwhile.
-use Rattle.std.proofs.Common.{◌≡◌, ◌<◌, ◌≤◌, ℕ, ◌+◌, List, [], ◌∷◌, ◌++◌, length, take, drop, sym, refl, ap, ◌∙◌, subst, arith, Option, Some, None, append_assoc, length-append}
+use Rattle.std.proofs.Common.{◌≡◌, ◌<◌, ◌≤◌, ℕ, ◌+◌, List, [], ◌∷◌, ◌++◌, length, take, drop, sym, refl, ap, ◌∙◌, subst, arith, Option, Some, None, append_assoc}
 use Rattle.std.specs.Prelude.{slice_get, slice_set}
-use Rattle.std.proofs.lemmas.List.Sums.{sum_by-append, sum_by-cons}
 use Rattle.std.proofs.lemmas.Option.{slice_get_within}
 use Rattle.hpke_context.specs.Answers.{Cipher}
 use Rattle.hpke_context.specs.Contexts.{ContextView, cipher_of}
-use Rattle.legal_journals.specs.Batches.{Batch, Ask, Nothing, ToSeal, ToOpen, ToOpenAll, Spot, asked, all_asked, lane_of, on}
+use Rattle.legal_journals.specs.Batches.{Batch, Ask, Spot, asked, all_asked, lane_of, on}
 use Rattle.legal_journals.specs.Guesses.{guess_of, guess_count}
 use Rattle.legal_journals.specs.Histories.{own_spots}
 use Rattle.legal_journals.proofs.Lists.{own_spots-append, append-nil}
@@ -28,11 +27,13 @@ use Rattle.due_replies.proofs.Placed.{fitting_places_are_served}
 use Rattle.due_replies.specs.Lanes.{done_lines}
 use Rattle.due_replies.proofs.Done.{done_lines_stay, done_lines_more, ask_at}
 use Rattle.lane_replies.specs.Answered.{HasAnswered, HasRoomFor}
+use Rattle.lane_replies.proofs.Guesses.{guesses_more}
 use Rattle.context_core.specs.declared.books.Books.{Books}
 use Rattle.context_core.specs.declared.lanes.Lane.{Lane}
 use Rattle.context_core.specs.declared.lanes.Stage.{Stage}
 use Rattle.context_core.specs.declared.lanes.Stage.TheVariants.{Fresh, Drawn, Guessed, Tested, Settled}
-use Rattle.context_core.specs.Following.{run_of, lane_calls, core_stage, AreBooks, IsBookOf, Answered, IsAt, HasTools, IsLane}
+use Rattle.lane_replies.specs.LaneCalls.{lane_calls}
+use Rattle.context_core.specs.Following.{run_of, core_stage, AreBooks, IsBookOf, Answered, IsAt, HasTools, IsLane}
 use Rattle.context_core.proofs.Histories.{places_are}
 use Rattle.context_core.proofs.Runs.{guesses_are, grows, stands_stay, has_done, all_served}
 use Rattle.context_core.proofs.Adding.{all_asked_more, nothing_placed}
@@ -146,24 +147,6 @@ module _ (plan : Plan) (contexts : List (Option ContextView)) where
 
   -- ---- the call is done
 
-  as_many : (a : Ask) (g : ℕ) → length (guess_of a g) ≡ length (guess_of a 0)
-  as_many Nothing g = refl
-  as_many (ToSeal c aad text) g = refl
-  as_many (ToOpen c aad ct) g = refl
-  as_many (ToOpenAll c ms) g = refl
-
-  counted : (asks : List Ask) (k : ℕ) (a : Ask) (gs : List ℕ) (g : ℕ) → slice_get asks k ≡ Some a
-      → length gs ≡ guess_count (take k asks)
-      → length (gs ++ guess_of a g) ≡ guess_count (take (k + 1) asks)
-  counted asks k a gs g at count =
-      let kept = λ (ask : Ask). length (guess_of ask 0) in
-      let one : guess_count (a ∷ []) ≡ length (guess_of a 0) + 0 = sum_by-cons kept a [] in
-      length-append gs (guess_of a g) ∙ (λ i. count i + as_many a g i)
-      ∙ (let e : guess_count (take k asks) + length (guess_of a 0) ≡ guess_count (take k asks)
-      + guess_count (a ∷ []) = omega (arith, one) in e)
-      ∙ sym (sum_by-append kept (take k asks) (a ∷ []))
-      ∙ ap guess_count (sym (taken_more asks k a at))
-
   module _ (within : IsWithinLimits plan) (standing : AreOfLines plan.contexts contexts)
       (w : Core) (l : ℕ) (lane : Lane) (books : Books) (follows : AreBooks plan contexts w.history books)
       (t : IsLane plan contexts w l lane) (call : CallLine)
@@ -220,7 +203,7 @@ module _ (plan : Plan) (contexts : List (Option ContextView)) where
         let history : w.history ++ [] ≡ w.history = append-nil w.history in
         let own_all : own_spots l (w.history ++ []) ≡ all_asked l 0 (take next asks) =
         ap (own_spots l) history ∙ own ∙ sym (all_asked_more l lane.call asks a asks_at) in
-        let size = counted asks lane.call a t.guesses t.guess asks_at t.count in
+        let size = guesses_more asks lane.call a t.guesses t.guess asks_at t.count in
         let books_after = books_same w.history books follows in
         let done = has_done plan contexts after l next (t.guesses ++ guess_of a t.guess)
         (few_on after.history books books_after standing.count) own_all guesses_after size in

@@ -1,7 +1,6 @@
 -- A history that grows by the places of a call: its journals, their marks, and entries that fit.
 use Rattle.std.proofs.Common.{◌≡◌, ◌<◌, ◌≤◌, ℕ, zero, suc, ◌+◌, ◌==◌, Bool, true, false, cond, List, [], ◌∷◌, ◌++◌, length, map, sym, refl, ap, ◌∙◌, subst, arith, Some, None, inl, inr, eq-eqb, ne_eqb, append_assoc, length-append}
-use Rattle.std.specs.Prelude.{slice_get, if◌then◌else◌, ◌↔◌}
-use Rattle.std.proofs.lemmas.Bool.{lt-ltb, le-ltb}
+use Rattle.std.specs.Prelude.{slice_get}
 use Rattle.std.proofs.lemmas.Simd.{map-map}
 use Rattle.std.proofs.lemmas.Option.{slice_get_within}
 use Rattle.call_places.specs.declared.entries.Place.{Place}
@@ -9,7 +8,7 @@ use Rattle.call_places.specs.declared.entries.Mark.{Mark}
 use Rattle.call_places.specs.declared.entries.Step.{Step}
 use Rattle.call_places.specs.declared.entries.Entry.{Entry}
 use Rattle.call_places.specs.Entries.{own, seq_of, mark_of, StampsBelow}
-use Rattle.hpke_context.specs.Answers.{Item, Seal, Cipher, Sealed_at, At_limit, answer, next}
+use Rattle.hpke_context.specs.Answers.{Item, Cipher, answer, next}
 use Rattle.legal_journals.specs.Batches.{Batch, Ask, Spot, spots, block, place, items_in, context_in, lane_of, on, own_places}
 use Rattle.legal_journals.specs.Legal.{due_after}
 use Rattle.legal_journals.specs.Histories.{mark, places, stamped_on, own_spots}
@@ -19,10 +18,6 @@ use Rattle.legal_journals.proofs.Lists.{own_places-on}
 use Rattle.legal_journals.proofs.Runs.{drop_step, item_here}
 use Rattle.legal_journals.proofs.HistoryJournals.{places-stamped_on, from}
 use Rattle.legal_journals.proofs.EntryNumbers.{EachFrom, to_each, from_each, last_number, last_is, number_next, number_due}
-use Rattle.context_books.specs.declared.book.Draw.{Draw}
-use Rattle.context_books.specs.declared.book.Draw.TheVariants.{Number, Limit}
-use Rattle.context_books.specs.Books.{drawn_step}
-use Rattle.lane_replies.specs.Writing.{due_at}
 
 -- ---- marks
 
@@ -143,25 +138,3 @@ pub due_is : (batch : Batch) (context : ℕ) (c : Cipher) (h : List Spot) (es : 
     → due_after batch c (on context h) ≡ seq_of es
 due_is batch context c h es is fits =
     ap (due_after batch c) (sym (places_are context h es is)) ∙ number_due batch context c es fits
-
--- ---- a draw
-
--- its step is the one of the sequential context, and its number the one that was due
-pub drawn_steps : (c : Cipher) (seq : ℕ) (aad text : List ℕ) (drawn : Draw)
-    → ((drawn ≡ Limit) ↔ (seq ≡ c.limit))
-    → ((n : ℕ) → drawn ≡ Number n → (n ≡ seq) × (n < c.limit))
-    → drawn_step drawn ≡ step_for (Seal aad text) (answer c seq (Seal aad text))
-drawn_steps c seq aad text (Number n) full is =
-    let t = is n refl in
-    let low : seq < c.limit = (let e : n ≡ seq = t.0 in let f : n < c.limit = t.1 in omega arith) in
-    sym (ap (λ b. step_for (Seal aad text)
-    (if b then Sealed_at seq (c.sealed seq aad text) else At_limit)) (lt-ltb seq c.limit low))
-drawn_steps c seq aad text Limit full is =
-    let high : c.limit ≤ seq = (let e : seq ≡ c.limit = full.0 refl in omega arith) in
-    sym (ap (λ b. step_for (Seal aad text)
-    (if b then Sealed_at seq (c.sealed seq aad text) else At_limit)) (le-ltb seq c.limit high))
-
-pub drawn_due : (limit seq : ℕ) (drawn : Draw) → ((drawn ≡ Limit) ↔ (seq ≡ limit))
-    → ((n : ℕ) → drawn ≡ Number n → (n ≡ seq) × (n < limit)) → seq ≡ due_at limit drawn
-drawn_due limit seq (Number n) full is = sym (is n refl).0
-drawn_due limit seq Limit full is = full.0 refl

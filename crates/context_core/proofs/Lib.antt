@@ -1,14 +1,11 @@
 pub mod Histories
-pub mod Misses
 pub mod Runs
 pub mod Allowed
 pub mod Adding
-pub mod Small
 pub mod Going
 pub mod Served
 pub mod Counting
 pub mod Events
-pub mod Quotas
 pub mod Fresh
 pub mod Begun
 pub mod Ended

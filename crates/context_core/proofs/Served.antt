@@ -52,12 +52,14 @@ use Rattle.context_core.specs.declared.lanes.Lane.{Lane}
 use Rattle.context_core.specs.declared.lanes.Stage.{Stage}
 use Rattle.context_core.specs.declared.lanes.Stage.TheVariants.{Fresh, Drawn, Guessed, Tested, Settled}
 use Rattle.context_core.specs.Books.{book_at, MayAdd, Adds, Draws, Settles}
-use Rattle.context_core.specs.Following.{run_of, lane_calls, opening_items, with_guess, IsOpening, core_stage, IsBookOf, Answered, IsAt, HasDrawn, HasTested, HasSettled, Opens, HasTools, IsLane, Follows}
-use Rattle.context_core.proofs.Histories.{due_is, drawn_steps, drawn_due}
+use Rattle.lane_replies.specs.LaneCalls.{lane_calls, opening_items, IsOpening}
+use Rattle.context_core.specs.Following.{run_of, with_guess, core_stage, IsBookOf, Answered, IsAt, HasDrawn, HasTested, HasSettled, Opens, HasTools, IsLane, Follows}
+use Rattle.lane_replies.proofs.Draws.{due_at-drawn, drawn_steps}
+use Rattle.context_core.proofs.Histories.{due_is}
 use Rattle.context_core.proofs.Runs.{guesses_are, journal_there, stands_stay}
 use Rattle.context_core.proofs.Allowed.{within_contexts}
 use Rattle.context_core.proofs.Adding.{nothing_placed, places_placed, may_add, books_more}
-use Rattle.context_core.proofs.Small.{opening_count, opening_asks, opening_context, opening_room, line_within}
+use Rattle.lane_replies.proofs.Within.{opening_count, opening_asks, opening_context, opening_room, line_within}
 use Rattle.context_core.proofs.Going.{gone, happens_is, still_answered, served_on, books_same, asks_at, after, finished}
 
 module _ (plan : Plan) (contexts : List (Option ContextView)) (within : IsWithinLimits plan)
@@ -410,7 +412,7 @@ module _ (plan : Plan) (contexts : List (Option ContextView)) (within : IsWithin
         (here ∙ ap Some seal_ask))) in
         subst (λ (v : Core). Follows plan contexts v l new new_books) (sym events) (record {
           lane_follows = drawn_lane new drawn fresh same stage progress rows steps b.0 b.1
-              (drawn_due view.limit (seq_of b.0.entries) drawn full number_is)
+              (sym (due_at-drawn view.limit (seq_of b.0.entries) drawn full number_is))
               (λ n e. (number_is n e).1);
           books_follow = books_more plan contexts w.history books t.books_follow l k a here view
               seal_stands new_books b.0 d.after (drawn_step drawn ∷ [])

@@ -1,8 +1,7 @@
 -- ---- for the proofs: how the state of the program follows that of the core.
-use Rattle.std.specs.Prelude.{ℕ, ◌≡◌, ◌+◌, ◌*◌, ◌<◌, ◌≤◌, ◌++◌, List, [], ◌∷◌, length, take, drop, map, replicate, slice_get, slice_index, slice_index_or, Option, Some, None}
+use Rattle.std.specs.Prelude.{ℕ, ◌≡◌, ◌+◌, ◌*◌, ◌<◌, ◌≤◌, ◌++◌, List, [], ◌∷◌, length, take, drop, map, replicate, slice_get, slice_index, Option, Some, None}
 use Rattle.std.specs.List.{All}
 use Rattle.call_places.specs.declared.entries.Place.{Place}
-use Rattle.call_places.specs.declared.spans.Item.{Item}
 use Rattle.call_places.specs.Entries.{mark_of}
 use Rattle.hpke_context.specs.Answers.{Cipher}
 use Rattle.hpke_context.specs.Contexts.{ContextView, cipher_of}
@@ -24,7 +23,7 @@ use Rattle.context_books.specs.Openings.{IsTableFor, unseals}
 use Rattle.batch_plans.specs.declared.plan.Plan.{Plan}
 use Rattle.batch_plans.specs.declared.plan.CallLine.{CallLine}
 use Rattle.batch_plans.specs.declared.plan.CallLine.TheVariants as calls
-use Rattle.batch_plans.specs.Limits.{items_of, items_from, IsWithinLimits}
+use Rattle.batch_plans.specs.Limits.{items_of, IsWithinLimits}
 use Rattle.batch_plans.specs.Calls.{context_of}
 use Rattle.batch_plans.specs.declared.replies.Batch.{Batch as Guess}
 use Rattle.batch_plans.specs.Progress.{Progress, with_batch}
@@ -35,6 +34,7 @@ use Rattle.due_replies.proofs.Staying.{JournalsAreServed}
 use Rattle.due_replies.specs.Lanes.{HasDone, done_lines}
 use Rattle.due_replies.proofs.CallLines.{StandsBehind}
 use Rattle.due_replies.specs.Runs.{guesses_of}
+use Rattle.lane_replies.specs.LaneCalls.{lane_calls, opening_items, IsOpening}
 use Rattle.lane_replies.specs.Writing.{due_at}
 use Rattle.lane_replies.specs.Answered.{HasAnswered, HasRoomFor}
 use Rattle.context_core.specs.declared.books.Books.{Books}
@@ -45,26 +45,10 @@ use Rattle.context_core.specs.Books.{book_at}
 
 -- ---- calls
 
-abbrev pub lane_calls : Plan → ℕ → List CallLine
-lane_calls plan lane = slice_index_or plan.lanes lane []
-
 -- from this lane on, four events for each call of each lane
 abbrev pub long_ends : ℕ → List (List CallLine) → List ℕ
 long_ends l [] = []
 long_ends l (calls ∷ lanes) = replicate (4 * length calls) l ++ long_ends (l + 1) lanes
-
--- the items that an opening names
-abbrev pub opening_items : Plan → CallLine → List Item
-opening_items plan (calls.Seal context item) = []
-opening_items plan (calls.Unseal context item) = item ∷ []
-opening_items plan (calls.UnsealAll context first count) = items_from plan.items first count
-opening_items plan (calls.Export context exporter size) = []
-
-abbrev pub IsOpening : CallLine → Type 0
-IsOpening (calls.Seal context item) = ⊥
-IsOpening (calls.Unseal context item) = Unit {0}
-IsOpening (calls.UnsealAll context first count) = Unit {0}
-IsOpening (calls.Export context exporter size) = ⊥
 
 abbrev pub IsSeal : CallLine → Type 0
 IsSeal (calls.Seal context item) = Unit {0}

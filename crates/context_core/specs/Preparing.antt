@@ -1,24 +1,17 @@
 -- ---- for the proofs: what stands before the first step, and what is handed out and taken back.
-use Rattle.std.specs.Prelude.{ℕ, ◌≡◌, ◌<◌, ◌≤◌, List, [], length, map, sum_by, Option, Some, None, get_or}
+use Rattle.std.specs.Prelude.{ℕ, ◌≡◌, ◌<◌, ◌≤◌, List, [], length, map, Option, Some, None, get_or}
 use Rattle.std.specs.List.{All}
-use Rattle.call_places.specs.declared.entries.Mark.{Mark}
-use Rattle.call_places.specs.Entries.{mark_of}
 use Rattle.hpke_context.specs.Contexts.{ContextView}
 use Rattle.context_books.specs.Books.{BookView}
 use Rattle.batch_plans.specs.declared.plan.Plan.{Plan}
 use Rattle.batch_plans.specs.declared.plan.CallLine.{CallLine}
 use Rattle.batch_plans.specs.declared.replies.LaneAnswers.{LaneAnswers}
 use Rattle.batch_plans.specs.Limits.{items_of}
-use Rattle.batch_plans.specs.Calls.{items_on}
 use Rattle.batch_plans.specs.Progress.{Progress, begun}
-use Rattle.due_replies.specs.Standing.{standing_at, export_limits}
+use Rattle.due_replies.specs.Standing.{standing_at}
+use Rattle.lane_quotas.specs.Quotas.{lane_quota}
 use Rattle.context_core.specs.declared.lanes.Lane.{Lane}
 use Rattle.context_core.specs.declared.lanes.Stage.TheVariants.{Fresh}
-
--- how many items a lane asks of the context of this number
-abbrev pub lane_quota : Plan → List (Option ContextView) → ℕ → List CallLine → ℕ
-lane_quota plan contexts number calls =
-    sum_by (items_on plan.contexts (export_limits contexts) number) calls
 
 -- the book of a context that stands, before the first step
 abbrev pub fresh_in : Plan → List (Option ContextView) → ℕ → Option ContextView → Option BookView
@@ -57,12 +50,3 @@ answers_of p = record { pool = p.pool; replies = p.replies; batches = p.batches 
 pub record IsEnded (lane : Lane) : Type 0 where
   pub replies : lane.progress.left ≡ 0
   pub guesses : lane.progress.batches_left ≡ 0
-
--- the journal of a context, where it has a book
-abbrev pub written : Option BookView → List Mark → List Mark
-written None journal = journal
-written (Some book) journal = map mark_of book.entries
-
-abbrev pub HasRoom : Option BookView → List Mark → Type 0
-HasRoom None journal = length journal ≡ length journal
-HasRoom (Some book) journal = length journal ≡ length book.entries

@@ -1,12 +1,11 @@
 //! The books of the contexts that stand, in one order of places.
 
-ghost use Rattle.std.specs.Prelude.{ℕ, ◌≡◌, ◌≤◌, MatchOption, IsSome, All, take, Some, None, length};
+ghost use Rattle.std.specs.Prelude.{ℕ, ◌≡◌, ◌≤◌, IsSome, All, take, Some, length};
 ghost use Rattle.call_places.specs.Entries.{seq_of};
 ghost use Rattle.call_places.specs.Spans.{ItemIsInPool};
 ghost use Rattle.hpke_context.specs.Contexts.{HasCipher};
 ghost use Rattle.context_books.specs.Books.{BookView};
 ghost use Rattle.context_books.specs.Openings.{IsTableFor};
-ghost use Rattle.due_replies.specs.Standing.{standing_at};
 ghost use Rattle.context_core.specs.Books.{book_at, MayAdd, Draws, Settles};
 
 use aes_gcm::Checks;
@@ -23,14 +22,6 @@ pub(crate) struct Books {
     pub(crate) books: Vec<Option<Book>>,
     pub(crate) places: u64,
     pub(crate) checks: Checks,
-}
-
-/// The context of this number, where there is one and it stands.
-pub(crate) fn standing(contexts: &[Option<Context>], number: u32) -> Option<&Context>
-    ensures { MatchOption result (standing_at contexts.now number ≡ None)
-        (λ context. standing_at contexts.now number ≡ Some context.now) }
-{
-    contexts.get(number as usize)?.as_ref()
 }
 
 /// The sequence number that is due in a context that stands.

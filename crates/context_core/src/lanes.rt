@@ -2,22 +2,22 @@
 
 ghost use Rattle.std.specs.Prelude.{ℕ, ◌≡◌, ◌<◌, ◌≤◌, ◌^◌, Some, None, slice_get, length};
 ghost use Rattle.hpke_context.specs.Contexts.{ContextView};
-ghost use Rattle.batch_plans.specs.Limits.{IsWithinLimits, IsCallWithin};
+ghost use Rattle.batch_plans.specs.Limits.{IsWithinLimits};
 ghost use Rattle.batch_plans.specs.Room.{served_batches};
-ghost use Rattle.due_replies.specs.Standing.{AreOfLines, call_refusal};
+ghost use Rattle.due_replies.specs.Standing.{AreOfLines};
 ghost use Rattle.due_replies.specs.Asks.{batch_of, cipher_at};
 ghost use Rattle.core_schedules.specs.Core.{Core, happens};
 ghost use Rattle.context_core.specs.declared.books.Books.{Books};
-ghost use Rattle.context_core.specs.Following.{lane_calls, opening_items, with_guess, MayStep, Steps};
+ghost use Rattle.lane_replies.specs.LaneCalls.{lane_calls, opening_items};
+ghost use Rattle.context_core.specs.Following.{with_guess, MayStep, Steps};
 
-use crate::books::{Books, draw, due, settle, standing};
-use batch_plans::{
-    Batch, CallLine, CallRefusal, LaneProgress, Plan, context_of, items_from, refusal_by,
-};
-use call_places::{Item, Place, Step};
+use crate::books::{Books, draw, due, settle};
+use batch_plans::{Batch, CallLine, LaneProgress, Plan, context_of};
+use call_places::{Place, Step};
 use context_books::Draw;
 use hpke_context::Context;
-use lane_replies::{export, finish_opening, finish_seal, refuse};
+use lane_quotas::{refusal_of, standing};
+use lane_replies::{export, finish_opening, finish_seal, items_of_opening, refuse};
 use speculative_open::GuessTable;
 use std::thread::Threads;
 
@@ -47,37 +47,6 @@ pub(crate) struct Lane {
     /// Room for the steps of the items of any opening of the lane.
     pub(crate) steps: Vec<Step>,
     pub(crate) progress: LaneProgress,
-}
-
-// The items of an opening.
-fn items_of_opening<'a>(plan: &'a Plan, call: &'a CallLine) -> &'a [Item]
-    requires { IsCallWithin (length plan.now.items) (length plan.now.pool) call.now }
-    ensures { result.now ≡ opening_items plan.now call.now }
-{
-    match call {
-        CallLine::Unseal { item, .. } => std::slice::from_ref(item),
-        CallLine::UnsealAll { first, count, .. } => items_from(
-            plan.items.as_slice(),
-            *first,
-            *count,
-        ),
-        CallLine::Seal { .. } | CallLine::Export { .. } => &[],
-    }
-}
-
-/// Why a call is refused by the contexts that stand.
-pub(crate) fn refusal_of(contexts: &[Option<Context>], call: &CallLine) -> Option<CallRefusal>
-    ensures { result ≡ call_refusal contexts.now call.now }
-{
-    let Some(context) = standing(contexts, context_of(call)) else {
-        return Some(CallRefusal::NoContext);
-    };
-    refusal_by(
-        context.role(),
-        context.suite().aead,
-        context.export_limit() as u32,
-        call,
-    )
 }
 
 // An opening of several messages keeps its guess.

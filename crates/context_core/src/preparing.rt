@@ -1,73 +1,19 @@
 //! What a rehearsal needs beside the answers, all of it taken before the first step.
 
-ghost use Rattle.std.specs.Prelude.{ℕ, ◌≡◌, ◌≤◌, ◌<◌, ◌^◌, List, [], All, IfOk, length, map, sum_by};
+ghost use Rattle.std.specs.Prelude.{◌≡◌, ◌≤◌, [], All, IfOk, length, map};
 ghost use Rattle.std.specs.List.{range_with_len};
-ghost use Rattle.batch_plans.specs.declared.plan.ContextLine.{ContextLine};
 ghost use Rattle.batch_plans.specs.Limits.{IsWithinLimits, items_of};
-ghost use Rattle.batch_plans.specs.Calls.{items_on};
-ghost use Rattle.due_replies.specs.Standing.{AreOfLines, export_limits};
-ghost use Rattle.context_core.specs.Preparing.{lane_quota, fresh_at, IsFresh, AreFresh};
+ghost use Rattle.due_replies.specs.Standing.{AreOfLines};
+ghost use Rattle.context_core.specs.Preparing.{fresh_at, IsFresh, AreFresh};
 
-use crate::books::standing;
-use crate::lanes::{Lane, Stage, refusal_of};
-use batch_plans::{CallLine, LaneAnswers, LaneProgress, PlainList, Plan, context_of, items_of};
+use crate::lanes::{Lane, Stage};
+use batch_plans::{CallLine, LaneAnswers, LaneProgress, PlainList, Plan, items_of};
 use call_places::Step;
 use context_books::Book;
 use hpke_context::Context;
+use lane_quotas::{quotas, standing};
 use speculative_open::GuessTable;
 use std::alloc::{AllocError, Global};
-
-// How many items a call asks of the context of this number.
-fn items_on(contexts: &[Option<Context>], number: u32, call: &CallLine) -> u32
-    ensures { (lines : List ContextLine) → AreOfLines lines contexts.now
-        → result ≡ items_on lines (export_limits contexts.now) number call.now }
-{
-    if context_of(call) != number {
-        return 0;
-    }
-    if let Some(_) = refusal_of(contexts, call) {
-        return 0;
-    }
-    match call {
-        CallLine::Export { .. } => 0,
-        CallLine::Seal { .. } | CallLine::Unseal { .. } | CallLine::UnsealAll { .. } => items_of(
-            call,
-        ),
-    }
-}
-
-// How many items a lane asks of the context of this number.
-fn quota(contexts: &[Option<Context>], number: u32, calls: &[CallLine]) -> u32
-    requires few { sum_by items_of calls.now < 2 ^ 32 }
-    requires standing { (lines : List ContextLine) × AreOfLines lines contexts.now }
-    ensures { (lines : List ContextLine) → AreOfLines lines contexts.now
-        → result ≡ sum_by (items_on lines (export_limits contexts.now) number) calls.now }
-{
-    let mut sum = 0;
-    'calls: for call in calls {
-        sum += items_on(contexts, number, call);
-    }
-    sum
-}
-
-// The quotas of all lanes on the context of this number.
-fn quotas(
-    alloc: Global,
-    plan: &Plan,
-    contexts: &[Option<Context>],
-    number: u32,
-) -> Result<Vec<u32>, AllocError>
-    requires within { IsWithinLimits plan.now }
-    requires standing { AreOfLines plan.now.contexts contexts.now }
-    ensures { IfOk result (λ quotas.
-        quotas.items ≡ map (lane_quota plan.now contexts.now number) plan.now.lanes) }
-{
-    let mut quotas = Vec::new(alloc);
-    'lanes: for calls in plan.lanes.as_slice() {
-        quotas.push(quota(contexts, number, calls.as_slice()))?;
-    }
-    Ok(quotas)
-}
 
 // The book of the context of this number, if it stands.
 fn book(

@@ -1,7 +1,6 @@
 //! The rehearsal: the steps of all lanes by a schedule.
 
 ghost use Rattle.std.specs.Prelude.{ℕ, ◌≡◌, ◌^◌, [], None, All, get_or, ◌≤◌, ◌<◌, ◌*◌, length, map, replicate, OnOk, OnErr, IfOk};
-ghost use Rattle.call_places.specs.Entries.{mark_of};
 ghost use Rattle.batch_plans.specs.Limits.{IsWithinLimits};
 ghost use Rattle.batch_plans.specs.Room.{room_for};
 ghost use Rattle.reply_texts.specs.ReplyText.{IsAnswered};
@@ -10,17 +9,17 @@ ghost use Rattle.due_replies.specs.Standing.{AreOfLines, export_limits};
 ghost use Rattle.due_replies.specs.Asks.{batch_of, cipher_at};
 ghost use Rattle.context_core.specs.Rehearsals.{rehearsed, AreAnswersOf};
 ghost use Rattle.batch_plans.specs.Replies.{IsPrintable};
-ghost use Rattle.context_core.specs.Following.{lane_calls, long_ends, IsRehearsal};
-ghost use Rattle.context_core.specs.Preparing.{with_answers, answers_of, IsEnded, written, HasRoom};
+ghost use Rattle.lane_replies.specs.LaneCalls.{lane_calls};
+ghost use Rattle.context_core.specs.Following.{long_ends, IsRehearsal};
+ghost use Rattle.context_core.specs.Preparing.{with_answers, answers_of, IsEnded};
 
 use crate::books::Books;
 use crate::lanes::Lane;
 use crate::preparing::{books, lanes, no_answers};
 use aes_gcm::Checks;
 use batch_plans::{Answers, LaneAnswers, LaneProgress, PlainList, Plan};
-use call_places::{Entry, Mark};
-use context_books::Book;
 use hpke_context::Context;
+use lane_quotas::write_journals;
 use std::alloc::{AllocError, Global};
 use std::mem;
 use std::thread::Threads;
@@ -158,39 +157,6 @@ fn take_back(alloc: Global, lanes: &mut [Lane], answers: &mut [LaneAnswers])
         let lane = &mut lanes[i];
         let progress = mem::replace(&mut lane.progress, LaneProgress::new(no_answers(alloc)));
         answers[i] = progress.finish();
-    }
-}
-
-// The marks of a book's entries, put over those of a journal.
-fn write_journal(entries: &[Entry], journal: &mut [Mark])
-    requires { length journal.old ≡ length entries.now }
-    ensures { journal.new ≡ map mark_of entries.now }
-{
-    'entries: for (i, entry) in entries.iter().enumerate() {
-        journal[i] = entry.mark();
-    }
-}
-
-// The journal of a context that stands.
-fn write_book(book: &Option<Book>, journal: &mut PlainList<Mark>)
-    requires { HasRoom book.now journal.old }
-    ensures { journal.new ≡ written book.now journal.old }
-{
-    if let Some(book) = book {
-        write_journal(book.entries(), journal.as_mut_slice());
-    }
-}
-
-// The journals of the contexts that stand.
-fn write_journals(books: &[Option<Book>], journals: &mut [PlainList<Mark>])
-    requires count { length journals.old ≡ length books.now }
-    requires room { (n : ℕ) → n < length books.now
-        → HasRoom (get_or books.now n None) (get_or journals.old n []) }
-    ensures { (n : ℕ) → n < length books.now → get_or journals.new n []
-        ≡ written (get_or books.now n None) (get_or journals.old n []) }
-{
-    'books: for i in 0..books.len() {
-        write_book(&books[i], &mut journals[i]);
     }
 }
 

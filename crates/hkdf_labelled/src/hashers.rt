@@ -28,6 +28,17 @@ impl Hasher {
         }
     }
 
+    // A hasher that has taken in the same message. No clone of these hashers fails.
+    pub(crate) fn copy(&self) -> Hasher
+        ensures { result ≡ self.now }
+    {
+        match self {
+            Hasher::Of256(hasher) => Hasher::Of256(hasher.clone().unwrap()),
+            Hasher::Of384(hasher) => Hasher::Of384(hasher.clone().unwrap()),
+            Hasher::Of512(hasher) => Hasher::Of512(hasher.clone().unwrap()),
+        }
+    }
+
     // Takes in more of the message.
     pub(crate) fn update(&mut self, bytes: &[u8])
         ensures kdf { kdf_of self.new ≡ kdf_of self.old }

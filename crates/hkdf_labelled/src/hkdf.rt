@@ -1,8 +1,9 @@
 //! HKDF (RFC 5869).
 
-ghost use Rattle.std.specs.Prelude.{◌≡◌, ◌≤◌, ◌*◌, ◌+◌, ◌-◌, ◌++◌, ◌∷◌, [], length, min, take};
+ghost use Rattle.std.specs.Prelude.{◌≡◌, ◌≤◌, ◌*◌, ◌+◌, ◌-◌, ◌++◌, ◌∷◌, [], ℕ, List, length, min, take};
 ghost use Rattle.hkdf_labelled.specs.Hkdf.{extract, expand};
 ghost use Rattle.hkdf_labelled.specs.Hmac.{hmac as hmac_of};
+ghost use Rattle.hkdf_labelled.specs.Macs.{IsKeyed};
 ghost use Rattle.hkdf_labelled.specs.Suites.{hash_size};
 
 use crate::macs::{Mac, hmac};
@@ -20,22 +21,23 @@ pub fn extract(kdf: Kdf, salt: &[u8], ikm: &[u8]) -> Prk
     hmac(kdf, salt, ikm)
 }
 
-// The output block after `previous`, numbered `counter`. The info is `prefix`, `label` and `info`
-// joined.
+// The output block after `previous`, numbered `counter`. The MAC has the key, and no message yet.
+// The info is `prefix`, `label` and `info` joined.
 fn next_block(
-    kdf: Kdf,
-    prk: &[u8],
+    mac: Mac,
     previous: &Prk,
     prefix: &[u8],
     label: &[u8],
     info: &[u8],
     counter: u8,
 ) -> Prk
-    ensures value { result ≡ hmac_of kdf prk.now
+    ensures value { (kdf : Kdf) (prk : List ℕ) → IsKeyed mac kdf prk []
+        → result ≡ hmac_of kdf prk
         (previous.now ++ (prefix.now ++ label.now ++ info.now) ++ counter ∷ []) }
-    ensures size { length result ≡ hash_size kdf }
+    ensures size { (kdf : Kdf) (prk : List ℕ) → IsKeyed mac kdf prk []
+        → length result ≡ hash_size kdf }
 {
-    let mut mac = Mac::new(kdf, prk);
+    let mut mac = mac;
     mac.update(previous.as_slice());
     mac.update(prefix);
     mac.update(label);
@@ -69,14 +71,17 @@ pub(crate) fn expand_parts(
     ensures { out.new
         ≡ expand kdf prk.now (prefix.now ++ label.now ++ info.now) (length out.old) }
 {
+    let keyed = Mac::new(kdf, prk);
     let mut previous = Prk::from_slice(&[]);
     let mut counter = 0u8;
     let mut filled = 0;
-    'filling: while filled < out.len() {
+    'filling: while out.len() - filled > kdf.size() {
         counter += 1;
-        previous = next_block(kdf, prk, &previous, prefix, label, info, counter);
+        previous = next_block(keyed.copy(), &previous, prefix, label, info, counter);
         filled += copy_at(out, filled, previous.as_slice());
     }
+    let last = next_block(keyed, &previous, prefix, label, info, counter + 1);
+    copy_at(out, filled, last.as_slice());
 }
 
 /// HKDF-Expand (RFC 5869, 2.3): fills `out` with output keying material bound to `info`.

@@ -84,6 +84,17 @@ impl Mac {
         }
     }
 
+    // An HMAC under the same key, with the same message so far. Copied before it is fed, it spares
+    // each further message the hash of the key's two blocks.
+    pub(crate) fn copy(&self) -> Mac
+        ensures { result ≡ self.now }
+    {
+        Mac {
+            inner: self.inner.copy(),
+            outer: self.outer.copy(),
+        }
+    }
+
     /// Adds `bytes` to the end of the message.
     pub fn update(&mut self, bytes: &[u8])
         ensures { (kdf : Kdf) (key m : List ℕ) → IsKeyed self.old kdf key m

@@ -5,3 +5,6 @@ pub mod Draws
 pub mod Answering
 pub mod Rooms
 pub mod KeepingUp
+pub mod Guesses
+pub mod Misses
+pub mod Within

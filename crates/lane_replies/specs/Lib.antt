@@ -1,2 +1,3 @@
+pub mod LaneCalls
 pub mod Writing
 pub mod Answered

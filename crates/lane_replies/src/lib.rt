@@ -4,7 +4,7 @@
 //! are settled (`context_books`). Here the bytes are made: a text is encrypted or decrypted with
 //! the context's key (RFC 9180, 5.2), or a secret is exported (RFC 9180, 5.3), straight into the
 //! pool of the lane's answers, and the replies are put there. `PutsReplies` of `specs/Writing.antt`
-//! says with which lines.
+//! says with which lines. Which items an opening names says `opening_items` of `specs/LaneCalls.antt`.
 //!
 //! A context is only read, so any thread may do this, and it waits for nobody. `HasAnswered` and
 //! `HasRoomFor` of `specs/Answered.antt` are what a lane keeps from call to call.
@@ -13,10 +13,12 @@
 #![tactic(auto)]
 
 mod exporting;
+mod naming;
 mod opening;
 mod sealing;
 
 pub use exporting::{export, refuse};
+pub use naming::items_of_opening;
 pub use opening::finish_opening;
 pub use sealing::finish_seal;
 

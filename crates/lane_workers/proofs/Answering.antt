@@ -1,7 +1,6 @@
 -- A call of each kind, from what its functions say.
-use Rattle.std.proofs.Common.{◌≡◌, ◌↔◌, ℕ, zero, suc, ◌+◌, ◌<◌, ◌≤◌, List, [], ◌∷◌, ◌++◌, length, take, drop, Option, Some, None, sym, refl, ap, ◌∙◌, subst, arith, length-append, if◌then◌else◌, Bor}
+use Rattle.std.proofs.Common.{◌≡◌, ◌↔◌, ℕ, zero, suc, ◌+◌, ◌<◌, ◌≤◌, List, [], ◌∷◌, ◌++◌, length, take, drop, Option, Some, None, sym, refl, ap, ◌∙◌, subst, arith, length-append, Bor}
 use Rattle.std.specs.Prelude.{slice_index, slice_set, MatchOption}
-use Rattle.std.proofs.lemmas.Bool.{lt-ltb, le-ltb}
 use Rattle.std.proofs.lemmas.List.{length-map}
 use Rattle.call_places.specs.declared.entries.Entry.{Entry}
 use Rattle.call_places.specs.declared.entries.Step.{Step}
@@ -12,17 +11,18 @@ use Rattle.call_places.specs.Spans.{span_bytes}
 use Rattle.call_places.specs.Entries.{own, seq_of}
 use Rattle.turn_lock.specs.Passes.{LockId, PassView, next_after}
 use Rattle.stamp_counter.specs.Seats.{SeatView, CounterView}
-use Rattle.hpke_context.specs.Answers.{At_limit, Sealed_at, Seal, Cipher, answer, run}
+use Rattle.hpke_context.specs.Answers.{Seal, Cipher, answer, run}
 use Rattle.hpke_context.specs.Contexts.{ContextView, cipher_of, exported_by}
 use Rattle.legal_journals.specs.Batches.{Ask, ToSeal, ToOpenAll, block, place, asked, all_asked, on, lane_places, items_in, context_in}
 use Rattle.speculative_open.specs.Tables.{TableView}
-use Rattle.legal_journals.specs.Entries.{entry, entries_from, steps_from, step_for, entry_places}
+use Rattle.legal_journals.specs.Entries.{entry, entries_from, steps_from, entry_places}
 use Rattle.legal_journals.proofs.Lists.{on-append, on-spots_same, all_asked-append}
 use Rattle.legal_journals.proofs.OneLane.{parted, few_taken}
 use Rattle.gathered_lanes.proofs.Contexts.{AllReplied}
 use Rattle.context_books.specs.declared.book.Draw.{Draw}
 use Rattle.context_books.specs.declared.book.Draw.TheVariants.{Number, Limit}
 use Rattle.context_books.specs.Books.{drawn_step}
+use Rattle.context_books.proofs.Blocks.{length-block}
 use Rattle.shared_context.specs.Stamped.{IsNote, ComesAfter}
 use Rattle.shared_context.specs.Calls.{SharedView}
 use Rattle.batch_plans.specs.declared.plan.Plan.{Plan}
@@ -43,16 +43,16 @@ use Rattle.lane_replies.specs.Writing.{due_at, PutsReplies}
 use Rattle.lane_replies.specs.Answered.{HasAnswered, HasRoomFor}
 use Rattle.lane_replies.proofs.Answering.{answered_one, answered_refused}
 use Rattle.lane_replies.proofs.Rooms.{FindsRoom, room_drop, room_served, room_refused, room_after, room_after_refused}
-use Rattle.lane_replies.proofs.Draws.{due_at-drawn}
+use Rattle.lane_replies.proofs.Draws.{due_at-drawn, drawn_steps}
 use Rattle.lane_workers.specs.declared.works.LaneWork.{LaneWork}
 use Rattle.lane_workers.specs.Served.{Told, told_lines, told_served, seen_by}
 use Rattle.lane_workers.specs.Turns.{shared_at, pass_at, view_in, view_of, views, with_progress, CanTurn, Draws}
-use Rattle.lane_workers.specs.Lanes as lanes
-use Rattle.lane_workers.specs.Lanes.{asks_of, told_done, Tells, Says, IsPassAt, HasSeat, LaneIsAt, IsShared, AreShared, MayAnswer, MayServe}
+use Rattle.lane_replies.specs.LaneCalls as lanes
+use Rattle.lane_workers.specs.Lanes.{asks_of, told_done, IsPassAt, HasSeat, LaneIsAt, IsShared, MayAnswer}
 use Rattle.lane_workers.proofs.Going.{ask_here}
 use Rattle.lane_workers.proofs.Onward.{pass_within, replied, still, turned}
 use Rattle.lane_workers.proofs.Told.{told_now, tells_now}
-use Rattle.lane_workers.proofs.Within.{call_low, line_within, span_size}
+use Rattle.lane_replies.proofs.Within.{call_low, line_within, span_size}
 
 -- ---- contexts that stand
 
@@ -101,25 +101,6 @@ next_within l k i stamp next [] low = omega arith
 next_within l k i stamp next (x ∷ []) low = omega arith
 next_within l k i stamp next (x ∷ y ∷ steps) low =
     next_within l k (i + 1) (stamp + 1) next (y ∷ steps) low
-
-length-block : (l k i n : ℕ) → length (block l k i n) ≡ n
-length-block l k i zero = refl
-length-block l k i (suc n) = ap suc (length-block l k (i + 1) n)
-
--- the steps of a draw
-drawn_steps : (c : Cipher) (seq : ℕ) (aad text : List ℕ) (drawn : Draw)
-    → ((drawn ≡ Limit) ↔ (seq ≡ c.limit))
-    → ((n : ℕ) → drawn ≡ Number n → (n ≡ seq) × (n < c.limit))
-    → drawn_step drawn ≡ step_for (Seal aad text) (answer c seq (Seal aad text))
-drawn_steps c seq aad text (Number n) full is =
-    let t = is n refl in
-    let low : seq < c.limit = (let e : n ≡ seq = t.0 in let f : n < c.limit = t.1 in omega arith) in
-    sym (ap (λ b. step_for (Seal aad text)
-    (if b then Sealed_at seq (c.sealed seq aad text) else At_limit)) (lt-ltb seq c.limit low))
-drawn_steps c seq aad text Limit full is =
-    let high : c.limit ≤ seq = (let e : seq ≡ c.limit = full.0 refl in omega arith) in
-    sym (ap (λ b. step_for (Seal aad text)
-    (if b then Sealed_at seq (c.sealed seq aad text) else At_limit)) (le-ltb seq c.limit high))
 
 module _ (plan : Plan) (contexts : List (Option SharedView)) (counter : Option (Bor CounterView))
     (k : ℕ) (call : CallLine) (w : LaneWork) (may : MayAnswer plan contexts counter k call w) where

@@ -30,8 +30,8 @@ use Rattle.lane_replies.proofs.Rooms.{room_begun, room_ended}
 use Rattle.lane_workers.specs.declared.works.LaneWork.{LaneWork}
 use Rattle.lane_workers.specs.Served.{Told, seen_of, LaneIsServed}
 use Rattle.lane_workers.specs.Turns.{views}
-use Rattle.lane_workers.specs.Lanes as lanes
-use Rattle.lane_workers.specs.Lanes.{asks_of, told_done, Says, LaneIsAt}
+use Rattle.lane_replies.specs.LaneCalls as lanes
+use Rattle.lane_workers.specs.Lanes.{asks_of, Says, LaneIsAt}
 use Rattle.lane_workers.specs.Returned.{IsGiven, IsReturned}
 use Rattle.lane_workers.proofs.Told.{told_now, tells_now}
 
@@ -73,6 +73,7 @@ module _ (plan : Plan) (contexts : List (Option SharedView)) (counter : Option (
             next = omega arith;
           },
         );
+        absent = λ c none. t.unseen c;
         seat = λ stamps is. let s = t.seat_is stamps is in (s.0, s.1, s.2, omega arith);
         stamps = subst (λ (f : ℕ → List Entry). StampsAre w.lane 0 f 0) (sym unseen)
             (stamps_fresh w.lane);
@@ -150,5 +151,6 @@ module _ (plan : Plan) (contexts : List (Option SharedView)) (counter : Option (
       };
       count = t.count;
       passes_are = λ c s is. let p = t.passes c s is in (p.0, p.1, p.2.of, p.2.number);
+      absent = t.absent;
       seat_is = λ stamps is. let s = t.seat stamps is in (s.0, s.1, s.2);
     }

@@ -33,8 +33,8 @@ use Rattle.due_replies.specs.Asks.{ask_of, ask_unless, asked_by, batch_of, ciphe
 use Rattle.due_replies.specs.Runs.{Run, journal_of, guesses_of, answer_line, answer_line_of, place_line, lines_unless, served_lines, call_lines, lane_call_lines, LegalFor, IsAllowed}
 use Rattle.due_replies.proofs.Done.{ask_at, length-messages}
 use Rattle.lane_workers.specs.Served.{Told, told_served, told_lines, seen_of, LaneIsServed}
-use Rattle.lane_workers.specs.Lanes.{lane_calls}
-use Rattle.lane_workers.proofs.Within.{line_within}
+use Rattle.lane_replies.specs.LaneCalls.{lane_calls}
+use Rattle.lane_replies.proofs.Within.{line_within}
 
 numbered_same : {X Y : Type 0} (f g : ℕ → X → Y) (start : ℕ) (xs : List X)
     → ((k : ℕ) (x : X) → slice_get xs k ≡ Some x → f (start + k) x ≡ g (start + k) x)

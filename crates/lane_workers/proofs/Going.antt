@@ -1,15 +1,14 @@
 -- What one more call adds to what a lane shows.
-use Rattle.std.proofs.Common.{◌≡◌, ◌≢◌, ℕ, zero, suc, ◌+◌, ◌<◌, ◌==◌, inl, inr, Bool, true, false, cond, List, [], ◌∷◌, ◌++◌, length, map, take, Option, Some, None, sym, refl, ap, ◌∙◌, subst, arith, eq-eqb, ne_eqb, length-append}
+use Rattle.std.proofs.Common.{◌≡◌, ◌≢◌, ℕ, zero, suc, ◌+◌, ◌<◌, ◌==◌, inl, inr, Bool, true, false, cond, List, [], ◌∷◌, ◌++◌, length, map, take, Option, Some, None, sym, refl, ap, ◌∙◌, subst, arith, eq-eqb, ne_eqb}
 use Rattle.std.specs.Prelude.{slice_get, slice_index, flat_map}
 use Rattle.std.proofs.lemmas.List.Concat.{flat_map-append}
-use Rattle.std.proofs.lemmas.List.Sums.{sum_by-append, sum_by-cons}
 use Rattle.call_places.specs.declared.entries.Entry.{Entry}
 use Rattle.call_places.specs.Messages.{SealedMessage}
 use Rattle.call_places.specs.Entries.{own, seq_of}
 use Rattle.hpke_context.specs.Answers.{Answer, Cipher, run}
 use Rattle.hpke_context.specs.Contexts.{ContextView}
-use Rattle.legal_journals.specs.Batches.{Ask, Nothing, ToSeal, ToOpen, ToOpenAll, Batch, block, asked, on, unseal, items_in, context_in}
-use Rattle.legal_journals.specs.Guesses.{guess_of, guess_at, guess_count}
+use Rattle.legal_journals.specs.Batches.{Ask, ToOpenAll, Batch, block, asked, on, unseal, items_in, context_in}
+use Rattle.legal_journals.specs.Guesses.{guess_at, guess_count}
 use Rattle.legal_journals.specs.Entries.{entries_from, steps_from, entry_places}
 use Rattle.legal_journals.proofs.Lists.{append-nil, on-spots, is_cases}
 use Rattle.legal_journals.proofs.OneLane.{taken_more, few_taken}
@@ -27,7 +26,7 @@ use Rattle.due_replies.specs.Asks.{ask_of, batch_of, cipher_at}
 use Rattle.due_replies.proofs.Done.{ask_at}
 use Rattle.lane_replies.specs.Answered.{HasAnswered}
 use Rattle.lane_workers.specs.Served.{Told, told_lines}
-use Rattle.lane_workers.specs.Lanes as lanes
+use Rattle.lane_replies.specs.LaneCalls as lanes
 use Rattle.lane_workers.specs.Lanes.{asks_of, told_done, Tells, Says}
 
 -- ---- lists that grow at their end
@@ -195,23 +194,6 @@ module _ (plan : Plan) (contexts : List (Option ContextView)) (lane k : ℕ) (ca
         below i k low apart = omega arith
 
   -- ---- guesses
-
-  as_many : (x : Ask) (g : ℕ) → length (guess_of x g) ≡ length (guess_of x 0)
-  as_many Nothing g = refl
-  as_many (ToSeal d aad text) g = refl
-  as_many (ToOpen d aad ct) g = refl
-  as_many (ToOpenAll d ms) g = refl
-
-  pub guesses_more : (gs : List ℕ) (g : ℕ) → length gs ≡ guess_count (take k asks)
-      → length (gs ++ guess_of a g) ≡ guess_count (take (k + 1) asks)
-  guesses_more gs g count =
-      let kept = λ (ask : Ask). length (guess_of ask 0) in
-      let one : guess_count (a ∷ []) ≡ length (guess_of a 0) + 0 = sum_by-cons kept a [] in
-      length-append gs (guess_of a g) ∙ (λ i. count i + as_many a g i)
-      ∙ (let e : guess_count (take k asks) + length (guess_of a 0) ≡ guess_count (take k asks)
-      + guess_count (a ∷ []) = omega (arith, one) in e)
-      ∙ sym (sum_by-append kept (take k asks) (a ∷ []))
-      ∙ ap guess_count (sym (taken_more asks k a ask_here))
 
   -- the guess of a call that keeps one
   pub guess_now : (gs all : List ℕ) (g : ℕ) → length gs ≡ guess_count (take k asks)

@@ -2,7 +2,6 @@ pub mod Found
 pub mod Going
 pub mod Onward
 pub mod Told
-pub mod Within
 pub mod Answering
 pub mod Opened
 pub mod Ready

@@ -28,9 +28,10 @@ use Rattle.lane_replies.proofs.Steps.{length-run}
 use Rattle.lane_workers.specs.declared.works.LaneWork.{LaneWork}
 use Rattle.lane_workers.specs.Served.{Told, told_lines, seen_of, seen_by}
 use Rattle.lane_workers.specs.Turns.{shared_at, pass_at, views}
-use Rattle.lane_workers.specs.Lanes as lanes
-use Rattle.lane_workers.specs.Lanes.{asks_of, told_done, Tells, Says, IsPassAt, HasSeat, LaneIsAt}
-use Rattle.lane_workers.proofs.Going.{get_last, tells_less, says_more, guesses_more, guess_now}
+use Rattle.lane_replies.specs.LaneCalls as lanes
+use Rattle.lane_workers.specs.Lanes.{asks_of, told_done, Tells, IsPassAt, HasSeat, LaneIsAt}
+use Rattle.lane_replies.proofs.Guesses.{guesses_more}
+use Rattle.lane_workers.proofs.Going.{get_last, ask_here, tells_less, says_more, guess_now}
 
 -- ---- passes, one of which is another
 
@@ -129,6 +130,7 @@ module _ (plan : Plan) (contexts : List (Option SharedView)) (counter : Option (
     pub count : length new.passes.items ≡ length w.passes.items
     pub passes : (d : ℕ) (s : SharedView) → shared_at contexts d ≡ Some s
         → (p : PassView) × (pass_at new.passes.items d ≡ Some p) × IsPassAt s lane (k + 1) p
+    pub absent : (d : ℕ) → shared_at contexts d ≡ None → seen_of new.passes.items d ≡ []
     pub seat : HasSeat counter (first + length (steps_from c due (items_in a))) new.seat
     pub rows : new.table.room ≡ w.table.room
     pub steps : length new.steps.items ≡ length w.steps.items
@@ -137,6 +139,7 @@ module _ (plan : Plan) (contexts : List (Option SharedView)) (counter : Option (
   pub goes_on : (new : LaneWork) (others : ℕ → List Entry) (first due g m : ℕ)
       → GoesOn new others first due g m → LaneIsAt plan contexts counter lane (k + 1) new
   goes_on new others first due g m e =
+      let here = ask_here plan stand lane k call at in
       let answers = run c due (items_in a) in
       let steps = steps_from c due (items_in a) in
       let stamped : StampsAre lane (k + 1)
@@ -150,10 +153,11 @@ module _ (plan : Plan) (contexts : List (Option SharedView)) (counter : Option (
         misses = t.misses ++ guess_of a m;
         low = first + length steps;
         calls_given = length-append t.given (answers ∷ []) ∙ ap (λ i. i + 1) t.calls_given;
-        guesses_given = guesses_more plan stand lane k call at t.guesses g t.guesses_given;
-        misses_given = guesses_more plan stand lane k call at t.misses m t.misses_given;
+        guesses_given = guesses_more asks k a t.guesses g here t.guesses_given;
+        misses_given = guesses_more asks k a t.misses m here t.misses_given;
         count = e.count ∙ t.count;
         passes = e.passes;
+        absent = e.absent;
         seat = e.seat;
         stamps = subst (λ (f : ℕ → List Entry). StampsAre lane (k + 1) f (first + length steps))
             (λ i d. sym (e.seen_is d) i) stamped;
@@ -212,6 +216,7 @@ module _ (plan : Plan) (contexts : List (Option SharedView)) (counter : Option (
         count = ap length passes;
         passes = λ d s standing. let p = t.passes d s standing in
             (p.0, ap (λ ps. pass_at ps d) passes ∙ p.1, pass_stays s lane k p.0 p.2);
+        absent = λ d none. ap (λ ps. seen_of ps d) passes ∙ t.absent d none;
         seat = λ stamps is. let s = t.seat stamps is in (
           s.0,
           seat ∙ s.1,
@@ -305,6 +310,12 @@ module _ (plan : Plan) (contexts : List (Option SharedView)) (counter : Option (
             pass_stays s' lane k o.0 o.2,
           ))
         ];
+        absent = λ d none. elim (is_cases n d) [
+          | inl same ↦ absurd (not_there s
+              (sym e.stands ∙ ap (shared_at contexts) same ∙ none))
+          | inr apart ↦ ap (λ ps. seen_of ps d) e.passes
+              ∙ ap seen_by (pass_other w.passes.items n d q apart) ∙ t.absent d none
+        ];
         seat = e.seat;
         rows = e.rows;
         steps = e.steps;
@@ -317,3 +328,6 @@ module _ (plan : Plan) (contexts : List (Option SharedView)) (counter : Option (
 
       one_context : (x y : SharedView) → Some x ≡ Some y → x ≡ y
       one_context x y is = cc
+
+      not_there : (x : SharedView) → Some x ≡ None → ⊥
+      not_there x is = cc

@@ -1,5 +1,5 @@
 -- Openings, from what their functions say.
-use Rattle.std.proofs.Common.{◌≡◌, ℕ, suc, ◌+◌, ◌<◌, ◌≤◌, Bool, true, false, List, [], ◌∷◌, ◌++◌, length, map, take, drop, Option, Some, None, sym, refl, ap, ◌∙◌, subst, arith, append_assoc, if◌then◌else◌, Bor}
+use Rattle.std.proofs.Common.{◌≡◌, ℕ, ◌+◌, ◌<◌, ◌≤◌, List, [], ◌∷◌, ◌++◌, length, map, take, drop, Option, Some, None, sym, refl, ap, ◌∙◌, subst, arith, append_assoc, Bor}
 use Rattle.std.specs.Prelude.{slice_set}
 use Rattle.std.proofs.lemmas.List.{length-map, set-set}
 use Rattle.call_places.specs.declared.entries.Entry.{Entry}
@@ -10,16 +10,16 @@ use Rattle.call_places.specs.Spans.{span_bytes}
 use Rattle.call_places.specs.Entries.{own, seq_of}
 use Rattle.turn_lock.specs.Passes.{PassView}
 use Rattle.stamp_counter.specs.Seats.{CounterView}
-use Rattle.hpke_context.specs.Answers.{Item, Answer, Unseal, Cipher, answer, next, run}
+use Rattle.hpke_context.specs.Answers.{Answer, Unseal, Cipher, answer, run}
 use Rattle.hpke_context.specs.Contexts.{ContextView, cipher_of}
 use Rattle.legal_journals.specs.Batches.{Ask, ToOpenAll, block, unseal, items_in, context_in}
-use Rattle.legal_journals.specs.Guesses.{is_in_window, missed}
+use Rattle.legal_journals.specs.Guesses.{missed}
 use Rattle.legal_journals.specs.Entries.{entries_from, steps_from, numbers_from}
 use Rattle.gathered_lanes.specs.Lanes.{OpeningShows}
 use Rattle.gathered_lanes.proofs.Contexts.{AllReplied}
 use Rattle.gathered_lanes.proofs.Entries.{own-append}
 use Rattle.gathered_lanes.proofs.Serving.{opening_shows}
-use Rattle.context_books.specs.Openings.{unseals, opening_steps, opening_misses}
+use Rattle.context_books.specs.Openings.{unseals, opening_steps}
 use Rattle.shared_context.specs.Calls.{SharedView, HasCommitted}
 use Rattle.speculative_open.specs.Tables.{TableView}
 use Rattle.batch_plans.specs.declared.plan.Plan.{Plan}
@@ -39,44 +39,18 @@ use Rattle.lane_replies.specs.Writing.{PutsReplies}
 use Rattle.lane_replies.specs.Answered.{HasAnswered, HasRoomFor}
 use Rattle.lane_replies.proofs.Answering.{answered_all}
 use Rattle.lane_replies.proofs.Rooms.{room_after_all}
-use Rattle.lane_replies.proofs.Items.{length-unseals, one_line_each}
+use Rattle.lane_replies.proofs.Items.{one_line_each}
 use Rattle.lane_workers.specs.declared.works.LaneWork.{LaneWork}
 use Rattle.lane_workers.specs.Served.{Told, told_lines, told_served}
-use Rattle.lane_workers.specs.Turns.{shared_at, pass_at, views, opening_items, with_progress, Opens, IsOpening}
-use Rattle.lane_workers.specs.Lanes as lanes
-use Rattle.lane_workers.specs.Lanes.{asks_of, told_done, IsPassAt, HasSeat, LaneIsAt, MayAnswer}
+use Rattle.lane_replies.specs.LaneCalls.{opening_items, IsOpening}
+use Rattle.lane_workers.specs.Turns.{shared_at, pass_at, views, with_progress, Opens}
+use Rattle.lane_replies.specs.LaneCalls as lanes
+use Rattle.lane_workers.specs.Lanes.{told_done, IsPassAt, HasSeat, LaneIsAt, MayAnswer}
 use Rattle.lane_workers.proofs.Onward.{TellsOn, pass_within, pass_same, replied, guess_told, turned}
 use Rattle.lane_workers.proofs.Answering as answering
 use Rattle.lane_workers.proofs.Answering.{one_pass, next_within}
-use Rattle.lane_workers.proofs.Within.{opening_count, opening_few, opening_asks, opening_context, opening_room}
-
--- ---- a guess misses each item of an opening at most
-
-one_at_most : (b : Bool) → (if b then 0 else 1) ≤ 1
-one_at_most true = omega arith
-one_at_most false = omega arith
-
-missed_at_most : (guess i : ℕ) (ns : List ℕ) → missed guess i ns ≤ length ns
-missed_at_most guess i [] = omega arith
-missed_at_most guess i (n ∷ ns) =
-    let first = one_at_most (is_in_window guess i n) in
-    let rest = missed_at_most guess (i + 1) ns in
-    omega arith
-
-length-numbers_from : (c : Cipher) (n : ℕ) (xs : List Item)
-    → length (numbers_from c n xs) ≡ length xs
-length-numbers_from c n [] = refl
-length-numbers_from c n (x ∷ xs) = ap suc (length-numbers_from c (next n (answer c n x)) xs)
-
-pub few_missed : (view : ContextView) (n : ℕ) (pool : List ℕ) (items : List Spans) (guess : ℕ)
-    → opening_misses view n pool items guess ≤ length items
-few_missed view n pool items guess =
-    let most = missed_at_most guess 0 (numbers_from (cipher_of view) n (unseals pool items)) in
-    omega (
-      arith,
-      length-numbers_from (cipher_of view) n (unseals pool items),
-      length-unseals pool items,
-    )
+use Rattle.lane_replies.proofs.Misses.{few_missed}
+use Rattle.lane_replies.proofs.Within.{opening_count, opening_few, opening_asks, opening_context, opening_room}
 
 replied_lines : (replies : Place → Answer) (ps : List Place) (xs : List Answer)
     → AllReplied replies ps xs → map (λ p. answer_line (replies p)) ps ≡ map answer_line xs

@@ -26,12 +26,13 @@ use Rattle.batch_plans.specs.Calls.{context_of, refusal_by, seal_refusal, open_r
 use Rattle.due_replies.specs.Standing.{refusal_on}
 use Rattle.due_replies.specs.Asks.{ask_of, asked_by}
 use Rattle.lane_workers.specs.declared.works.LaneWork.{LaneWork}
-use Rattle.lane_workers.specs.Turns.{shared_at, pass_at, views, opening_items, with_table, CanTurn, Draws, Peeks, IsOpening}
+use Rattle.lane_replies.specs.LaneCalls.{opening_items, IsOpening}
+use Rattle.lane_workers.specs.Turns.{shared_at, pass_at, views, with_table, CanTurn, Draws, Peeks}
 use Rattle.lane_workers.specs.Lanes.{MayServe}
 use Rattle.lane_workers.proofs.Answering as answering
 use Rattle.lane_workers.proofs.Answering.{standing_is, one_pass}
 use Rattle.lane_workers.proofs.Onward.{pass_same}
-use Rattle.lane_workers.proofs.Within.{opening_asks, opening_context}
+use Rattle.lane_replies.proofs.Within.{opening_asks, opening_context}
 
 pub no_refusal : (why : CallRefusal) → Some why ≡ None → ⊥
 no_refusal why e = cc

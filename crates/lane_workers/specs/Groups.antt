@@ -5,7 +5,8 @@ use Rattle.stamp_counter.specs.Seats.{CounterView}
 use Rattle.shared_context.specs.Calls.{SharedView}
 use Rattle.batch_plans.specs.declared.plan.Plan.{Plan}
 use Rattle.lane_workers.specs.declared.works.LaneWork.{LaneWork}
-use Rattle.lane_workers.specs.Lanes.{lane_calls, LaneIsAt}
+use Rattle.lane_replies.specs.LaneCalls.{lane_calls}
+use Rattle.lane_workers.specs.Lanes.{LaneIsAt}
 
 -- the lane is one of the plan's and has made no call
 pub record IsFresh (plan : Plan) (contexts : List (Option SharedView))

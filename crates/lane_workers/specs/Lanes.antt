@@ -1,5 +1,5 @@
 -- ---- for the proofs: a lane between two of its calls.
-use Rattle.std.specs.Prelude.{ℕ, ◌≡◌, ◌*◌, ◌<◌, ◌≤◌, List, [], length, map, take, drop, slice_get, slice_index, slice_index_or, Option, Some, None}
+use Rattle.std.specs.Prelude.{ℕ, ◌≡◌, ◌*◌, ◌<◌, ◌≤◌, List, [], length, map, take, drop, slice_get, slice_index, Option, Some, None}
 use Rattle.std.specs.List.{All}
 use Rattle.std.specs.Borrow.{Bor}
 use Rattle.call_places.specs.declared.entries.Entry.{Entry}
@@ -24,13 +24,11 @@ use Rattle.batch_plans.specs.Progress.{Progress}
 use Rattle.reply_texts.specs.ReplyText.{numbered, all_lines}
 use Rattle.due_replies.specs.Standing.{AreOfLines, export_limits, call_refusal}
 use Rattle.due_replies.specs.Asks.{batch_of, cipher_at}
+use Rattle.lane_replies.specs.LaneCalls.{lane_calls}
 use Rattle.lane_replies.specs.Answered.{HasAnswered, HasRoomFor}
 use Rattle.lane_workers.specs.declared.works.LaneWork.{LaneWork}
 use Rattle.lane_workers.specs.Served.{Told, told_lines, seen_of}
 use Rattle.lane_workers.specs.Turns.{shared_at, pass_at, views}
-
-abbrev pub lane_calls : Plan → ℕ → List CallLine
-lane_calls plan lane = slice_index_or plan.lanes lane []
 
 abbrev pub asks_of : Plan → List (Option ContextView) → ℕ → List Ask
 asks_of plan contexts lane = lane_of (batch_of plan contexts) lane
@@ -90,6 +88,7 @@ pub record LaneIsAt (plan : Plan) (contexts : List (Option SharedView))
   pub count : length w.passes.items ≡ length contexts
   pub passes : (c : ℕ) (s : SharedView) → shared_at contexts c ≡ Some s
       → (p : PassView) × (pass_at w.passes.items c ≡ Some p) × IsPassAt s lane k p
+  pub absent : (c : ℕ) → shared_at contexts c ≡ None → seen_of w.passes.items c ≡ []
   pub seat : HasSeat counter low w.seat
   pub stamps : StampsAre lane k (seen_of w.passes.items) low
   pub says : (told : Told) → Tells lane given guesses misses told

@@ -1,5 +1,5 @@
 -- What a lane is given before its first call, and what it gives back when it is served.
-use Rattle.std.specs.Prelude.{ℕ, ◌≡◌, ◌<◌, List, [], length, Option, Some}
+use Rattle.std.specs.Prelude.{ℕ, ◌≡◌, ◌<◌, List, [], length, Option, Some, None}
 use Rattle.std.specs.Borrow.{Bor}
 use Rattle.turn_lock.specs.Passes.{PassView, fresh_pass}
 use Rattle.stamp_counter.specs.Seats.{SeatView, CounterView}
@@ -12,7 +12,7 @@ use Rattle.batch_plans.specs.Room.{lane_room}
 use Rattle.due_replies.specs.Standing.{export_limits}
 use Rattle.lane_workers.specs.Served.{seen_of, LaneIsServed}
 use Rattle.lane_workers.specs.Turns.{shared_at, pass_at, views}
-use Rattle.lane_workers.specs.Lanes.{lane_calls}
+use Rattle.lane_replies.specs.LaneCalls.{lane_calls}
 
 -- The lane is one of the plan's. It has a fresh pass of each context that stands, of its own number;
 -- where there is a counter of stamps, a note of it; and just the room that its answers need.
@@ -37,5 +37,6 @@ pub record IsReturned (plan : Plan) (contexts : List (Option SharedView))
   pub count : length passes ≡ length contexts
   pub passes_are : (number : ℕ) (s : SharedView) → shared_at contexts number ≡ Some s
       → (p : PassView) × (pass_at passes number ≡ Some p) × (p.lock ≡ s.lock) × (p.number ≡ lane)
+  pub absent : (number : ℕ) → shared_at contexts number ≡ None → seen_of passes number ≡ []
   pub seat_is : (stamps : Bor CounterView) → counter ≡ Some stamps
       → (s : SeatView) × (seat ≡ Some s) × IsNote stamps.now.id s

@@ -1,5 +1,5 @@
 -- ---- for the proofs: one turn of a lane at a context, and what it leaves as it was.
-use Rattle.std.specs.Prelude.{ℕ, ◌≡◌, ◌+◌, ◌<◌, ◌≤◌, List, [], ◌∷◌, length, map, take, slice_index_or, slice_set, sum_by, Option, Some, None}
+use Rattle.std.specs.Prelude.{ℕ, ◌≡◌, ◌+◌, ◌<◌, ◌≤◌, List, length, map, take, slice_index_or, slice_set, sum_by, Option, Some, None}
 use Rattle.std.specs.Borrow.{Bor}
 use Rattle.call_places.specs.declared.spans.Item.{Item}
 use Rattle.turn_lock.specs.Passes.{PassView}
@@ -13,12 +13,11 @@ use Rattle.shared_context.specs.Calls.{SharedView, MayCall, HasDrawn, HasPeeked,
 use Rattle.speculative_open.specs.Tables.{TableView}
 use Rattle.batch_plans.specs.declared.plan.Plan.{Plan}
 use Rattle.batch_plans.specs.declared.plan.CallLine.{CallLine}
-use Rattle.batch_plans.specs.declared.plan.CallLine.TheVariants as calls
-use Rattle.batch_plans.specs.Limits.{items_from}
 use Rattle.batch_plans.specs.Calls.{context_of}
 use Rattle.batch_plans.specs.Room.{opened_room}
 use Rattle.batch_plans.specs.Progress.{Progress}
 use Rattle.due_replies.specs.Runs.{answer_line}
+use Rattle.lane_replies.specs.LaneCalls.{opening_items}
 use Rattle.lane_replies.specs.Writing.{PutsReplies}
 use Rattle.lane_workers.specs.declared.works.LaneWork.{LaneWork}
 
@@ -47,19 +46,6 @@ with_table w table = record w { table = table }
 -- the contexts that stand
 abbrev pub views : List (Option SharedView) → List (Option ContextView)
 views contexts = map view_in contexts
-
--- the items that an opening names
-abbrev pub opening_items : Plan → CallLine → List Item
-opening_items plan (calls.Seal context item) = []
-opening_items plan (calls.Unseal context item) = item ∷ []
-opening_items plan (calls.UnsealAll context first count) = items_from plan.items first count
-opening_items plan (calls.Export context exporter size) = []
-
-abbrev pub IsOpening : CallLine → Type 0
-IsOpening (calls.Seal context item) = ⊥
-IsOpening (calls.Unseal context item) = Unit {0}
-IsOpening (calls.UnsealAll context first count) = Unit {0}
-IsOpening (calls.Export context exporter size) = ⊥
 
 -- ---- before a turn
 

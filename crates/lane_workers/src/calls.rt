@@ -9,20 +9,21 @@ ghost use Rattle.batch_plans.specs.Room.{opened_room};
 ghost use Rattle.reply_texts.specs.Lines.{exported_line};
 ghost use Rattle.due_replies.specs.Runs.{answer_line};
 ghost use Rattle.lane_replies.specs.Writing.{PutsReplies};
-ghost use Rattle.batch_plans.specs.Limits.{IsCallWithin};
 ghost use Rattle.due_replies.specs.Standing.{refusal_on};
 ghost use Rattle.shared_context.specs.Calls.{MayCall, HasCommitted};
 ghost use Rattle.shared_context.specs.Stamped.{IsNote};
-ghost use Rattle.lane_workers.specs.Turns.{shared_at, view_of, with_table, with_progress, opening_items, IsOpening, CanTurn, Draws, Peeks, Commits, Opens};
-ghost use Rattle.lane_workers.specs.Lanes.{lane_calls, AreShared, LaneIsAt, MayAnswer, MayServe};
+ghost use Rattle.lane_replies.specs.LaneCalls.{opening_items, IsOpening};
+ghost use Rattle.lane_workers.specs.Turns.{shared_at, view_of, with_table, with_progress, CanTurn, Draws, Peeks, Commits, Opens};
+ghost use Rattle.lane_replies.specs.LaneCalls.{lane_calls};
+ghost use Rattle.lane_workers.specs.Lanes.{AreShared, LaneIsAt, MayAnswer, MayServe};
 
 use crate::works::LaneWork;
 use aes_gcm::Checks;
 use batch_io::{Gate, Point};
-use batch_plans::{Batch, CallLine, CallRefusal, Plan, context_of, items_from, refusal_by};
+use batch_plans::{Batch, CallLine, CallRefusal, Plan, context_of, refusal_by};
 use call_places::{Item, Span, Step};
 use context_books::Draw;
-use lane_replies::{export, finish_opening, finish_seal, refuse};
+use lane_replies::{export, finish_opening, finish_seal, items_of_opening, refuse};
 use shared_context::SharedContext;
 use speculative_open::GuessTable;
 use stamp_counter::{StampCounter, StampSeat};
@@ -38,22 +39,6 @@ pub(crate) struct Service<'a, R, G> {
     pub(crate) contexts: &'a [Option<SharedContext>],
     pub(crate) counter: Option<&'a StampCounter>,
     pub(crate) gate: &'a G,
-}
-
-// The items of an opening.
-fn items_of_opening<'a>(plan: &'a Plan, call: &'a CallLine) -> &'a [Item]
-    requires { IsCallWithin (length plan.now.items) (length plan.now.pool) call.now }
-    ensures { result.now ≡ opening_items plan.now call.now }
-{
-    match call {
-        CallLine::Unseal { item, .. } => std::slice::from_ref(item),
-        CallLine::UnsealAll { first, count, .. } => items_from(
-            plan.items.as_slice(),
-            *first,
-            *count,
-        ),
-        CallLine::Seal { .. } | CallLine::Export { .. } => &[],
-    }
 }
 
 // Why a call is refused on a context that may not stand.

@@ -6,9 +6,13 @@
 //! commits its items while the lane holds the context's turn; all encryption, decryption and testing
 //! of tags is done while it holds none (RFC 9180, 5.2).
 //!
+//! [`take_passes`] hands a lane its passes of all contexts, and [`put_passes`] puts them back, as
+//! `specs/Handing.antt` says, so that each context can be closed over the passes that it gave.
+//!
 //! What a lane shows when it is served is `LaneIsServed` of `specs/Served.antt`, by its own passes
-//! alone. That all lanes together make legal journals is shown once the contexts are closed
-//! (`gathered_lanes`).
+//! alone. Once every lane was served and every context is closed, the law
+//! [`served_lanes_make_a_run`] says that their answers and journals are, with some guesses, those of
+//! a run that is allowed.
 //!
 //! `serve` may wait for a turn. It takes no memory and refuses nothing. That a turn ever comes, and in
 //! which order lanes get theirs, is not said.
@@ -21,6 +25,6 @@ mod serving;
 mod works;
 
 pub use laws::served_lanes_make_a_run;
-pub use passes::take_passes;
+pub use passes::{put_passes, take_passes};
 pub use serving::serve;
 pub use works::{LanePasses, LaneWork, SharedList};

@@ -166,70 +166,50 @@ with_pool plan pool long small h = record {
   opened = h.opened;
 }
 
--- with a seed, before the first key line and the first context line
-pub with_seed : (plan : Plan) (seed : List ℕ) → length plan.keys ≡ 0 → length plan.contexts ≡ 0 → IsBuilt plan → IsBuilt (record plan { seed = Some seed })
-with_seed plan seed no_key no_context h = record {
+-- with this seed, these keys and these contexts
+with_set_up : (plan : Plan) (seed : Option (List ℕ)) (keys : List KeyLine) (contexts : List ContextLine) → length keys ≤ most_keys → length contexts ≤ most_contexts
+    → All (IsKeyWithin seed (length plan.pool)) keys → All (IsContextWithin seed (length plan.pool)) contexts → IsBuilt plan
+    → IsBuilt (record plan { seed = seed; keys = keys; contexts = contexts })
+with_set_up plan seed keys contexts few_keys few_contexts key_lines context_lines h = record {
   limits = record {
     version = h.limits.version;
     pool = h.limits.pool;
-    keys = h.limits.keys;
-    contexts = h.limits.contexts;
+    keys = few_keys;
+    contexts = few_contexts;
     lanes = h.limits.lanes;
     items = h.limits.items;
     exported = h.limits.exported;
     texts = h.limits.texts;
-    key_lines = λ k d lt. absurd (omega (arith, lt, no_key));
-    context_lines = λ k d lt. absurd (omega (arith, lt, no_context));
+    key_lines = key_lines;
+    context_lines = context_lines;
     item_count = h.limits.item_count;
     item_list = h.limits.item_list;
     call_lines = h.limits.call_lines;
   };
   opened = h.opened;
 }
+
+-- with a seed, before the first key line and the first context line
+pub with_seed : (plan : Plan) (seed : List ℕ) → length plan.keys ≡ 0 → length plan.contexts ≡ 0 → IsBuilt plan → IsBuilt (record plan { seed = Some seed })
+with_seed plan seed no_key no_context h =
+    with_set_up plan (Some seed) plan.keys plan.contexts h.limits.keys h.limits.contexts
+    (λ k d lt. absurd (omega (arith, lt, no_key))) (λ k d lt. absurd (omega (arith, lt, no_context))) h
 
 -- a key more
 pub with_key : (plan : Plan) (key : KeyLine) → length plan.keys + 1 ≤ most_keys → IsKeyWithin plan.seed (length plan.pool) key → IsBuilt plan
     → IsBuilt (record plan { keys = plan.keys ++ key ∷ [] })
-with_key plan key few within h = record {
-  limits = record {
-    version = h.limits.version;
-    pool = h.limits.pool;
-    keys = omega (arith, few, length-append plan.keys (key ∷ []));
-    contexts = h.limits.contexts;
-    lanes = h.limits.lanes;
-    items = h.limits.items;
-    exported = h.limits.exported;
-    texts = h.limits.texts;
-    key_lines = All-push (IsKeyWithin plan.seed (length plan.pool)) plan.keys key h.limits.key_lines within;
-    context_lines = h.limits.context_lines;
-    item_count = h.limits.item_count;
-    item_list = h.limits.item_list;
-    call_lines = h.limits.call_lines;
-  };
-  opened = h.opened;
-}
+with_key plan key few within h =
+    let keys = plan.keys ++ key ∷ [] in
+    let lines : All (IsKeyWithin plan.seed (length plan.pool)) keys = All-push (IsKeyWithin plan.seed (length plan.pool)) plan.keys key h.limits.key_lines within in
+    with_set_up plan plan.seed keys plan.contexts (omega (arith, few, length-append plan.keys (key ∷ []))) h.limits.contexts lines h.limits.context_lines h
 
 -- a context more
 pub with_context : (plan : Plan) (line : ContextLine) → length plan.contexts + 1 ≤ most_contexts → IsContextWithin plan.seed (length plan.pool) line → IsBuilt plan
     → IsBuilt (record plan { contexts = plan.contexts ++ line ∷ [] })
-with_context plan line few within h = record {
-  limits = record {
-    version = h.limits.version;
-    pool = h.limits.pool;
-    keys = h.limits.keys;
-    contexts = omega (arith, few, length-append plan.contexts (line ∷ []));
-    lanes = h.limits.lanes;
-    items = h.limits.items;
-    exported = h.limits.exported;
-    texts = h.limits.texts;
-    key_lines = h.limits.key_lines;
-    context_lines = All-push (IsContextWithin plan.seed (length plan.pool)) plan.contexts line h.limits.context_lines within;
-    item_count = h.limits.item_count;
-    item_list = h.limits.item_list;
-    call_lines = h.limits.call_lines;
-  };
-  opened = h.opened;
-}
+with_context plan line few within h =
+    let contexts = plan.contexts ++ line ∷ [] in
+    let lines : All (IsContextWithin plan.seed (length plan.pool)) contexts = All-push (IsContextWithin plan.seed (length plan.pool)) plan.contexts line h.limits.context_lines within in
+    with_set_up plan plan.seed plan.keys contexts h.limits.keys (omega (arith, few, length-append plan.contexts (line ∷ []))) h.limits.key_lines lines h
 
 -- a lane more
 pub with_lane : (plan : Plan) → length plan.lanes + 1 ≤ most_lanes → IsBuilt plan → IsBuilt (record plan { lanes = plan.lanes ++ [] ∷ [] })

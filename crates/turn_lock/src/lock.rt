@@ -15,10 +15,10 @@ use crate::views::View;
 use atomic_table::{Seat, Table};
 use call_places::Listed;
 use std::alloc::{AllocError as OutOfMemory, Global};
+use std::hint;
 use std::marker::Model;
 use std::snapshot::Snapshot;
 use std::sync::Wait;
-use std::thread;
 
 // The words of the table: whose turn it is, and the ticket that is given out next.
 const TURN: usize = 0;
@@ -27,6 +27,12 @@ const TICKET: usize = 1;
 
 // The slot of the table, which has the value while nobody holds it.
 const VALUE: usize = 0;
+
+// So many looks at the turn are cheaper than a sleep.
+const LOOKS: u32 = 256;
+
+// A thread sleeps by the low 32 bits of a word.
+const PARK_RANGE: u64 = 4_294_967_296;
 
 /// A lock round one value. Contracts see which lock it is, with the terms of its value, which never
 /// change, and how many passes it was made with.
@@ -113,7 +119,7 @@ impl<V: Listed> TurnLock<V> {
     /// Takes a ticket, waits for its turn, and takes the value.
     ///
     /// The entries that came since the pass's last turn are other passes' alone. How long it waits
-    /// is up to them: a turn ends only where its holder leaves.
+    /// is up to them: a turn ends only where its holder leaves. It looks some times, and then sleeps.
     pub fn enter<R: Wait>(&self, rt: &R, pass: Pass) -> Held<V>
         requires lock { pass.lock ≡ self.now.lock }
         requires turns { pass.turns < 4294967295 }
@@ -131,6 +137,7 @@ impl<V: Listed> TurnLock<V> {
         let mut seat: Seat<Option<V>, View> = badge.into_seat();
         let shared = &self.table.shared;
         let ticket = shared.fetch_add::<Ticket>(&mut seat, TICKET, 1);
+        let mut looks = 0;
         for _ in rt.forever() {
             if shared.load::<Look>(&mut seat, TURN) == ticket {
                 match shared.exchange(&mut seat, VALUE, None) {
@@ -147,9 +154,34 @@ impl<V: Listed> TurnLock<V> {
                     None => unreachable!(),
                 }
             }
-            thread::yield_now();
+            looks = self.wait(rt, ticket, looks);
         }
         unreachable!()
+    }
+
+    // Waits a little after so many looks at the turn, and counts this one. A turn is short, so the
+    // first looks follow at once; later the thread sleeps until a holder leaves. It doesn't sleep
+    // through its own turn: `park` returns where the word isn't what was read here.
+    fn wait<R: Wait>(&self, rt: &R, ticket: u64, looks: u32) -> u32 {
+        if looks < LOOKS {
+            hint::spin_loop();
+            return looks + 1;
+        }
+        let shared = &self.table.shared;
+        let turn = shared.peek(TURN);
+        if turn != ticket {
+            shared.park(rt, TURN, (turn % PARK_RANGE) as u32);
+        }
+        looks
+    }
+
+    // Wakes those who sleep, where a ticket after this one was given out. Who takes a ticket later
+    // finds the new turn.
+    fn wake(&self, ticket: u64) {
+        let shared = &self.table.shared;
+        if shared.peek(TICKET) > ticket.saturating_add(1) {
+            shared.wake_all(TURN);
+        }
     }
 
     /// Puts the value back, and lets the next ticket have its turn. It waits for nobody.
@@ -182,6 +214,7 @@ impl<V: Listed> TurnLock<V> {
             Some(_) => unreachable!(),
         }
         shared.store::<Advance>(&mut seat, TURN, ticket + 1);
+        self.wake(ticket);
         Pass {
             badge: seat.into_badge(),
             number,

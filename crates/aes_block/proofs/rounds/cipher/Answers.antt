@@ -4,9 +4,9 @@ use Rattle.aes_block.specs.Words.{state_bytes}
 use Rattle.aes_block.proofs.Expanding.{state_after-none}
 use Rattle.aes_block.proofs.rounds.cipher.Goals as goal
 
-pub loop-i-init : goal.loop-i-init
-loop-i-init c =
+pub returns : goal.returns
+returns c = c.finish.ensures c.args.block.now (
     c.add_round_key-state.ensures
     ∙ ap (λ s. xor_bytes s (state_bytes c.round_key.result)) c.load.ensures
     ∙ ap (xor_bytes c.args.block.now) c.round_key.ensures
-    ∙ sym (state_after-none c.args.w.now c.args.block.now)
+    ∙ sym (state_after-none c.args.w.now c.args.block.now))

@@ -9,7 +9,8 @@ use Rattle.context_books.specs.Openings.{opening_steps, opening_misses, unseals}
 use Rattle.std.specs.Vec.{with_item}
 use Rattle.context_core.specs.declared.books.Books.{Books}
 use Rattle.context_core.specs.Books.{Settles}
-use Rattle.context_core.proofs.Misses.{few_missed, book_read}
+use Rattle.lane_replies.proofs.Misses.{few_missed}
+use Rattle.context_core.proofs.Adding.{book_read}
 use Rattle.context_core.proofs.books.settle.Goals as goal
 
 pub returns : goal.returns

@@ -1,6 +1,6 @@
 use Rattle.std.proofs.Common.{ap, arith}
 use Rattle.std.specs.Prelude.{sum}
-use Rattle.context_core.proofs.Quotas.{quotas_few}
+use Rattle.lane_quotas.proofs.Counts.{quotas_few}
 use Rattle.context_core.proofs.preparing.book.Goals as goal
 
 pub new-requires-clause-sum : goal.new-requires-clause-sum

@@ -14,7 +14,8 @@ use Rattle.due_replies.specs.Standing.{export_limits}
 use Rattle.due_replies.specs.Asks.{batch_of, cipher_at}
 use Rattle.context_core.specs.declared.lanes.Lane.{Lane}
 use Rattle.context_core.specs.Books.{book_at}
-use Rattle.context_core.specs.Preparing.{answers_of, written, IsEnded, HasRoom}
+use Rattle.lane_quotas.specs.Journals.{written, HasRoom}
+use Rattle.context_core.specs.Preparing.{answers_of, IsEnded}
 use Rattle.context_core.proofs.Begun.{begun_follows, pools_small}
 use Rattle.context_core.proofs.Ended.{refill_is, last_follows, ended, lines_are, has_room, journals_are}
 use Rattle.context_core.proofs.rehearsals.rehearse.Goals as goal

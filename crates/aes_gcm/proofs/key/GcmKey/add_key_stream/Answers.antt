@@ -1,38 +1,29 @@
-use Rattle.std.proofs.Common.{◌≡◌, ◌≤◌, ◌<◌, ◌+◌, ◌-◌, ◌++◌, min, length, take, drop, length-drop, ap, sym, ◌∙◌, arith}
+use Rattle.std.proofs.Common.{◌≡◌, ◌≤◌, ◌<◌, ◌+◌, ◌*◌, ◌++◌, length, take, drop, length-drop, ap, sym, ◌∙◌, arith}
 use Rattle.std.proofs.lemmas.List.{take_all, append-nil}
-use Rattle.aes_gcm.specs.Gcm.{gctr}
-use Rattle.aes_gcm.proofs.Streams.{gctr-more, gctr_from-none}
+use Rattle.aes_gcm.proofs.Streams.{gctr_from-rest, gctr_from-none}
 use Rattle.aes_gcm.proofs.key.GcmKey.add_key_stream.Goals as goal
 
-pub loop-done-preserved : goal.loop-done-preserved
-loop-done-preserved c =
-    let key = c.args.self.now in
-    let nonce = c.args.nonce.now in
+pub returns-then-blocks-text : goal.returns-then-blocks-text
+returns-then-blocks-text c =
     let text = c.args.text.now in
-    let i = c.loop-done.i in
-    let done = c.loop-done.done in
-    let n = c.add_at-done.result in
+    let blocks = c.add_blocks_of-blocks.result in
+    let rest = drop (16 * blocks) text in
     let stream = c.stream_block-stream.result in
-    let more : done < length text = omega arith in
-    let count : n ≡ min (length text - done) 16 = c.add_at-done.ensures.count in
     let size : length stream ≡ 16 = omega arith in
-    record {
-      sum = gctr-more key nonce i text stream (take done c.loop-done.out) (take (done + n) c.add_at-done.new.out)
-          (gctr key nonce text) done n c.stream_block-stream.ensures size more count c.loop-done.invariant.sum c.add_at-done.ensures.bytes;
-      size = omega arith;
-      within = omega arith;
-      few = omega arith;
-    }
+    let some : 0 < length rest = omega (arith, length-drop (16 * blocks) text) in
+    let short : length rest ≤ 16 = omega (arith, length-drop (16 * blocks) text) in
+    c.add_rest.ensures
+    ∙ ap (λ xs. take (16 * blocks) c.add_blocks_of-blocks.new.out ++ xs)
+    (sym (gctr_from-rest c.args.self.now c.args.nonce.now (blocks + 1) rest stream c.stream_block-stream.ensures size some short))
+    ∙ c.add_blocks_of-blocks.ensures.sum
 
-pub returns : goal.returns
-returns c =
-    let key = c.args.self.now in
-    let nonce = c.args.nonce.now in
+pub returns-else-blocks-text : goal.returns-else-blocks-text
+returns-else-blocks-text c =
     let text = c.args.text.now in
-    let done = c.loop-done.done in
-    let out = c.loop-done.out in
-    let all : length out ≤ done = omega arith in
-    let none : length (drop done text) ≡ 0 = omega (arith, length-drop done text) in
-    sym (ap (λ xs. take done out ++ xs) (gctr_from-none key nonce c.loop-done.i (drop done text) none)
-    ∙ append-nil (take done out) ∙ take_all done out all)
-    ∙ c.loop-done.invariant.sum
+    let blocks = c.add_blocks_of-blocks.result in
+    let out = c.add_blocks_of-blocks.new.out in
+    let all : length out ≤ 16 * blocks = omega arith in
+    let none : length (drop (16 * blocks) text) ≡ 0 = omega (arith, length-drop (16 * blocks) text) in
+    sym (ap (λ xs. take (16 * blocks) out ++ xs) (gctr_from-none c.args.self.now c.args.nonce.now (blocks + 1) (drop (16 * blocks) text) none)
+    ∙ append-nil (take (16 * blocks) out) ∙ take_all (16 * blocks) out all)
+    ∙ c.add_blocks_of-blocks.ensures.sum

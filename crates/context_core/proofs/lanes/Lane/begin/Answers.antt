@@ -8,9 +8,9 @@ use Rattle.reply_texts.specs.Lines.{exported_line}
 use Rattle.due_replies.specs.Standing.{standing_at}
 use Rattle.lane_replies.specs.Writing.{PutsReplies}
 use Rattle.context_core.specs.Books.{book_at}
-use Rattle.context_core.specs.Following.{IsOpening}
+use Rattle.lane_replies.specs.LaneCalls.{IsOpening}
 use Rattle.context_core.specs.declared.lanes.Stage.TheVariants.{Drawn, Guessed}
-use Rattle.context_core.proofs.Small.{call_low, line_within}
+use Rattle.lane_replies.proofs.Within.{call_low, line_within}
 use Rattle.context_core.proofs.Allowed.{stands_of}
 use Rattle.context_core.proofs.Served.{refused_left, refused_done, may_draw, drawn_follows, guessed_follows, exported_done, finds_room}
 use Rattle.context_core.proofs.lanes.Lane.begin.Goals as goal

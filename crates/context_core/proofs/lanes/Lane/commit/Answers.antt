@@ -9,8 +9,8 @@ use Rattle.batch_plans.specs.Calls.{context_of}
 use Rattle.due_replies.specs.Standing.{standing_at}
 use Rattle.context_core.specs.Books.{book_at, MayAdd, Settles}
 use Rattle.context_core.specs.declared.lanes.Stage.TheVariants.{Settled}
-use Rattle.context_core.specs.Following.{opening_items, lane_calls}
-use Rattle.context_core.proofs.Small.{call_low, line_within, opening_spans, opening_count, of_call}
+use Rattle.lane_replies.specs.LaneCalls.{opening_items, lane_calls}
+use Rattle.lane_replies.proofs.Within.{call_low, line_within, opening_spans, opening_count, of_call}
 use Rattle.context_core.proofs.Served.{may_settle, settled_follows, tested_opens}
 use Rattle.context_core.proofs.lanes.Lane.commit.Goals as goal
 

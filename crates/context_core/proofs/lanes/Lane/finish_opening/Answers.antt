@@ -11,9 +11,10 @@ use Rattle.batch_plans.specs.Room.{opened_room}
 use Rattle.due_replies.specs.Standing.{standing_at}
 use Rattle.due_replies.specs.Runs.{answer_line}
 use Rattle.lane_replies.specs.Writing.{PutsReplies}
-use Rattle.context_core.specs.Following.{opening_items, lane_calls, with_guess}
+use Rattle.lane_replies.specs.LaneCalls.{opening_items, lane_calls}
+use Rattle.context_core.specs.Following.{with_guess}
 use Rattle.context_core.specs.declared.lanes.Stage.TheVariants.{Fresh}
-use Rattle.context_core.proofs.Small.{call_low, line_within, opening_spans, opening_count, opening_room, of_call}
+use Rattle.lane_replies.proofs.Within.{call_low, line_within, opening_spans, opening_count, opening_room, of_call}
 use Rattle.context_core.proofs.Served.{opened_follows, settled_opens, finds_room}
 use Rattle.context_core.proofs.lanes.Lane.finish_opening.Goals as goal
 

@@ -8,7 +8,7 @@ use Rattle.batch_plans.specs.Room.{served_room}
 use Rattle.due_replies.specs.Runs.{answer_line}
 use Rattle.lane_replies.specs.Writing.{due_at, PutsReplies}
 use Rattle.context_core.specs.declared.lanes.Stage.TheVariants.{Fresh}
-use Rattle.context_core.proofs.Small.{call_low, line_within, span_size}
+use Rattle.lane_replies.proofs.Within.{call_low, line_within, span_size}
 use Rattle.context_core.proofs.Served.{sealed_done, finds_room, drawn_free}
 use Rattle.context_core.proofs.lanes.Lane.finish_seal.Goals as goal
 

@@ -5,7 +5,8 @@ use Rattle.std.proofs.lemmas.Option.{slice_get_past}
 use Rattle.core_schedules.specs.Core.{Core, happens}
 use Rattle.due_replies.specs.Asks.{batch_of, cipher_at}
 use Rattle.context_core.specs.declared.lanes.Lane.{Lane}
-use Rattle.context_core.specs.Following.{lane_calls, MayStep, IsRehearsal, Follows}
+use Rattle.lane_replies.specs.LaneCalls.{lane_calls}
+use Rattle.context_core.specs.Following.{MayStep, IsRehearsal, Follows}
 use Rattle.context_core.proofs.Events.{read_at, calls_read, few_places, lane_steps, idle_event}
 use Rattle.context_core.proofs.rehearsals.Rehearsal.event.Goals as goal
 

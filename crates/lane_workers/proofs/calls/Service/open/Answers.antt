@@ -12,11 +12,12 @@ use Rattle.batch_plans.specs.Progress.{Progress}
 use Rattle.due_replies.specs.Runs.{answer_line}
 use Rattle.lane_replies.specs.Writing.{PutsReplies}
 use Rattle.lane_workers.specs.declared.works.LaneWork.{LaneWork}
-use Rattle.lane_workers.specs.Turns.{CanTurn, Peeks, Commits, with_table, opening_items}
-use Rattle.lane_workers.specs.Lanes.{lane_calls}
+use Rattle.lane_replies.specs.LaneCalls.{opening_items}
+use Rattle.lane_workers.specs.Turns.{CanTurn, Peeks, Commits, with_table}
+use Rattle.lane_replies.specs.LaneCalls.{lane_calls}
 use Rattle.lane_workers.proofs.Answering.{fits, finds_room}
 use Rattle.lane_workers.proofs.Ready.{look_turn, commit_turn}
-use Rattle.lane_workers.proofs.Within.{of_call, opening_count, opening_spans, opening_room}
+use Rattle.lane_replies.proofs.Within.{of_call, opening_count, opening_spans, opening_room}
 use Rattle.lane_workers.proofs.calls.Service.open.Goals as goal
 
 pub guess-guess-requires-clause-turn : goal.guess-guess-requires-clause-turn

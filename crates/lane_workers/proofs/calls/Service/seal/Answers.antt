@@ -9,7 +9,7 @@ use Rattle.due_replies.specs.Runs.{answer_line}
 use Rattle.lane_replies.specs.Writing.{due_at, PutsReplies}
 use Rattle.lane_workers.proofs.Answering.{fits, finds_room, sealed_on}
 use Rattle.lane_workers.proofs.Ready.{seal_turn, seal_context, stands_at}
-use Rattle.lane_workers.proofs.Within.{span_size}
+use Rattle.lane_replies.proofs.Within.{span_size}
 use Rattle.lane_workers.proofs.calls.Service.seal.Goals as goal
 
 -- the replies of a seal, by what its function was given

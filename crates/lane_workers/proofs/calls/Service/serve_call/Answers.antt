@@ -4,7 +4,8 @@ use Rattle.batch_plans.specs.Calls.{context_of}
 use Rattle.batch_plans.specs.Room.{served_room, served_batches}
 use Rattle.batch_plans.specs.Progress.{with_batch}
 use Rattle.lane_workers.specs.declared.works.LaneWork.{LaneWork}
-use Rattle.lane_workers.specs.Turns.{IsOpening, shared_at, with_progress}
+use Rattle.lane_replies.specs.LaneCalls.{IsOpening}
+use Rattle.lane_workers.specs.Turns.{shared_at, with_progress}
 use Rattle.lane_workers.specs.Lanes.{LaneIsAt}
 use Rattle.lane_workers.proofs.Answering.{fits, finds_room, exported_on, standing_is}
 use Rattle.lane_workers.proofs.Opened.{unsealed_on, opened_all_on}

@@ -2,9 +2,10 @@ use Rattle.std.proofs.Common.{◌≡◌, ◌<◌, List, length, sym, ap, ◌∙�
 use Rattle.std.specs.Prelude.{slice_get}
 use Rattle.std.proofs.lemmas.Option.{slice_get-get_or}
 use Rattle.batch_plans.specs.declared.plan.CallLine.{CallLine}
-use Rattle.lane_workers.specs.Lanes.{lane_calls, LaneIsAt}
+use Rattle.lane_replies.specs.LaneCalls.{lane_calls}
+use Rattle.lane_workers.specs.Lanes.{LaneIsAt}
 use Rattle.lane_workers.proofs.Found.{lane_here}
-use Rattle.lane_workers.proofs.Within.{calls_few}
+use Rattle.lane_replies.proofs.Within.{calls_few}
 use Rattle.lane_workers.proofs.calls.Service.serve_lane.Goals as goal
 
 pub overflow_cast-call : goal.overflow_cast-call

@@ -4,7 +4,7 @@ use Rattle.speculative_open.specs.Tables.{TableView}
 use Rattle.batch_plans.specs.Limits.{items_of}
 use Rattle.batch_plans.specs.declared.plan.CallLine.{CallLine}
 use Rattle.lane_workers.specs.declared.works.LaneWork.{LaneWork}
-use Rattle.lane_workers.specs.Lanes.{lane_calls}
+use Rattle.lane_replies.specs.LaneCalls.{lane_calls}
 use Rattle.lane_workers.specs.Returned.{IsGiven}
 use Rattle.lane_workers.proofs.Ended.{begins}
 use Rattle.lane_workers.proofs.Found.{lane_here}

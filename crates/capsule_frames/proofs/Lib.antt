@@ -1,0 +1,2 @@
+pub mod SpelledLines
+pub mod SpelledPlans

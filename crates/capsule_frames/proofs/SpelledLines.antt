@@ -1,0 +1,349 @@
+-- The pieces of a key line or of a capsule line are those of what it spells.
+use Rattle.std.proofs.Common.{◌≡◌, ◌≢◌, ℕ, ◌≤◌, ◌==◌, cond, Bool, true, false, List, [], ◌∷◌, ◌++◌, length, drop, codes, decimal, Option, Result, Ok, refl, sym, ap, subst, ◌∙◌, lit<, arith}
+use Rattle.std.specs.Prelude.{IsSome}
+use Rattle.std.proofs.lemmas.Bool.Decides.{nat_tests}
+use Rattle.hkdf_labelled.specs.Suites.{aead_id}
+use Rattle.hkdf_labelled.specs.declared.suites.Aead.{Aead}
+use Rattle.hkdf_labelled.specs.declared.suites.Aead.TheVariants.{Aes128, Aes256, ExportOnly}
+use Rattle.call_places.specs.declared.spans.Span.{Span}
+use Rattle.field_text.specs.declared.reasons.Reason.{Reason}
+use Rattle.field_text.specs.Fields.{◌>>=◌, exactly, number, bytes}
+use Rattle.field_text.proofs.Spellings.{ok_same, step_ok, choice_ok, word_ok, next_ok, exactly_ok, number_ok, bytes_ok, IsFront, IsFront-same, IsFront-then}
+use Rattle.field_text.proofs.SpelledLines.{no_piece}
+use Rattle.batch_plans.specs.declared.plan.EncField.{EncField}
+use Rattle.batch_plans.specs.declared.plan.KeyLine.{KeyLine}
+use Rattle.batch_plans.specs.declared.plan.KeyLine.TheVariants as keys
+use Rattle.batch_plans.specs.Limits.{most_field, IsField, IsKeyWithin}
+use Rattle.request_frames.specs.Words.{kdf}
+use Rattle.request_frames.specs.Forms.{key_bytes, is_reference, reference}
+use Rattle.request_frames.specs.PlanText.{span_text, enc_text, key_pieces}
+use Rattle.request_frames.proofs.SpelledFields.{kdf_ok, reference_front, piece_is, front_length, field_within}
+use Rattle.capsule_frames.specs.declared.words.LineWord.{LineWord}
+use Rattle.capsule_frames.specs.declared.words.LineWord.TheVariants.{Key, Capsule}
+use Rattle.capsule_frames.specs.declared.words.KeyWord.{KeyWord}
+use Rattle.capsule_frames.specs.declared.words.KeyWord.TheVariants.{Generate, Secret, Peer, Generate857, Secret857, Peer857}
+use Rattle.capsule_frames.specs.declared.words.CapsuleWord.{CapsuleWord}
+use Rattle.capsule_frames.specs.declared.words.CapsuleWord.TheVariants as words
+use Rattle.capsule_frames.specs.declared.lines.CapsuleLine.{CapsuleLine}
+use Rattle.capsule_frames.specs.Words.{word_text, word_among, draws}
+use Rattle.capsule_frames.specs.Forms.{key, most_text, most_request, most_response, cipher, message_bytes, message, ask, answer, take_line, capsule}
+use Rattle.capsule_frames.specs.Capsules.{is_of}
+use Rattle.capsule_frames.specs.PlanText.{capsule_pieces}
+use Rattle.capsule_frames.specs.Within.{IsMessageWithin, IsLineWithin}
+
+pub among_ok : (words : List LineWord) (piece : List ℕ) (word : LineWord)
+    → word_among words piece ≡ Ok word → word_text word ≡ piece
+among_ok [] piece word e = absurd cc
+among_ok (first ∷ more) piece word e =
+    word_ok (word_text first) piece first word (word_among more piece) _
+    (λ is same. ap word_text (sym same) ∙ sym is) (λ rest. among_ok more piece word rest) e
+
+-- ---- keys
+
+-- a key line that was read: the pool grew, over each longer pool the key has the line's pieces, and
+-- it is within its limits where a line that draws from the seed has one
+pub record IsKey (old new : List ℕ) (draws : Bool) (key : KeyLine) (pieces : List (List ℕ)) : Type 0 where
+  pub grown : IsFront old new
+  pub spelled : (whole : List ℕ) → IsFront new whole → key_pieces whole key ≡ pieces
+  pub within : (seed : Option (List ℕ)) (size : ℕ) → length new ≤ size → (draws ≡ true → IsSome seed)
+      → IsKeyWithin seed size key
+
+record IsBytes (old new : List ℕ) (bytes : Span) (pieces : List (List ℕ)) : Type 0 where
+  grown : IsFront old new
+  spelled : (whole : List ℕ) → IsFront new whole → span_text whole bytes ∷ [] ≡ pieces
+  within : (size : ℕ) → length new ≤ size → IsField most_field size bytes
+
+key_bytes_ok : (pool : List ℕ) (pieces : List (List ℕ)) (bytes : Span) (new : List ℕ)
+    → key_bytes pool pieces ≡ Ok (bytes, new) → IsBytes pool new bytes pieces
+unfolding key_bytes
+key_bytes_ok pool pieces span new e =
+    let counted = exactly_ok 1 pieces _ (span, new) e in
+    next_ok (bytes most_field pool) pieces _ (span, new) _
+    (λ p1 read r1 cut1 read1 e.
+    let field = bytes_ok most_field pool p1 read read1 in
+    let last : r1 ≡ [] = no_piece r1 (omega (arith, counted.0, ap length cut1)) in
+    let IsRead : Span × List ℕ → Type 0 = λ line. IsBytes pool line.1 line.0 pieces in
+    subst IsRead (ok_same _ _ e) record {
+      grown = field.grown;
+      spelled = λ whole h. piece_is cut1 (field.spelled whole h) (sym last);
+      within = λ size long. field_within most_field pool p1 read size field long;
+    })
+    counted.1
+
+-- a word alone
+abbrev alone_read : KeyLine → List ℕ → List (List ℕ) → Result (KeyLine × List ℕ) Reason
+alone_read key pool pieces = do
+  pieces ← exactly 0 pieces
+  Ok (key, pool)
+
+alone : (key read : KeyLine) (word : List ℕ) (draws : Bool)
+    → ((whole : List ℕ) → key_pieces whole key ≡ word ∷ [])
+    → ((seed : Option (List ℕ)) (size : ℕ) → (draws ≡ true → IsSome seed) → IsKeyWithin seed size key)
+    → (pool new : List ℕ) (pieces : List (List ℕ)) → alone_read key pool pieces ≡ Ok (read, new)
+    → IsKey pool new draws read (word ∷ pieces)
+alone key read word draws text within pool new pieces e =
+    let counted = exactly_ok 0 pieces _ (read, new) e in
+    let IsRead : KeyLine × List ℕ → Type 0 = λ line. IsKey pool line.1 draws line.0 (word ∷ pieces) in
+    subst IsRead (ok_same _ _ counted.1) record {
+      grown = IsFront-same pool;
+      spelled = λ whole h.
+          text whole ∙ ap (λ (pieces : List (List ℕ)). word ∷ pieces) (sym (no_piece pieces counted.0));
+      within = λ seed size long given. within seed size given;
+    }
+
+-- a word and HEX
+abbrev bytes_read : (Span → KeyLine) → List ℕ → List (List ℕ) → Result (KeyLine × List ℕ) Reason
+bytes_read key_of pool pieces = do
+  (bytes, pool) ← key_bytes pool pieces
+  Ok (key_of bytes, pool)
+
+of_bytes : (key_of : Span → KeyLine) (read : KeyLine) (word : List ℕ) (draws : Bool)
+    → ((whole : List ℕ) (bytes : Span) → key_pieces whole (key_of bytes) ≡ word ∷ span_text whole bytes ∷ [])
+    → ((seed : Option (List ℕ)) (size : ℕ) (bytes : Span) → IsField most_field size bytes
+    → IsKeyWithin seed size (key_of bytes))
+    → (pool new : List ℕ) (pieces : List (List ℕ)) → bytes_read key_of pool pieces ≡ Ok (read, new)
+    → IsKey pool new draws read (word ∷ pieces)
+of_bytes key_of read word draws text within pool new pieces e =
+    let found = step_ok (key_bytes pool pieces) _ (read, new) e in
+    let bytes = key_bytes_ok pool pieces found.0.0 found.0.1 found.1 in
+    let IsRead : KeyLine × List ℕ → Type 0 = λ line. IsKey pool line.1 draws line.0 (word ∷ pieces) in
+    subst IsRead (ok_same _ _ found.2) record {
+      grown = bytes.grown;
+      spelled = λ whole h.
+          text whole found.0.0 ∙ ap (λ (pieces : List (List ℕ)). word ∷ pieces) (bytes.spelled whole h);
+      within = λ seed size long given. within seed size found.0.0 (bytes.within size long);
+    }
+
+pub key_ok : (word : KeyWord) (pool : List ℕ) (pieces : List (List ℕ)) (read : KeyLine) (new : List ℕ)
+    → key word pool pieces ≡ Ok (read, new)
+    → IsKey pool new (draws (Key word)) read (word_text (Key word) ∷ pieces)
+key_ok Generate pool pieces read new e =
+    alone keys.Generate read _ _ (λ whole. refl) (λ seed size given. given refl) pool new pieces e
+key_ok Secret pool pieces read new e =
+    of_bytes (λ bytes. keys.Secret bytes) read _ _ (λ whole bytes. refl) (λ seed size bytes h. h) pool new pieces e
+key_ok Peer pool pieces read new e =
+    of_bytes (λ bytes. keys.Peer bytes) read _ _ (λ whole bytes. refl) (λ seed size bytes h. h) pool new pieces e
+key_ok Generate857 pool pieces read new e =
+    alone keys.Generate857 read _ _ (λ whole. refl) (λ seed size given. given refl) pool new pieces e
+key_ok Secret857 pool pieces read new e =
+    of_bytes (λ bytes. keys.Secret857 bytes) read _ _ (λ whole bytes. refl) (λ seed size bytes h. h) pool new pieces e
+key_ok Peer857 pool pieces read new e =
+    of_bytes (λ bytes. keys.Peer857 bytes) read _ _ (λ whole bytes. refl) (λ seed size bytes h. h) pool new pieces e
+
+-- ---- capsules
+
+cipher_back : (id : ℕ) → 1 ≤ id → id ≤ 2 → aead_id (cond (id == 1) Aes128 Aes256) ≡ id
+cipher_back id least most = grind (arith, nat_tests)
+
+encrypts : (b : Bool) → cond b Aes128 Aes256 ≢ ExportOnly
+encrypts true e = cc
+encrypts false e = cc
+
+record IsCipher (piece : List ℕ) (value : Aead) : Type 0 where
+  spelled : decimal (aead_id value) ≡ piece
+  can : value ≢ ExportOnly
+
+cipher_ok : (piece : List ℕ) (value : Aead) → cipher piece ≡ Ok value → IsCipher piece value
+cipher_ok piece value e =
+    let found = step_ok (number 1 2 piece) _ value e in
+    let id = number_ok 1 2 piece found.0 (lit< tt) found.1 in
+    let same : cond (found.0 == 1) Aes128 Aes256 ≡ value = ok_same _ _ found.2 in
+    record {
+      spelled = ap decimal (ap aead_id (sym same) ∙ cipher_back found.0 id.least id.most) ∙ id.spelled;
+      can = λ e. encrypts (found.0 == 1) (same ∙ e);
+    }
+
+record IsMessage (most : ℕ) (old new piece : List ℕ) (read : EncField) : Type 0 where
+  grown : IsFront old new
+  spelled : (whole : List ℕ) → IsFront new whole → enc_text whole read ≡ piece
+  within : (size : ℕ) → length new ≤ size → IsMessageWithin most size read
+
+reference_ok : (most : ℕ) (pool piece : List ℕ) (read : EncField) (new : List ℕ)
+    → is_reference piece ≡ true → reference pool piece ≡ Ok (read, new)
+    → IsMessage most pool new piece read
+reference_ok most pool piece read new is e =
+    let found = step_ok (number 0 65535 (drop 1 piece)) _ (read, new) e in
+    let id = number_ok 0 65535 (drop 1 piece) found.0 (lit< tt) found.1 in
+    let IsRead : EncField × List ℕ → Type 0 = λ line. IsMessage most pool line.1 piece line.0 in
+    subst IsRead (ok_same _ _ found.2) record {
+      grown = IsFront-same pool;
+      spelled = λ whole h.
+          ap (λ (digits : List ℕ). codes "@" ++ digits) id.spelled ∙ reference_front piece is;
+      within = λ size long. id.most;
+    }
+
+message_bytes_ok : (most : ℕ) (pool piece : List ℕ) (read : EncField) (new : List ℕ)
+    → message_bytes most pool piece ≡ Ok (read, new) → IsMessage most pool new piece read
+message_bytes_ok most pool piece read new e =
+    let found = step_ok (bytes most pool piece) _ (read, new) e in
+    let field = bytes_ok most pool piece found.0 found.1 in
+    let IsRead : EncField × List ℕ → Type 0 = λ line. IsMessage most pool line.1 piece line.0 in
+    subst IsRead (ok_same _ _ found.2) record {
+      grown = field.grown;
+      spelled = field.spelled;
+      within = λ size long. field_within most pool piece found.0 size field long;
+    }
+
+message_ok : (most : ℕ) (pool piece : List ℕ) (read : EncField) (new : List ℕ)
+    → message most pool piece ≡ Ok (read, new) → IsMessage most pool new piece read
+message_ok most pool piece read new e =
+    choice_ok (is_reference piece) (reference pool piece) (message_bytes most pool piece) (read, new) _
+    (λ is ok. reference_ok most pool piece read new is ok)
+    (λ _ ok. message_bytes_ok most pool piece read new ok) e
+
+-- a capsule line that was read: its kind, its pieces, and its limits
+pub record IsCapsule (old new : List ℕ) (word : CapsuleWord) (line : CapsuleLine)
+    (pieces : List (List ℕ)) : Type 0 where
+  pub grown : IsFront old new
+  pub kind : (w : CapsuleWord) → is_of w line ≡ true → w ≡ word
+  pub spelled : (whole : List ℕ) → IsFront new whole → capsule_pieces whole line ≡ pieces
+  pub within : (seed : Option (List ℕ)) (size : ℕ) → length new ≤ size
+      → (draws (Capsule word) ≡ true → IsSome seed) → IsLineWithin seed size line
+
+ask_ok : (pool : List ℕ) (pieces : List (List ℕ)) (line : CapsuleLine) (new : List ℕ)
+    → ask pool pieces ≡ Ok (line, new) → IsCapsule pool new words.Ask line (codes "ask" ∷ pieces)
+unfolding ask
+ask_ok pool pieces line new e =
+    let counted = exactly_ok 5 pieces _ (line, new) e in
+    next_ok (number 0 65535) pieces _ (line, new) _
+    (λ p1 key r1 cut1 read1 e.
+    next_ok (number 0 255) r1 _ (line, new) _
+    (λ p2 id r2 cut2 read2 e.
+    next_ok kdf r2 _ (line, new) _
+    (λ p3 kdf r3 cut3 read3 e.
+    next_ok cipher r3 _ (line, new) _
+    (λ p4 aead r4 cut4 read4 e.
+    next_ok (bytes most_text pool) r4 _ (line, new) _
+    (λ p5 text r5 cut5 read5 e.
+    let field1 = number_ok 0 65535 p1 key (lit< tt) read1 in
+    let field2 = number_ok 0 255 p2 id (lit< tt) read2 in
+    let field4 = cipher_ok p4 aead read4 in
+    let field5 = bytes_ok most_text pool p5 text read5 in
+    let last : r5 ≡ [] = no_piece r5 (omega (
+      arith,
+      counted.0,
+      ap length cut1,
+      ap length cut2,
+      ap length cut3,
+      ap length cut4,
+      ap length cut5,
+    )) in
+    let IsRead : CapsuleLine × List ℕ → Type 0 =
+    λ read. IsCapsule pool read.1 words.Ask read.0 (codes "ask" ∷ pieces) in
+    subst IsRead (ok_same _ _ e) record {
+      grown = field5.grown;
+      kind = elim [
+        | words.Ask ↦ λ e. refl
+        | words.Answer ↦ λ e. absurd cc
+        | words.Take ↦ λ e. absurd cc
+      ];
+      spelled = λ whole h.
+          ap (λ (pieces : List (List ℕ)). codes "ask" ∷ pieces)
+          (piece_is cut1 field1.spelled (piece_is cut2 field2.spelled (piece_is cut3 (kdf_ok p3 kdf read3)
+          (piece_is cut4 field4.spelled (piece_is cut5 (field5.spelled whole h) (sym last))))));
+      within = λ seed size long given. (
+        field1.most,
+        field2.most,
+        field4.can,
+        field_within most_text pool p5 text size field5 long,
+        given refl,
+      );
+    })
+    e) e) e) e)
+    counted.1
+
+answer_ok : (pool : List ℕ) (pieces : List (List ℕ)) (line : CapsuleLine) (new : List ℕ)
+    → answer pool pieces ≡ Ok (line, new)
+    → IsCapsule pool new words.Answer line (codes "answer" ∷ pieces)
+unfolding answer
+answer_ok pool pieces line new e =
+    let counted = exactly_ok 5 pieces _ (line, new) e in
+    next_ok (number 0 65535) pieces _ (line, new) _
+    (λ p1 key r1 cut1 read1 e.
+    next_ok (number 0 255) r1 _ (line, new) _
+    (λ p2 id r2 cut2 read2 e.
+    next_ok (message most_request pool) r2 _ (line, new) _
+    (λ p3 request r3 cut3 read3 e.
+    next_ok (bytes most_field request.1) r3 _ (line, new) _
+    (λ p4 nonce r4 cut4 read4 e.
+    next_ok (bytes most_text nonce.pool) r4 _ (line, new) _
+    (λ p5 text r5 cut5 read5 e.
+    let field1 = number_ok 0 65535 p1 key (lit< tt) read1 in
+    let field2 = number_ok 0 255 p2 id (lit< tt) read2 in
+    let field3 = message_ok most_request pool p3 request.0 request.1 read3 in
+    let field4 = bytes_ok most_field request.1 p4 nonce read4 in
+    let field5 = bytes_ok most_text nonce.pool p5 text read5 in
+    let from_request = IsFront-then request.1 nonce.pool text.pool field4.grown field5.grown in
+    let few3 = front_length request.1 text.pool from_request in
+    let few4 = front_length nonce.pool text.pool field5.grown in
+    let last : r5 ≡ [] = no_piece r5 (omega (
+      arith,
+      counted.0,
+      ap length cut1,
+      ap length cut2,
+      ap length cut3,
+      ap length cut4,
+      ap length cut5,
+    )) in
+    let IsRead : CapsuleLine × List ℕ → Type 0 =
+    λ read. IsCapsule pool read.1 words.Answer read.0 (codes "answer" ∷ pieces) in
+    subst IsRead (ok_same _ _ e) record {
+      grown = IsFront-then pool request.1 text.pool field3.grown from_request;
+      kind = elim [
+        | words.Ask ↦ λ e. absurd cc
+        | words.Answer ↦ λ e. refl
+        | words.Take ↦ λ e. absurd cc
+      ];
+      spelled = λ whole h.
+          let is3 = field3.spelled whole (IsFront-then request.1 text.pool whole from_request h) in
+          let is4 = field4.spelled whole (IsFront-then nonce.pool text.pool whole field5.grown h) in
+          ap (λ (pieces : List (List ℕ)). codes "answer" ∷ pieces)
+          (piece_is cut1 field1.spelled (piece_is cut2 field2.spelled (piece_is cut3 is3
+          (piece_is cut4 is4 (piece_is cut5 (field5.spelled whole h) (sym last))))));
+      within = λ seed size long given. (
+        field1.most,
+        field2.most,
+        field3.within size (omega (arith, few3, long)),
+        field_within most_field request.1 p4 nonce size field4 (omega (arith, few4, long)),
+        field_within most_text nonce.pool p5 text size field5 long,
+      );
+    })
+    e) e) e) e)
+    counted.1
+
+take_ok : (pool : List ℕ) (pieces : List (List ℕ)) (line : CapsuleLine) (new : List ℕ)
+    → take_line pool pieces ≡ Ok (line, new)
+    → IsCapsule pool new words.Take line (codes "take" ∷ pieces)
+unfolding take_line
+take_ok pool pieces line new e =
+    let counted = exactly_ok 2 pieces _ (line, new) e in
+    next_ok (number 0 65535) pieces _ (line, new) _
+    (λ p1 ask r1 cut1 read1 e.
+    next_ok (message most_response pool) r1 _ (line, new) _
+    (λ p2 response r2 cut2 read2 e.
+    let field1 = number_ok 0 65535 p1 ask (lit< tt) read1 in
+    let field2 = message_ok most_response pool p2 response.0 response.1 read2 in
+    let last : r2 ≡ [] = no_piece r2 (omega (arith, counted.0, ap length cut1, ap length cut2)) in
+    let IsRead : CapsuleLine × List ℕ → Type 0 =
+    λ read. IsCapsule pool read.1 words.Take read.0 (codes "take" ∷ pieces) in
+    subst IsRead (ok_same _ _ e) record {
+      grown = field2.grown;
+      kind = elim [
+        | words.Ask ↦ λ e. absurd cc
+        | words.Answer ↦ λ e. absurd cc
+        | words.Take ↦ λ e. refl
+      ];
+      spelled = λ whole h.
+          ap (λ (pieces : List (List ℕ)). codes "take" ∷ pieces)
+          (piece_is cut1 field1.spelled (piece_is cut2 (field2.spelled whole h) (sym last)));
+      within = λ seed size long given. (field1.most, field2.within size long);
+    })
+    e)
+    counted.1
+
+pub capsule_ok : (word : CapsuleWord) (pool : List ℕ) (pieces : List (List ℕ)) (line : CapsuleLine)
+    (new : List ℕ) → capsule word pool pieces ≡ Ok (line, new)
+    → IsCapsule pool new word line (word_text (Capsule word) ∷ pieces)
+capsule_ok words.Ask pool pieces line new e = ask_ok pool pieces line new e
+capsule_ok words.Answer pool pieces line new e = answer_ok pool pieces line new e
+capsule_ok words.Take pool pieces line new e = take_ok pool pieces line new e

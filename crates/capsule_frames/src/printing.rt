@@ -1,0 +1,121 @@
+//! The printing of a whole reply.
+
+ghost use Rattle.std.specs.Prelude.{◌≡◌, ◌≤◌, [], ◌++◌, map, codes};
+ghost use Rattle.std.specs.List.{concat};
+ghost use Rattle.std.specs.Io.KnownBytes.{Appends};
+ghost use Rattle.batch_io.specs.Outside.{Rose};
+ghost use Rattle.field_text.specs.Printing.{Prints, Puts, AppendsPrefix};
+ghost use Rattle.reply_texts.specs.ReplyText.{setup_text};
+ghost use Rattle.capsule_frames.specs.Text.{refusal_word, capsule_words, capsule_line};
+ghost use Rattle.capsule_frames.specs.Text.{replies_text, capsules_text};
+
+use crate::replies::{CapsuleRefusal, CapsuleReply};
+use batch_io::Sink;
+use field_text::{Buffer, Printed};
+use request_frames::{KeyReplies, KeyReply, print_setup};
+
+fn word_of_refusal(refusal: CapsuleRefusal) -> &'static [u8]
+    ensures { result.now ≡ refusal_word refusal }
+{
+    match refusal {
+        CapsuleRefusal::NoKey => b"nokey",
+        CapsuleRefusal::NeedSecret => b"needsecret",
+        CapsuleRefusal::NoAsk => b"noask",
+        CapsuleRefusal::NoAnswer => b"noanswer",
+        CapsuleRefusal::Short => b"short",
+        CapsuleRefusal::Header => b"header",
+        CapsuleRefusal::NonceSize => b"noncesize",
+        CapsuleRefusal::Failed => b"failed",
+    }
+}
+
+fn put_words<K: Sink>(out: &mut Buffer, sink: &mut K, reply: &CapsuleReply)
+    ensures { Puts K.written K.faults sink.old sink.new out.old out.new (capsule_words reply.now) }
+{
+    match reply {
+        CapsuleReply::Asked { request } => {
+            out.put_text(sink, b"asked ");
+            out.put_hex(sink, request.as_slice())
+        }
+        CapsuleReply::Answered { text, response } => {
+            out.put_text(sink, b"answered ");
+            out.put_hex(sink, text.as_slice());
+            out.put_text(sink, b" ");
+            out.put_hex(sink, response.as_slice())
+        }
+        CapsuleReply::Took { text } => {
+            out.put_text(sink, b"took ");
+            out.put_hex(sink, text.as_slice())
+        }
+        CapsuleReply::Refused(refusal) => {
+            out.put_text(sink, b"refused ");
+            out.put_text(sink, word_of_refusal(*refusal))
+        }
+    }
+}
+
+fn put_line<K: Sink>(out: &mut Buffer, sink: &mut K, reply: &CapsuleReply)
+    ensures { Puts K.written K.faults sink.old sink.new out.old out.new (capsule_line reply.now) }
+{
+    put_words(out, sink, reply);
+    out.put_text(sink, b"\n")
+}
+
+fn put_lines<K: Sink>(out: &mut Buffer, sink: &mut K, replies: &[CapsuleReply])
+    ensures { Puts K.written K.faults sink.old sink.new out.old out.new
+        (concat (map capsule_line replies.now)) }
+{
+    'replies: for reply in replies {
+        put_line(out, sink, reply);
+    }
+}
+
+// The first line.
+fn print_version<K: Sink>(sink: &mut K) -> Printed
+    ensures { Prints K.written K.faults sink.old sink.new result (codes "hpkebatch 2\n") }
+{
+    let mut out = Buffer::new();
+    out.put_text(sink, b"hpkebatch 2\n");
+    out.finish(sink)
+}
+
+// The replies to capsule lines, and the last line.
+fn print_replies<K: Sink>(replies: &[CapsuleReply], sink: &mut K) -> Printed
+    ensures { Prints K.written K.faults sink.old sink.new result (replies_text replies.now) }
+{
+    let mut out = Buffer::new();
+    put_lines(&mut out, sink, replies);
+    out.put_text(sink, b"end\n");
+    out.finish(sink)
+}
+
+// What follows the first line.
+fn print_rest<K: Sink>(keys: &[KeyReply], replies: &[CapsuleReply], sink: &mut K) -> Printed
+    ensures { Prints K.written K.faults sink.old sink.new result
+        (setup_text keys.now [] ++ replies_text replies.now) }
+{
+    match print_setup(keys, &[], sink) {
+        Printed::Whole => print_replies(replies, sink),
+        Printed::Failed => Printed::Failed,
+    }
+}
+
+/// Writes the reply to a batch of capsules: its keys, and its capsule lines in the order of the
+/// batch.
+///
+/// Takes no memory. Once a write failed nothing more is written.
+pub fn print_capsules<K: Sink>(keys: &KeyReplies, replies: &[CapsuleReply], sink: &mut K) -> Printed
+    ensures whole { result ≡ Printed.Whole
+        → Appends (K.written sink.old) (K.written sink.new) (capsules_text keys.now replies.now) }
+    ensures no_fault { result ≡ Printed.Whole → K.faults sink.new ≡ K.faults sink.old }
+    ensures cut { result ≡ Printed.Failed
+        → AppendsPrefix (K.written sink.old) (K.written sink.new)
+        (capsules_text keys.now replies.now) }
+    ensures failed { result ≡ Printed.Failed → Rose (K.faults sink.old) (K.faults sink.new) }
+    ensures later { K.faults sink.old ≤ K.faults sink.new }
+{
+    match print_version(sink) {
+        Printed::Whole => print_rest(keys.as_slice(), replies, sink),
+        Printed::Failed => Printed::Failed,
+    }
+}

@@ -1,0 +1,116 @@
+//! The first words of lines, and the pieces that are one of a few numbers.
+
+ghost use Rattle.std.specs.Prelude.{◌≡◌, ◌≤◌, length, sum_by, OnOk};
+ghost use Rattle.field_text.specs.Fields.{Reads, next};
+ghost use Rattle.request_frames.specs.Words.{kdf as kdf_field};
+ghost use Rattle.capsule_frames.specs.Words.{line_word as line_word_of, draws};
+ghost use Rattle.capsule_frames.specs.Forms.{cipher as cipher_field};
+
+use field_text::{Pieces, Reason, read_number};
+use hkdf_labelled::{Aead, Kdf};
+
+/// The first word of a line, other than `end`, by what the line is for.
+#[derive(Clone, Copy, Debug, PartialEq, Eq)]
+pub enum LineWord {
+    Rand,
+    Key(KeyWord),
+    Capsule(CapsuleWord),
+}
+
+#[derive(Clone, Copy, Debug, PartialEq, Eq)]
+pub enum KeyWord {
+    Generate,
+    Secret,
+    Peer,
+    Generate857,
+    Secret857,
+    Peer857,
+}
+
+#[derive(Clone, Copy, Debug, PartialEq, Eq)]
+pub enum CapsuleWord {
+    Ask,
+    Answer,
+    Take,
+}
+
+impl LineWord {
+    /// Whether the line stands only where there is a seed.
+    pub fn draws(self) -> bool
+        ensures { result ≡ draws self }
+    {
+        matches!(
+            self,
+            LineWord::Key(KeyWord::Generate | KeyWord::Generate857)
+                | LineWord::Capsule(CapsuleWord::Ask)
+        )
+    }
+}
+
+/// The word that begins a line.
+pub fn line_word(piece: &[u8]) -> Result<LineWord, Reason>
+    ensures { Reads (λ word. word) result (line_word_of piece.now) }
+{
+    if piece == b"rand".as_slice() {
+        Ok(LineWord::Rand)
+    } else if piece == b"keygen".as_slice() {
+        Ok(LineWord::Key(KeyWord::Generate))
+    } else if piece == b"secret".as_slice() {
+        Ok(LineWord::Key(KeyWord::Secret))
+    } else if piece == b"peer".as_slice() {
+        Ok(LineWord::Key(KeyWord::Peer))
+    } else if piece == b"keygen857".as_slice() {
+        Ok(LineWord::Key(KeyWord::Generate857))
+    } else if piece == b"secret857".as_slice() {
+        Ok(LineWord::Key(KeyWord::Secret857))
+    } else if piece == b"peer857".as_slice() {
+        Ok(LineWord::Key(KeyWord::Peer857))
+    } else if piece == b"ask".as_slice() {
+        Ok(LineWord::Capsule(CapsuleWord::Ask))
+    } else if piece == b"answer".as_slice() {
+        Ok(LineWord::Capsule(CapsuleWord::Answer))
+    } else if piece == b"take".as_slice() {
+        Ok(LineWord::Capsule(CapsuleWord::Take))
+    } else {
+        Err(Reason::Word)
+    }
+}
+
+fn kdf_of(piece: &[u8]) -> Result<Kdf, Reason>
+    ensures { Reads (λ kdf. kdf) result (kdf_field piece.now) }
+{
+    match read_number(piece, 1, 3)? {
+        1 => Ok(Kdf::Sha256),
+        2 => Ok(Kdf::Sha384),
+        _ => Ok(Kdf::Sha512),
+    }
+}
+
+/// The next piece as KDF: its id in RFC 9180, 7.2.
+#[tactic(auto, unfolding(field_text::specs::Fields::next))]
+pub fn kdf(fields: &mut Pieces) -> Result<Kdf, Reason>
+    ensures read { Reads (λ kdf. (kdf, fields.new)) result (next kdf_field fields.old) }
+    ensures size { OnOk result (sum_by length fields.new ≤ sum_by length fields.old) }
+{
+    let piece = fields.piece()?;
+    kdf_of(piece)
+}
+
+fn cipher_of(piece: &[u8]) -> Result<Aead, Reason>
+    ensures { Reads (λ aead. aead) result (cipher_field piece.now) }
+{
+    match read_number(piece, 1, 2)? {
+        1 => Ok(Aead::Aes128),
+        _ => Ok(Aead::Aes256),
+    }
+}
+
+/// The next piece as AEAD: the id in RFC 9180, 7.3, of one that encrypts.
+#[tactic(auto, unfolding(field_text::specs::Fields::next))]
+pub fn cipher(fields: &mut Pieces) -> Result<Aead, Reason>
+    ensures read { Reads (λ aead. (aead, fields.new)) result (next cipher_field fields.old) }
+    ensures size { OnOk result (sum_by length fields.new ≤ sum_by length fields.old) }
+{
+    let piece = fields.piece()?;
+    cipher_of(piece)
+}

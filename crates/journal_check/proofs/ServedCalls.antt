@@ -1,0 +1,92 @@
+-- The places of a call that is served, and its replies.
+use Rattle.std.proofs.Common.{◌≡◌, ◌≢◌, ℕ, zero, suc, ◌+◌, ◌<◌, cond, List, [], ◌∷◌, ◌++◌, length, map, drop, Result, Ok, Err, Option, Some, None, refl, sym, ap, ◌∙◌, subst, inl, inr, eq-eqb, ne_eqb, arith}
+use Rattle.std.specs.Prelude.{slice_get, slice_index}
+use Rattle.std.specs.Result.{OnOk}
+use Rattle.std.proofs.lemmas.Bool.{cases_eq, cases_lt}
+use Rattle.std.proofs.lemmas.List.{get_or_past}
+use Rattle.call_places.specs.declared.entries.Mark.{Mark}
+use Rattle.hpke_context.specs.Contexts.{ContextView}
+use Rattle.legal_journals.specs.Batches.{own_places, block}
+use Rattle.legal_journals.specs.Histories.{marks_at, places}
+use Rattle.batch_plans.specs.Calls.{context_of}
+use Rattle.batch_plans.specs.declared.plan.CallLine.{CallLine}
+use Rattle.batch_plans.specs.declared.replies.CallRefusal.{CallRefusal}
+use Rattle.due_replies.specs.Standing.{standing_at, refusal_on, call_refusal}
+use Rattle.due_replies.specs.Runs.{Run, place_line}
+use Rattle.journal_check.specs.declared.runs.JournalRun.{JournalRun}
+use Rattle.journal_check.specs.Asks.{items_asked, asked_unless, asked_in, places_asked, places_from}
+use Rattle.journal_check.specs.Walks.{Points, AreRepliesOf}
+
+pub length-block : (lane call i n : ℕ) → length (block lane call i n) ≡ n
+length-block lane call i zero = refl
+length-block lane call i (suc n) = ap suc (length-block lane call (i + 1) n)
+
+-- the context of a call that is served stands
+pub stands_for : (contexts : List (Option ContextView)) (call : CallLine) → call_refusal contexts call ≡ None
+    → (context : ContextView) × (standing_at contexts (context_of call) ≡ Some context)
+stands_for contexts call free = go (standing_at contexts (context_of call)) refl free
+  where
+    go : (o : Option ContextView) → standing_at contexts (context_of call) ≡ o → refusal_on o call ≡ None → (context : ContextView) × (standing_at contexts (context_of call) ≡ Some context)
+    go None is free = absurd cc
+    go (Some context) is free = (context, is)
+
+module _ (contexts : List (Option ContextView)) (journals : List (List Mark)) (lane number : ℕ) (call : CallLine) (more : List CallLine) (cursors : List ℕ)
+    (points : Points contexts journals lane number (call ∷ more) cursors) (c n : ℕ) (asks : items_asked call ≡ Some (c, n)) (free : call_refusal contexts call ≡ None)
+    (there : c < length journals) where
+  asked_is : asked_in contexts call ≡ Some (c, n)
+  asked_is = ap (λ (r : Option CallRefusal). asked_unless r (items_asked call)) free ∙ asks
+
+  -- where its context's cursor points
+  pub own_here : own_places lane (places (drop (slice_index cursors c) (marks_at journals c))) ≡ block lane number 0 n ++ places_from contexts c lane (number + 1) more
+  own_here =
+      points c there
+      ∙ ap (λ (o : Option (ℕ × ℕ)). places_asked c lane number o ++ places_from contexts c lane (number + 1) more) asked_is
+      ∙ ap (λ b. cond b (block lane number 0 n) [] ++ places_from contexts c lane (number + 1) more) (eq-eqb c c refl)
+
+  -- the cursors behind its places
+  pub points_on : (new : List ℕ) → own_places lane (places (drop (slice_index new c) (marks_at journals c))) ≡ places_from contexts c lane (number + 1) more
+      → ((d : ℕ) → d ≢ c → slice_index new d ≡ slice_index cursors d) → Points contexts journals lane (number + 1) more new
+  points_on new here others d low = elim (cases_eq d c) [
+    | inl same ↦ subst (λ (k : ℕ). own_places lane (places (drop (slice_index new k) (marks_at journals k))) ≡ places_from contexts k lane (number + 1) more) (sym same) here
+    | inr other ↦
+        ap (λ (k : ℕ). own_places lane (places (drop k (marks_at journals d)))) (others d other)
+        ∙ points d low
+        ∙ ap (λ (o : Option (ℕ × ℕ)). places_asked d lane number o ++ places_from contexts d lane (number + 1) more) asked_is
+        ∙ ap (λ b. cond b (block lane number 0 n) [] ++ places_from contexts d lane (number + 1) more) (ne_eqb c d (λ e. other (sym e)))
+  ]
+
+-- a call that asks nothing
+pub points_past : (contexts : List (Option ContextView)) (journals : List (List Mark)) (lane number : ℕ) (call : CallLine) (more : List CallLine) (cursors : List ℕ)
+    → asked_in contexts call ≡ None → Points contexts journals lane number (call ∷ more) cursors → Points contexts journals lane (number + 1) more cursors
+points_past contexts journals lane number call more cursors nothing points d low =
+    points d low ∙ ap (λ (o : Option (ℕ × ℕ)). places_asked d lane number o ++ places_from contexts d lane (number + 1) more) nothing
+
+-- there is a journal for its context
+pub there_for : (contexts : List (Option ContextView)) (journals : List (List Mark)) (call : CallLine) (c : ℕ) → context_of call ≡ c → call_refusal contexts call ≡ None
+    → length contexts ≡ length journals → c < length journals
+there_for contexts journals call c of free size = elim (cases_lt c (length contexts)) [
+  | inl low ↦ omega arith
+  | inr high ↦ absurd (let s = stands_for contexts call free in
+      let none : standing_at contexts (context_of call) ≡ None = ap (standing_at contexts) of ∙ get_or_past contexts c None high in
+      let clash : None ≡ Some s.0 = sym none ∙ s.1 in cc)
+]
+
+-- the lines of a journal that was run
+pub run_lines_are : (run : Run) (contexts : List (Option ContextView)) (journals : List (List Mark)) (runs : List JournalRun) (call : CallLine) (c : ℕ) → context_of call ≡ c
+    → run.contexts ≡ contexts → run.journals ≡ journals → AreRepliesOf run runs → call_refusal contexts call ≡ None
+    → (done : JournalRun) → slice_get runs c ≡ Some done → done.lines.items ≡ map (place_line run c) (places (marks_at journals c))
+run_lines_are run contexts journals runs call c of same_contexts same_journals are free done at =
+    let s = stands_for contexts call free in
+    are c s.0 done (ap (λ (cs : List (Option ContextView)). standing_at cs c) same_contexts ∙ ap (standing_at contexts) (sym of) ∙ s.1) at
+    ∙ ap (λ (js : List (List Mark)). map (place_line run c) (places (marks_at js c))) same_journals
+
+-- what follows where a call succeeded
+pub on_ok : {T E P Q : Type 0} (r : Result T E) → (P → Q) → OnOk r P → OnOk r Q
+on_ok (Ok x) f p = f p
+on_ok (Err e) f p = tt
+
+-- the cursors before the next call of a lane
+pub points_at : (contexts : List (Option ContextView)) (journals : List (List Mark)) (lane number : ℕ) (calls next : List CallLine) (cursors : List ℕ)
+    → calls ≡ next → Points contexts journals lane number calls cursors → Points contexts journals lane number next cursors
+points_at contexts journals lane number calls next cursors same points c low =
+    points c low ∙ ap (places_from contexts c lane number) same

@@ -1,0 +1,81 @@
+use Rattle.std.proofs.Common.{◌≡◌, List, None, refl, subst, sym, Option}
+use Rattle.call_places.specs.declared.entries.Mark.{Mark}
+use Rattle.hpke_context.specs.Contexts.{ContextView}
+use Rattle.reply_texts.specs.ReplyText.{has_stamps}
+use Rattle.due_replies.specs.Asks.{batch_of}
+use Rattle.journal_check.specs.Journals.{broken_journal}
+use Rattle.journal_check.specs.Passing.{AreNumbersOf, HaveNumbers}
+use Rattle.journal_check.specs.Runs.{AreRuns, AreFor}
+use Rattle.journal_check.specs.Verdicts.{run_told}
+use Rattle.journal_check.specs.Walks.{AreRepliesOf, AreLong, HaveLanes}
+use Rattle.journal_check.proofs.SoundRuns.{have_lanes, legal_at, are_for, are_replies, are_numbers, are_long, have_numbers, if_ok_map, found_early, found_late}
+use Rattle.journal_check.proofs.checking.verdict_on.Goals as goal
+
+pub returns-in-Some : goal.returns-in-Some
+returns-in-Some g c =
+    found_early c.args.plan.now c.args.contexts.now c.args.told.now c.journals.result.now c.journals.ensures c.in_ok-wrong.field-0 c.in_ok-wrong.ensures.verdict c.in-Some.wrong c.in-Some.is
+
+pub run_journals-requires-clause-fit : goal.run_journals-requires-clause-fit
+run_journals-requires-clause-fit g c =
+    let plan = c.args.plan.now in
+    let contexts = c.args.contexts.now in
+    let stamps = has_stamps plan.version in
+    let none = subst (λ (js : List (List Mark)). broken_journal stamps (batch_of plan contexts) 0 js ≡ None) c.journals.ensures (c.in_ok-wrong.ensures.none c.in-None.is) in
+    subst (AreFor plan contexts) (sym c.journals-in-None.ensures) (are_for plan contexts c.args.told.now.journals stamps c.requires.within none c.requires.contexts_size)
+
+pub wrong_line-requires-clause-long : goal.wrong_line-requires-clause-long
+wrong_line-requires-clause-long g c =
+    let plan = c.args.plan.now in
+    let contexts = c.args.contexts.now in
+    let told = c.args.told.now in
+    let stamps = has_stamps plan.version in
+    let none = subst (λ (js : List (List Mark)). broken_journal stamps (batch_of plan contexts) 0 js ≡ None) c.journals.ensures (c.in_ok-wrong.ensures.none c.in-None.is) in
+    let run = run_told plan contexts told in
+    let runs = c.in_ok-runs-in-None.runs.items in
+    let are = subst (λ (js : List (List Mark)). AreRuns plan contexts js runs) c.journals-in-None.ensures c.in_ok-runs-in-None.ensures.runs in
+    let legal = legal_at plan contexts told.journals stamps c.requires.within none c.requires.contexts_size in
+    subst (λ (cs : List (Option ContextView)). AreLong cs told.journals c.deref.result.now) (sym c.in_ok-runs-in-None.ensures.kept)
+    (subst (AreLong contexts told.journals) (sym c.deref.ensures.value) (are_long run runs are legal))
+
+pub wrong_line-requires-clause-numbers : goal.wrong_line-requires-clause-numbers
+wrong_line-requires-clause-numbers g c =
+    let plan = c.args.plan.now in
+    let contexts = c.args.contexts.now in
+    let told = c.args.told.now in
+    let stamps = has_stamps plan.version in
+    let none = subst (λ (js : List (List Mark)). broken_journal stamps (batch_of plan contexts) 0 js ≡ None) c.journals.ensures (c.in_ok-wrong.ensures.none c.in-None.is) in
+    let run = run_told plan contexts told in
+    let runs = c.in_ok-runs-in-None.runs.items in
+    let are = subst (λ (js : List (List Mark)). AreRuns plan contexts js runs) c.journals-in-None.ensures c.in_ok-runs-in-None.ensures.runs in
+    let legal = legal_at plan contexts told.journals stamps c.requires.within none c.requires.contexts_size in
+    subst (λ (cs : List (Option ContextView)). HaveNumbers cs told.journals c.deref.result.now) (sym c.in_ok-runs-in-None.ensures.kept)
+    (subst (HaveNumbers contexts told.journals) (sym c.deref.ensures.value) (have_numbers run runs are legal))
+
+pub wrong_line-requires-clause-own : goal.wrong_line-requires-clause-own
+wrong_line-requires-clause-own g c =
+    let plan = c.args.plan.now in
+    let contexts = c.args.contexts.now in
+    let told = c.args.told.now in
+    let stamps = has_stamps plan.version in
+    let none = subst (λ (js : List (List Mark)). broken_journal stamps (batch_of plan contexts) 0 js ≡ None) c.journals.ensures (c.in_ok-wrong.ensures.none c.in-None.is) in
+    subst (λ (cs : List (Option ContextView)). HaveLanes plan cs told.journals) (sym c.in_ok-runs-in-None.ensures.kept)
+    (have_lanes plan contexts told.journals stamps c.requires.within none)
+
+pub returns-in_ok-runs-in-None : goal.returns-in_ok-runs-in-None
+returns-in_ok-runs-in-None g c =
+    let plan = c.args.plan.now in
+    let contexts = c.args.contexts.now in
+    let told = c.args.told.now in
+    let stamps = has_stamps plan.version in
+    let none = subst (λ (js : List (List Mark)). broken_journal stamps (batch_of plan contexts) 0 js ≡ None) c.journals.ensures (c.in_ok-wrong.ensures.none c.in-None.is) in
+    let run = run_told plan contexts told in
+    let runs = c.in_ok-runs-in-None.runs.items in
+    let are = subst (λ (js : List (List Mark)). AreRuns plan contexts js runs) c.journals-in-None.ensures c.in_ok-runs-in-None.ensures.runs in
+    let legal = legal_at plan contexts told.journals stamps c.requires.within none c.requires.contexts_size in
+    if_ok_map c.wrong_line.result _ _
+    (λ verdict judged.
+    found_late plan contexts told c.journals.result.now c.journals.ensures c.in_ok-wrong.field-0 c.in_ok-wrong.ensures.verdict verdict c.in-None.is
+    (judged run refl (sym c.in_ok-runs-in-None.ensures.kept) refl
+    (subst (AreRepliesOf run) (sym c.deref.ensures.value) (are_replies run runs are legal))
+    (subst (AreNumbersOf run) (sym c.deref.ensures.value) (are_numbers run runs are legal)) legal))
+    c.wrong_line.ensures

@@ -1,0 +1,9 @@
+pub mod Asks
+pub mod Journals
+pub mod Replies
+pub mod Guesses
+pub mod Verdicts
+pub mod Histories
+pub mod Runs
+pub mod Walks
+pub mod Passing

@@ -1,0 +1,93 @@
+//! A lane's places, found in the journals one after another, and their replies.
+
+ghost use Rattle.std.specs.Prelude.{ℕ, ◌≡◌, ◌<◌, ◌+◌, ◌∷◌, ◌++◌, [], List, Some, length, map, drop};
+ghost use Rattle.std.specs.Prelude.{slice_get, IfSome, IfNone, OnOk};
+ghost use Rattle.call_places.specs.declared.entries.Place.{Place};
+ghost use Rattle.call_places.specs.declared.entries.Mark.{Mark};
+ghost use Rattle.legal_journals.specs.Batches.{own_places};
+ghost use Rattle.legal_journals.specs.Histories.{places};
+ghost use Rattle.journal_check.specs.Walks.{Holds};
+
+use crate::halts::Halt;
+use batch_plans::PlainList;
+use call_places::Mark;
+use result_lines::{Replies, is_line};
+
+/// Where the next place of a lane stands in a journal, from this index on.
+pub(crate) fn next_own(marks: &[Mark], lane: u32, from: usize) -> Option<usize>
+    ensures some { IfSome result (λ at. (m : Mark) → slice_get marks.now at ≡ Some m
+        → own_places lane (places (drop from marks.now))
+        ≡ m.place ∷ own_places lane (places (drop (at + 1) marks.now))) }
+    ensures there { IfSome result (λ at. at < length marks.now) }
+    ensures none { IfNone result (own_places lane (places (drop from marks.now)) ≡ []) }
+{
+    'marks: for at in from..marks.len() {
+        if marks[at].place.lane == lane {
+            return Some(at);
+        }
+    }
+    None
+}
+
+/// Holds the next reply against the line that is due.
+pub(crate) fn take_line(replies: &mut Replies, due: &[u8]) -> Result<(), Halt>
+    ensures { Holds replies.old replies.new (due.now ∷ []) result }
+{
+    let Some(reply) = replies.take() else {
+        return Err(Halt::Ended);
+    };
+    if is_line(reply.line, due) {
+        Ok(())
+    } else {
+        Err(Halt::Wrong(reply.number))
+    }
+}
+
+// Holds the next reply against that of the lane's next place in a journal, where each place has its
+// line.
+fn take_place(
+    replies: &mut Replies,
+    marks: &[Mark],
+    lines: &[PlainList<u8>],
+    lane: u32,
+    cursor: &mut usize,
+) -> Result<(), Halt>
+    requires { length lines.now ≡ length marks.now }
+    ensures line { (f : Place → List ℕ) (p : Place) (ps : List Place)
+        → lines.now ≡ map f (places marks.now)
+        → own_places lane (places (drop cursor.old marks.now)) ≡ p ∷ ps
+        → Holds replies.old replies.new (f p ∷ []) result }
+    ensures cursor { (p : Place) (ps : List Place)
+        → own_places lane (places (drop cursor.old marks.now)) ≡ p ∷ ps
+        → own_places lane (places (drop cursor.new marks.now)) ≡ ps }
+{
+    let Some(at) = next_own(marks, lane, *cursor) else {
+        return Err(Halt::Ended);
+    };
+    *cursor = at + 1;
+    take_line(replies, lines[at].as_slice())
+}
+
+/// Holds the next replies against those of the lane's next places in a journal, so many of them.
+pub(crate) fn take_places(
+    replies: &mut Replies,
+    marks: &[Mark],
+    lines: &[PlainList<u8>],
+    lane: u32,
+    cursor: &mut usize,
+    count: u32,
+) -> Result<(), Halt>
+    requires { length lines.now ≡ length marks.now }
+    ensures lines { (f : Place → List ℕ) (ps more : List Place)
+        → lines.now ≡ map f (places marks.now) → length ps ≡ count
+        → own_places lane (places (drop cursor.old marks.now)) ≡ ps ++ more
+        → Holds replies.old replies.new (map f ps) result }
+    ensures cursor { OnOk result ((ps more : List Place) → length ps ≡ count
+        → own_places lane (places (drop cursor.old marks.now)) ≡ ps ++ more
+        → own_places lane (places (drop cursor.new marks.now)) ≡ more) }
+{
+    'places: for _place in 0..count {
+        take_place(replies, marks, lines, lane, cursor)?;
+    }
+    Ok(())
+}

@@ -1,0 +1,37 @@
+//! A checker of results: whether a text is one that a plan may be answered with.
+//!
+//! [`check_result`] reads a result back and answers its [`Verdict`]: the first thing that is wrong
+//! with it, or that it is legal. `IsVerdict` of `specs/Verdicts.antt` says which verdict that is.
+//! Lines that have to be as they are printed are compared; journals are judged by the tests of
+//! legal_journals, and where there are stamps as one history; each journal is run through the
+//! sequential context (RFC 9180, 5.2), and the replies are compared with its answers; each guess is
+//! held against the numbers that were due.
+//!
+//! Nothing here starts a thread. A lane is walked once for each context, and a journal once for
+//! each lane; stamps are put in order by their numbers.
+#![tactic(auto)]
+
+mod asks;
+mod checking;
+mod guesses;
+mod halts;
+mod histories;
+mod items;
+mod journals;
+mod lane_walks;
+mod replies;
+mod runs;
+mod spots;
+mod verdicts;
+
+pub use checking::check_result;
+pub use verdicts::Verdict;
+
+#[cfg(test)]
+mod history_rows;
+#[cfg(test)]
+mod opening_rows;
+#[cfg(test)]
+mod rows;
+#[cfg(test)]
+mod tests;

@@ -1,0 +1,80 @@
+//! Verdicts on the results of small batches.
+
+use crate::history_rows::{REFUSALS, STAMPS};
+use crate::opening_rows::{GUESSES, OPENINGS};
+use crate::rows::{FORMS, Row, SEALS};
+use crate::{Verdict, check_result};
+use batch_plans::limits::MOST_INPUT;
+use request_frames::read_front;
+use ring_core::Plain;
+use std::alloc::{AllocError, Global};
+use std::test::Fail;
+use std::thread::Threads;
+
+// The verdict on a row's text; none where its batch is none.
+fn verdict_of<R: Threads>(rt: &R, alloc: Global, row: &Row) -> Result<Option<Verdict>, AllocError> {
+    match read_front(alloc, row.batch.as_bytes()) {
+        Ok((plan, _)) => {
+            let text = row.result.as_bytes();
+            if text.len() > MOST_INPUT {
+                return Ok(None);
+            }
+            Ok(Some(check_result(rt, alloc, &Plain, &plan, text)?))
+        }
+        Err(_) => Ok(None),
+    }
+}
+
+#[test]
+fn each_result_of_seals_gets_its_verdict(rt: HostRuntime) -> Result<(), Fail> {
+    for row in &SEALS {
+        let verdict = verdict_of(&rt, rt.alloc(), row)?;
+        assert!(rt; verdict == Some(row.verdict), "{}", row.source);
+    }
+    Ok(())
+}
+
+#[test]
+fn each_bad_form_gets_its_verdict(rt: HostRuntime) -> Result<(), Fail> {
+    for row in &FORMS {
+        let verdict = verdict_of(&rt, rt.alloc(), row)?;
+        assert!(rt; verdict == Some(row.verdict), "{}", row.source);
+    }
+    Ok(())
+}
+
+#[test]
+fn each_result_of_openings_gets_its_verdict(rt: HostRuntime) -> Result<(), Fail> {
+    for row in &OPENINGS {
+        let verdict = verdict_of(&rt, rt.alloc(), row)?;
+        assert!(rt; verdict == Some(row.verdict), "{}", row.source);
+    }
+    Ok(())
+}
+
+#[test]
+fn each_guess_gets_its_verdict(rt: HostRuntime) -> Result<(), Fail> {
+    for row in &GUESSES {
+        let verdict = verdict_of(&rt, rt.alloc(), row)?;
+        assert!(rt; verdict == Some(row.verdict), "{}", row.source);
+    }
+    Ok(())
+}
+
+#[test]
+fn each_result_of_refusals_gets_its_verdict(rt: HostRuntime) -> Result<(), Fail> {
+    for row in &REFUSALS {
+        let verdict = verdict_of(&rt, rt.alloc(), row)?;
+        assert!(rt; verdict == Some(row.verdict), "{}", row.source);
+    }
+    Ok(())
+}
+
+#[test]
+fn each_history_gets_its_verdict(rt: HostRuntime) -> Result<(), Fail> {
+    for row in &STAMPS {
+        let verdict = verdict_of(&rt, rt.alloc(), row)?;
+        assert!(rt; verdict == Some(row.verdict), "{}", row.source);
+    }
+    Ok(())
+}

@@ -1,0 +1,22 @@
+use Rattle.std.proofs.Common.{sym, ◌∙◌, subst, inl, inr}
+use Rattle.lane_quotas.proofs.Counts.{IsCounted, refused_call, served_call}
+use Rattle.lane_quotas.proofs.counting.items_on.Goals as goal
+
+pub returns-in-Some : goal.returns-in-Some
+returns-in-Some c = λ lines t.
+    sym (refused_call lines c.args.contexts.now t c.args.number c.args.call.now c.in-Some.field-0
+    (sym c.refusal_of.ensures ∙ c.in-Some.is))
+
+pub returns-in-Seal : goal.returns-in-Seal
+returns-in-Seal c = λ lines t.
+    let counted : IsCounted c.args.call.now = elim c.in-Seal.is [
+      | inl e ↦ subst IsCounted (sym e.2) tt
+      | inr o ↦ elim o [
+        | inl e ↦ subst IsCounted (sym e.2) tt
+        | inr e ↦ subst IsCounted (sym e.3) tt
+      ]
+    ] in
+    c.items_of.ensures
+    ∙ sym (served_call lines c.args.contexts.now t c.args.number c.args.call.now counted
+    (sym c.refusal_of.ensures ∙ c.in_default.is)
+    (sym c.context_of.ensures ∙ c.if-context_of-number.false))

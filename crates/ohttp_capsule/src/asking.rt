@@ -1,0 +1,83 @@
+//! The client's request (RFC 9458, 4.3).
+
+ghost use Rattle.std.specs.Prelude.{◌≡◌, ◌+◌, ◌^◌, ◌≤◌, ℕ, List, length, IsTrue, IfOk, OnOk};
+ghost use Rattle.rand_words.specs.Words.{TakesAtMost};
+ghost use Rattle.hpke_context.specs.Contexts.{encrypts};
+ghost use Rattle.sntrup_kem.specs.Sizes.{enc_size};
+ghost use Rattle.sntrup_kem.specs.Kem.{drawn_r, IsGenerated};
+ghost use Rattle.ohttp_capsule.specs.Requests.{least_request, asked_with, encapsulated_request};
+ghost use Rattle.ohttp_capsule.specs.Laws.{Asks};
+
+use crate::firsts::sealed_first;
+use crate::headers::header;
+use crate::setups::context_of;
+use crate::strings::{copied, joined_three};
+use hkdf_labelled::{Aead, Kdf, Suite};
+use hpke_context::Context;
+use key_schedule::Role;
+use radix_pack::ByteList;
+use rand_words::Words;
+use ring_core::Multiplier;
+use sntrup_kem::laws::both_ends_agree;
+use sntrup_kem::{KemParams, PublicKey, encap};
+use std::alloc::{AllocError as OutOfMemory, Global};
+
+/// What a client keeps of a request that it made: the context, and enc, the KEM's encapsulation.
+#[derive(Drop)]
+pub struct Asked {
+    pub context: Context,
+    pub enc: ByteList,
+}
+
+/// Encapsulates a request (RFC 9458, 4.3): the text, sealed to a public key in a context of its own,
+/// behind the header and the encapsulation, of which p random words are the secret.
+///
+/// `id` is the key identifier, by which the gateway finds its key. After `OutOfMemory` some of the
+/// words may have been taken, and never more.
+pub fn ask<S: KemParams, R: Words, M: Multiplier>(
+    alloc: Global,
+    words: &mut R,
+    mult: &M,
+    public: &PublicKey<S>,
+    id: u8,
+    kdf: Kdf,
+    aead: Aead,
+    text: &[u8],
+) -> Result<(Asked, ByteList), OutOfMemory>
+    requires cipher { IsTrue (encrypts aead) }
+    requires text { length text.now ≤ 2 ^ 20 }
+    requires words { R.place words.old + S.set.p ≤ 2 ^ 32 }
+    ensures asked { IfOk result (λ a. a.0
+        ≡ asked_with id (record { kem = S.ID; kdf = kdf; aead = aead }) S.set public.now
+        (drawn_r S.set (R.word words.old) (R.place words.old))) }
+    ensures request { IfOk result (λ a. a.1 ≡ encapsulated_request id a.0 text.now) }
+    ensures enc_size { IfOk result (λ a. length a.0.enc ≡ enc_size S.set) }
+    ensures size { IfOk result (λ a. length a.1 ≡ least_request S.set + length text.now) }
+    ensures exchange { (word : ℕ → ℕ) (place j : ℕ) (sk : List ℕ)
+        → IsGenerated S.set word place j public.now sk
+        → IfOk result (λ a. Asks S.set S.ID sk id a.0 a.1 text.now) }
+    ensures taken { OnOk result (R.place words.new ≡ R.place words.old + S.set.p) }
+    ensures at_most { TakesAtMost S.set.p (R.place words.old) (R.place words.new) }
+    ensures stays { R.word words.new ≡ R.word words.old }
+{
+    both_ends_agree::<S>();
+    let suite = Suite {
+        kem: S::ID,
+        kdf,
+        aead,
+    };
+    let (enc, shared_secret) = encap(alloc, words, mult, public)?;
+    let context = context_of(Role::Sender, id, suite, &shared_secret);
+    let sealed = sealed_first(alloc, context, text)?;
+    let request = joined_three(
+        alloc,
+        &header(id, &suite),
+        enc.as_slice(),
+        sealed.message.as_slice(),
+    )?;
+    let asked = Asked {
+        context: sealed.context,
+        enc: copied(alloc, enc.as_slice())?,
+    };
+    Ok((asked, request))
+}

@@ -1,0 +1,30 @@
+//! Requests and responses as Oblivious HTTP encapsulates them (RFC 9458, 4), over the contexts of
+//! `hpke_context` and the KEM of `sntrup_kem`: for both parameter sets, each KDF and both AES-GCM.
+//!
+//! A client's [`ask`] seals a text to a public key, a gateway's [`answer`] opens it and seals
+//! another under a key of that exchange, and the client's [`take`] opens that. Each is a function of
+//! its inputs, by `specs/Requests.antt`, `Responses.antt` and `Replies.antt`, and each refusal comes
+//! exactly where its cause stands (`Refusals.antt`). [`laws`] says that a whole exchange gives each
+//! end the other's text.
+//!
+//! Not here: binary HTTP messages, key configurations and media types (RFC 9458, 3), and where the
+//! nonce of a response comes from, which must be random. Nothing is constant time or wiped.
+#![tactic(auto)]
+
+mod answering;
+mod asking;
+mod faults;
+mod firsts;
+mod headers;
+pub mod laws;
+mod responses;
+mod setups;
+mod strings;
+mod taking;
+#[cfg(test)]
+mod tests;
+
+pub use answering::answer;
+pub use asking::{Asked, ask};
+pub use faults::CapsuleFault;
+pub use taking::take;

@@ -1,0 +1,45 @@
+//! What the client takes of a response (RFC 9458, 4.4).
+
+ghost use Rattle.std.specs.Prelude.{◌≡◌, ◌≢◌, ◌↔◌, ◌≤◌, length};
+ghost use Rattle.hpke_context.specs.Contexts.{HasCipher};
+ghost use Rattle.ohttp_capsule.specs.Replies.{taken};
+ghost use Rattle.ohttp_capsule.specs.Refusals.{IsShortResponse, IsOfNoExchange};
+
+use crate::asking::Asked;
+use crate::faults::CapsuleFault;
+use crate::responses::{TAG_SIZE, entropy_size, opened_response, response_key};
+use aes_gcm::Checks;
+use radix_pack::ByteList;
+use std::alloc::Global;
+use std::thread::Threads;
+
+/// Decapsulates a response (RFC 9458, 4.4) to a request that [`ask`](crate::ask) made: gives its
+/// text.
+///
+/// Refused as [`CapsuleFault::Short`] where the nonce or the tag isn't there, and then as
+/// [`CapsuleFault::Failed`] where the tag doesn't hold, and as nothing else. `rt` starts no thread: a
+/// count of checked tags is made from it.
+pub fn take<R: Threads + Sync>(
+    rt: &R,
+    alloc: Global,
+    asked: &Asked,
+    response: &[u8],
+) -> Result<ByteList, CapsuleFault>
+    requires response { length response.now ≤ 1048624 }
+    requires cipher { HasCipher asked.now.context }
+    requires enc { length asked.now.enc ≤ 1184 }
+    ensures taken { result ≢ Err CapsuleFault.OutOfMemory → result ≡ taken asked.now response.now }
+    ensures short { (result ≡ Err CapsuleFault.Short) ↔ IsShortResponse asked.now response.now }
+    ensures failed { result ≢ Err CapsuleFault.OutOfMemory → ((result ≡ Err CapsuleFault.Failed)
+        ↔ IsOfNoExchange asked.now response.now) }
+    ensures header { result ≢ Err CapsuleFault.Header }
+    ensures nonce_size { result ≢ Err CapsuleFault.NonceSize }
+{
+    let size = entropy_size(asked.context.suite().aead);
+    if response.len() < size + TAG_SIZE {
+        return Err(CapsuleFault::Short);
+    }
+    let (nonce, ct) = response.split_at(size);
+    let key = response_key(alloc, &asked.context, asked.enc.as_slice(), nonce)?;
+    opened_response(alloc, &key, ct, &mut Checks::new(rt))
+}

@@ -1,0 +1,4 @@
+pub mod Cursors
+pub mod Feeds
+pub mod Steps
+pub mod Taking

@@ -1,0 +1,64 @@
+-- Steps that take the lines of a list's elements one after another.
+use Rattle.std.proofs.Common.{◌≡◌, ℕ, ◌+◌, ◌-◌, ◌<◌, ◌≤◌, suc, List, [], ◌∷◌, length, drop, get_or, Result, Ok, Err, refl, sym, ap, ◌∙◌, add-one, arith}
+use Rattle.std.proofs.Math.Seq.{drop-cons}
+use Rattle.std.proofs.lemmas.List.{drop_all}
+use Rattle.result_lines.specs.declared.stop.Stop.{Stop}
+use Rattle.result_lines.specs.declared.stop.Stop.TheVariants as stops
+use Rattle.result_lines.specs.Places.{◌>>=◌, Stops}
+
+-- the element of this number, and those behind it
+drop-next : {A : Type 0} (xs : List A) (i : ℕ) (d x : A) → i < length xs → x ≡ get_or xs i d
+    → drop i xs ≡ x ∷ drop (i + 1) xs
+drop-next xs i d x lt is =
+    drop-cons xs i d lt ∙ ap (λ y. y ∷ drop (suc i) xs) (sym is)
+    ∙ ap (λ (n : ℕ). x ∷ drop n xs) (sym (add-one i))
+
+-- a step that found a wrong line
+pub step_stops : {A B : Type 0} (stop : Stop) (step : Result A ℕ) (next : A → Result B ℕ) (total : Result B ℕ)
+    → Stops stop step → (step >>= next) ≡ total → Stops stop total
+step_stops stops.OutOfMemory step next total is all = tt
+step_stops {A} {B} (stops.Wrong line) step next total is all =
+    sym all ∙ ap (λ (s : Result A ℕ). s >>= next) is
+
+module _ {S A : Type 0} (all : ℕ → List A → S → Result S ℕ) (step : ℕ → A → S → Result S ℕ)
+    (is_cons : (n : ℕ) (x : A) (xs : List A) (s : S) → all n (x ∷ xs) s ≡ (step n x s >>= all (n + 1) xs)) where
+  first : (xs : List A) (i : ℕ) (d x : A) (s : S) → i < length xs → x ≡ get_or xs i d
+      → all i (drop i xs) s ≡ (step i x s >>= all (i + 1) (drop (i + 1) xs))
+  first xs i d x s lt is = ap (λ (ys : List A). all i ys s) (drop-next xs i d x lt is) ∙ is_cons i x (drop (i + 1) xs) s
+
+  -- the lines of the next element were taken
+  pub goes_on : (xs : List A) (i : ℕ) (d x : A) (s new : S) (total : Result S ℕ) → i < length xs → x ≡ get_or xs i d
+      → step i x s ≡ Ok new → all i (drop i xs) s ≡ total → all (i + 1) (drop (i + 1) xs) new ≡ total
+  goes_on xs i d x s new total lt is taken so_far =
+      sym (ap (λ (r : Result S ℕ). r >>= all (i + 1) (drop (i + 1) xs)) taken) ∙ sym (first xs i d x s lt is) ∙ so_far
+
+  -- one of its lines is wrong
+  pub stops_at : (stop : Stop) (xs : List A) (i : ℕ) (d x : A) (s : S) (total : Result S ℕ) → i < length xs → x ≡ get_or xs i d
+      → Stops stop (step i x s) → all i (drop i xs) s ≡ total → Stops stop total
+  stops_at stop xs i d x s total lt is wrong so_far =
+      step_stops stop (step i x s) (all (i + 1) (drop (i + 1) xs)) total wrong (sym (first xs i d x s lt is) ∙ so_far)
+
+  -- none is left
+  pub all_taken : ((n : ℕ) (s : S) → all n [] s ≡ Ok s) → (xs : List A) (i : ℕ) (s : S) (total : Result S ℕ) → length xs ≤ i
+      → all i (drop i xs) s ≡ total → total ≡ Ok s
+  all_taken is_nil xs i s total le so_far =
+      sym so_far ∙ ap (λ (ys : List A). all i ys s) (drop_all i xs le) ∙ is_nil i s
+
+-- ---- so many steps
+
+module _ {S : Type 0} (all : ℕ → S → Result S ℕ) (step : S → Result S ℕ)
+    (is_suc : (n : ℕ) (s : S) → all (suc n) s ≡ (step s >>= all n)) where
+  one_of : (n i : ℕ) (s : S) → i < n → all (n - i) s ≡ (step s >>= all (n - (i + 1)))
+  one_of n i s lt =
+      let less : n - i ≡ suc (n - (i + 1)) = omega arith in
+      ap (λ (k : ℕ). all k s) less ∙ is_suc (n - (i + 1)) s
+
+  pub count_goes_on : (n i : ℕ) (s new : S) (total : Result S ℕ) → i < n
+      → step s ≡ Ok new → all (n - i) s ≡ total → all (n - (i + 1)) new ≡ total
+  count_goes_on n i s new total lt taken so_far =
+      sym (ap (λ (r : Result S ℕ). r >>= all (n - (i + 1))) taken) ∙ sym (one_of n i s lt) ∙ so_far
+
+  pub count_stops_at : (stop : Stop) (n i : ℕ) (s : S) (total : Result S ℕ) → i < n
+      → Stops stop (step s) → all (n - i) s ≡ total → Stops stop total
+  count_stops_at stop n i s total lt wrong so_far =
+      step_stops stop (step s) (all (n - (i + 1))) total wrong (sym (one_of n i s lt) ∙ so_far)

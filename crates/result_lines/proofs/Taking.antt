@@ -1,0 +1,97 @@
+-- The parts of a result, element by element.
+use Rattle.std.proofs.Common.{◌≡◌, ℕ, ◌+◌, ◌-◌, ◌<◌, ◌≤◌, suc, Bool, List, [], ◌∷◌, length, drop, get_or, Option, Result, Ok, Err, refl, arith}
+use Rattle.hpke_context.specs.Contexts.{ContextView}
+use Rattle.batch_plans.specs.declared.plan.ContextLine.{ContextLine}
+use Rattle.batch_plans.specs.declared.plan.CallLine.{CallLine}
+use Rattle.reply_texts.specs.ReplyText.{numbered}
+use Rattle.result_lines.specs.declared.stop.Stop.{Stop}
+use Rattle.result_lines.specs.Places.{Stops}
+use Rattle.result_lines.specs.Told.{ToldView, with_line, with_lines, with_reply, with_replies, with_call, with_calls, with_lane, with_lanes, with_journal, with_journals}
+use Rattle.result_lines.proofs.Steps.{goes_on, stops_at, all_taken, count_goes_on, count_stops_at}
+
+-- ---- a line for each element and its number
+
+module _ {A : Type 0} (line : ℕ → A → List ℕ) where
+  abbrev all_lines : ℕ → List A → ToldView → Result ToldView ℕ
+  all_lines n xs told = with_lines (numbered line n xs) told
+
+  abbrev one_line : ℕ → A → ToldView → Result ToldView ℕ
+  one_line n x told = with_line (line n x) told
+
+  pub lines_go_on : (xs : List A) (i : ℕ) (d x : A) (now new : ToldView) (total : Result ToldView ℕ) → i < length xs → x ≡ get_or xs i d
+      → with_line (line i x) now ≡ Ok new → all_lines i (drop i xs) now ≡ total → all_lines (i + 1) (drop (i + 1) xs) new ≡ total
+  lines_go_on = goes_on all_lines one_line (λ n x xs s. refl)
+
+  pub lines_stop : (stop : Stop) (xs : List A) (i : ℕ) (d x : A) (now : ToldView) (total : Result ToldView ℕ) → i < length xs → x ≡ get_or xs i d
+      → Stops stop (with_line (line i x) now) → all_lines i (drop i xs) now ≡ total → Stops stop total
+  lines_stop = stops_at all_lines one_line (λ n x xs s. refl)
+
+  pub lines_end : (xs : List A) (i : ℕ) (now : ToldView) (total : Result ToldView ℕ) → length xs ≤ i → all_lines i (drop i xs) now ≡ total → total ≡ Ok now
+  lines_end = all_taken all_lines one_line (λ n x xs s. refl) (λ n s. refl)
+
+-- ---- replies
+
+pub replies_go_on : (n i : ℕ) (now new : ToldView) (total : Result ToldView ℕ) → i < n → with_reply now ≡ Ok new
+    → with_replies (n - i) now ≡ total → with_replies (n - (i + 1)) new ≡ total
+replies_go_on = count_goes_on with_replies with_reply (λ n s. refl)
+
+pub replies_stop : (stop : Stop) (n i : ℕ) (now : ToldView) (total : Result ToldView ℕ) → i < n → Stops stop (with_reply now)
+    → with_replies (n - i) now ≡ total → Stops stop total
+replies_stop = count_stops_at with_replies with_reply (λ n s. refl)
+
+-- ---- calls
+
+module _ (contexts : List (Option ContextView)) where
+  abbrev all_calls : ℕ → List CallLine → ToldView → Result ToldView ℕ
+  all_calls n calls told = with_calls contexts calls told
+
+  abbrev one_call : ℕ → CallLine → ToldView → Result ToldView ℕ
+  one_call n call told = with_call contexts call told
+
+  pub calls_go_on : (calls : List CallLine) (i : ℕ) (d call : CallLine) (now new : ToldView) (total : Result ToldView ℕ) → i < length calls → call ≡ get_or calls i d
+      → with_call contexts call now ≡ Ok new → with_calls contexts (drop i calls) now ≡ total → with_calls contexts (drop (i + 1) calls) new ≡ total
+  calls_go_on = goes_on all_calls one_call (λ n x xs s. refl)
+
+  pub calls_stop : (stop : Stop) (calls : List CallLine) (i : ℕ) (d call : CallLine) (now : ToldView) (total : Result ToldView ℕ) → i < length calls → call ≡ get_or calls i d
+      → Stops stop (with_call contexts call now) → with_calls contexts (drop i calls) now ≡ total → Stops stop total
+  calls_stop = stops_at all_calls one_call (λ n x xs s. refl)
+
+  pub calls_end : (calls : List CallLine) (i : ℕ) (now : ToldView) (total : Result ToldView ℕ) → length calls ≤ i
+      → with_calls contexts (drop i calls) now ≡ total → total ≡ Ok now
+  calls_end = all_taken all_calls one_call (λ n x xs s. refl) (λ n s. refl)
+
+  -- ---- lanes
+
+  pub lanes_go_on : (lanes : List (List CallLine)) (i : ℕ) (d calls : List CallLine) (now new : ToldView) (total : Result ToldView ℕ) → i < length lanes → calls ≡ get_or lanes i d
+      → with_lane contexts i calls now ≡ Ok new → with_lanes contexts i (drop i lanes) now ≡ total → with_lanes contexts (i + 1) (drop (i + 1) lanes) new ≡ total
+  lanes_go_on = goes_on (with_lanes contexts) (with_lane contexts) (λ n x xs s. refl)
+
+  pub lanes_stop : (stop : Stop) (lanes : List (List CallLine)) (i : ℕ) (d calls : List CallLine) (now : ToldView) (total : Result ToldView ℕ) → i < length lanes → calls ≡ get_or lanes i d
+      → Stops stop (with_lane contexts i calls now) → with_lanes contexts i (drop i lanes) now ≡ total → Stops stop total
+  lanes_stop = stops_at (with_lanes contexts) (with_lane contexts) (λ n x xs s. refl)
+
+  pub lanes_end : (lanes : List (List CallLine)) (i : ℕ) (now : ToldView) (total : Result ToldView ℕ) → length lanes ≤ i
+      → with_lanes contexts i (drop i lanes) now ≡ total → total ≡ Ok now
+  lanes_end = all_taken (with_lanes contexts) (with_lane contexts) (λ n x xs s. refl) (λ n s. refl)
+
+-- ---- journals
+
+module _ (stamps : Bool) where
+  abbrev one_journal : ℕ → ContextLine → ToldView → Result ToldView ℕ
+  one_journal n line told = with_journal stamps n told
+
+  pub journals_go_on : (lines : List ContextLine) (i : ℕ) (now new : ToldView) (total : Result ToldView ℕ) → i < length lines
+      → with_journal stamps i now ≡ Ok new → with_journals stamps i (drop i lines) now ≡ total → with_journals stamps (i + 1) (drop (i + 1) lines) new ≡ total
+  journals_go_on [] i now new total lt taken so_far = absurd (omega arith)
+  journals_go_on (line ∷ lines) i now new total lt taken so_far =
+      goes_on (with_journals stamps) one_journal (λ n x xs s. refl) (line ∷ lines) i line (get_or (line ∷ lines) i line) now new total lt refl taken so_far
+
+  pub journals_stop : (stop : Stop) (lines : List ContextLine) (i : ℕ) (now : ToldView) (total : Result ToldView ℕ) → i < length lines
+      → Stops stop (with_journal stamps i now) → with_journals stamps i (drop i lines) now ≡ total → Stops stop total
+  journals_stop stop [] i now total lt wrong so_far = absurd (omega arith)
+  journals_stop stop (line ∷ lines) i now total lt wrong so_far =
+      stops_at (with_journals stamps) one_journal (λ n x xs s. refl) stop (line ∷ lines) i line (get_or (line ∷ lines) i line) now total lt refl wrong so_far
+
+  pub journals_end : (lines : List ContextLine) (i : ℕ) (now : ToldView) (total : Result ToldView ℕ) → length lines ≤ i
+      → with_journals stamps i (drop i lines) now ≡ total → total ≡ Ok now
+  journals_end = all_taken (with_journals stamps) one_journal (λ n x xs s. refl) (λ n s. refl)

@@ -1,0 +1,27 @@
+//! The lines of a result: what a text tells that is said to answer a plan, read back line by line.
+//!
+//! A result is a reply text, a format of this program's own. Which lines it has to have follows
+//! from the plan, the replies to its set-up and the contexts that stand; what its replies, guesses
+//! and journals say is read off. [`read_result`] gives what a text tells, or its first line that is
+//! missing or of another form, as `told_by` of `specs/Told.antt` defines it.
+//!
+//! A contract sees a text as the lines that are left of it. Whether the journals are legal, and
+//! whether replies and guesses are right, is not known here.
+#![tactic(auto)]
+
+mod due_lines;
+mod forms;
+mod lines;
+mod reading;
+mod refusals;
+mod replies;
+mod stop;
+mod told;
+
+pub use due_lines::{push_hex, push_number};
+pub use lines::{Lines, is_line};
+pub use reading::read_result;
+pub use refusals::{refusal_of, standing};
+pub use replies::Replies;
+pub use stop::Stop;
+pub use told::{GuessLine, ReplyLine, Told};

@@ -1,0 +1,145 @@
+//! The lines of a text that are still to be read.
+
+ghost use Rattle.std.specs.Prelude.{◌≡◌, ◌≤◌, ◌+◌, ◌<◌, Some, None, IfSome, IfNone, IfOk, length};
+ghost use Rattle.std.specs.Str.{bytes_eq};
+ghost use Rattle.batch_plans.specs.Limits.{most_input};
+ghost use Rattle.result_lines.specs.Places.{all_of, next_line, with_feed, line_due, guess_from};
+ghost use Rattle.result_lines.specs.Places.{mark_at, marks_of, ended, Tells};
+
+use crate::forms::{read_guess, read_mark};
+use crate::stop::Stop;
+use batch_plans::Batch;
+use call_places::Mark;
+use field_text::cut_at;
+use std::alloc::{AllocError, Global};
+use std::marker::Model;
+
+/// The lines of a text from one line on. A contract sees the number of that line, and the parts of
+/// the text between its line feeds.
+#[derive(Drop)]
+pub struct Lines<'a> {
+    rest: &'a [u8],
+    number: u32,
+}
+
+impl<'a> Model for Lines<'a> {
+    ghost use Rattle.std.specs.Prelude.{◌≤◌, ◌+◌, length};
+    ghost use Rattle.batch_plans.specs.Limits.{most_input};
+    ghost use Rattle.field_text.specs.Cuts.{lines_of};
+    ghost use Rattle.result_lines.specs.Places.{LinesView};
+
+    ghost Value = { LinesView };
+
+    ghost view = { λ l. record { number = l.number; parts = lines_of l.rest.now } };
+
+    ghost invariant = { λ l. l.number + length l.rest.now ≤ most_input + 1 };
+}
+
+/// Whether a line is this one, which is given with its line feed.
+pub fn is_line(line: &[u8], due: &[u8]) -> bool
+    ensures { result ≡ bytes_eq (with_feed line.now) due.now }
+{
+    match due.strip_suffix(b"\n".as_slice()) {
+        Some(body) => body == line,
+        None => false,
+    }
+}
+
+impl<'a> Lines<'a> {
+    /// All lines of a text.
+    pub fn of(text: &'a [u8]) -> Lines<'a>
+        requires { length text.now ≤ most_input }
+        ensures { result ≡ all_of text.now }
+    {
+        Lines {
+            rest: text,
+            number: 1,
+        }
+    }
+
+    /// The number of the next line.
+    pub fn number(&self) -> u32
+        ensures { result ≡ self.now.number }
+    {
+        self.number
+    }
+
+    /// The next line, without its line feed.
+    pub fn line(&mut self) -> Result<&'a [u8], Stop>
+        ensures { Tells (λ line. (line.now, self.new)) result (next_line self.old) }
+    {
+        match cut_at(self.rest, b'\n') {
+            Some((line, rest)) => {
+                self.rest = rest;
+                self.number += 1;
+                Ok(line)
+            }
+            None => Err(Stop::Wrong(self.number)),
+        }
+    }
+
+    /// Takes the next line, which has to be this one; it is given with its line feed.
+    #[tactic(auto, unfolding(crate::specs::Places::line_due))]
+    pub fn expect(&mut self, due: &[u8]) -> Result<(), Stop>
+        ensures { Tells (λ _. self.new) result (line_due due.now self.old) }
+    {
+        let number = self.number;
+        let line = self.line()?;
+        if is_line(line, due) {
+            Ok(())
+        } else {
+            Err(Stop::Wrong(number))
+        }
+    }
+
+    /// The next line as `batch G M`.
+    #[tactic(auto, unfolding(crate::specs::Places::guess_from))]
+    pub fn guess(&mut self) -> Result<Batch, Stop>
+        ensures { Tells (λ guess. (guess, self.new)) result (guess_from self.old) }
+    {
+        let number = self.number;
+        let line = self.line()?;
+        match read_guess(line) {
+            Ok(guess) => Ok(guess),
+            Err(_) => Err(Stop::Wrong(number)),
+        }
+    }
+
+    // The next line as a place of a journal. Another line is left.
+    fn mark(&mut self, stamps: bool) -> Option<Mark>
+        ensures none { IfNone result ((mark_at stamps self.old ≡ None) × (self.new ≡ self.old)) }
+        ensures some { IfSome result (λ mark.
+            mark_at stamps self.old ≡ Some (mark, self.new)) }
+    {
+        let (line, rest) = cut_at(self.rest, b'\n')?;
+        let Ok(mark) = read_mark(line, stamps) else {
+            return None;
+        };
+        self.rest = rest;
+        self.number += 1;
+        Some(mark)
+    }
+
+    /// The places of a journal: as many lines as have their form.
+    pub fn marks(&mut self, alloc: Global, stamps: bool) -> Result<Vec<Mark>, AllocError>
+        ensures { IfOk result (λ marks.
+            marks_of stamps self.old ≡ record { marks = marks.items; lines = self.new }) }
+    {
+        let mut marks = Vec::new(alloc);
+        'marks: while let Some(mark) = self.mark(stamps) {
+            marks.push(mark)?;
+        }
+        Ok(marks)
+    }
+
+    /// Whether nothing is left.
+    pub fn end(&self) -> Result<(), Stop>
+        ensures { Tells (λ _. self.now.number) result (ended self.now) }
+    {
+        if self.rest.is_empty() {
+            Ok(())
+        } else {
+            Err(Stop::Wrong(self.number))
+        }
+    }
+}

@@ -1,0 +1,112 @@
+//! A whole result.
+
+ghost use Rattle.std.specs.Prelude.{◌≤◌, length};
+ghost use Rattle.batch_plans.specs.Limits.{most_input};
+ghost use Rattle.reply_texts.specs.ReplyText.{numbered};
+ghost use Rattle.reply_texts.specs.Lines.{key_line as key_line_of, context_line as context_line_of};
+ghost use Rattle.result_lines.specs.Places.{Tells};
+ghost use Rattle.result_lines.specs.Told.{with_lines, with_setup, with_lanes, with_journals};
+ghost use Rattle.result_lines.specs.Told.{told_by};
+
+use crate::due_lines::{context_line, key_line, numbered_line};
+use crate::stop::Stop;
+use crate::told::Told;
+use batch_plans::{CallLine, ContextLine, ContextReply, KeyReply, PlainList, Plan};
+use hpke_context::Context;
+use std::alloc::Global;
+
+// The lines of the keys.
+fn read_keys(told: &mut Told, alloc: Global, keys: &[KeyReply]) -> Result<(), Stop>
+    ensures { Tells (λ _. told.new) result (with_lines (numbered key_line_of 0 keys.now) told.old) }
+{
+    'keys: for (number, reply) in keys.iter().enumerate() {
+        let line = key_line(alloc, number as u64, reply)?;
+        told.expect(&line)?;
+    }
+    Ok(())
+}
+
+// The lines of the contexts.
+fn read_contexts(told: &mut Told, alloc: Global, replies: &[ContextReply]) -> Result<(), Stop>
+    ensures { Tells (λ _. told.new) result
+        (with_lines (numbered context_line_of 0 replies.now) told.old) }
+{
+    'contexts: for (number, reply) in replies.iter().enumerate() {
+        let line = context_line(alloc, number as u64, reply)?;
+        told.expect(&line)?;
+    }
+    Ok(())
+}
+
+// The lines of the set-up.
+#[tactic(auto, unfolding(crate::specs::Told::with_setup))]
+fn read_setup(
+    told: &mut Told,
+    alloc: Global,
+    version: u8,
+    keys: &[KeyReply],
+    replies: &[ContextReply],
+) -> Result<(), Stop>
+    ensures { Tells (λ _. told.new) result (with_setup version keys.now replies.now told.old) }
+{
+    let line = numbered_line(alloc, b"hpkebatch ", version as u64)?;
+    told.expect(&line)?;
+    read_keys(told, alloc, keys)?;
+    read_contexts(told, alloc, replies)
+}
+
+// The lanes.
+fn read_lanes(
+    told: &mut Told,
+    alloc: Global,
+    contexts: &[Option<Context>],
+    lanes: &[PlainList<CallLine>],
+) -> Result<(), Stop>
+    ensures { Tells (λ _. told.new) result (with_lanes contexts.now 0 lanes.now told.old) }
+{
+    'lanes: for (number, calls) in lanes.iter().enumerate() {
+        told.lane(alloc, contexts, number as u64, calls.as_slice())?;
+    }
+    Ok(())
+}
+
+// The journals, one for each context line.
+fn read_journals(
+    told: &mut Told,
+    alloc: Global,
+    stamps: bool,
+    lines: &[ContextLine],
+) -> Result<(), Stop>
+    ensures { Tells (λ _. told.new) result (with_journals stamps 0 lines.now told.old) }
+{
+    'journals: for (number, _line) in lines.iter().enumerate() {
+        told.journal(alloc, stamps, number as u64)?;
+    }
+    Ok(())
+}
+
+/// What a text tells as a result of the plan, where these are the replies to its key lines and its
+/// context lines, and the contexts that stand.
+///
+/// The text is read once. [`Stop::Wrong`] has the number of the first line that is missing, has no
+/// line feed or another form, or stands behind the line `end`.
+#[tactic(auto, unfolding(crate::specs::Told::told_by))]
+pub fn read_result<'a>(
+    alloc: Global,
+    plan: &Plan,
+    keys: &[KeyReply],
+    replies: &[ContextReply],
+    contexts: &[Option<Context>],
+    text: &'a [u8],
+) -> Result<Told<'a>, Stop>
+    requires { length text.now ≤ most_input }
+    ensures { Tells (λ told. told) result
+        (told_by plan.now keys.now replies.now contexts.now text.now) }
+{
+    let mut told = Told::nothing_yet(alloc, text);
+    read_setup(&mut told, alloc, plan.version, keys, replies)?;
+    read_lanes(&mut told, alloc, contexts, plan.lanes.as_slice())?;
+    read_journals(&mut told, alloc, plan.version == 2, plan.contexts.as_slice())?;
+    told.end()?;
+    Ok(told)
+}

@@ -1,0 +1,207 @@
+-- The lanes of a table are served and its contexts are closed: the journals are those of a run.
+use Rattle.std.proofs.Common.{◌≡◌, ℕ, ◌<◌, ◌≤◌, List, [], ◌∷◌, length, map, Option, Some, None, sym, refl, ap, ◌∙◌, subst, arith}
+use Rattle.std.specs.Prelude.{IsPermutation, flat_map, replicate, slice_get, slice_index_or}
+use Rattle.std.specs.List.{All, range_with_len}
+use Rattle.std.proofs.Math.ListN.{get_or-map}
+use Rattle.std.proofs.lemmas.List.{length-map, length-replicate, ext_get_or, get_or_default}
+use Rattle.std.proofs.lemmas.List.Concat.{flat_map-cons}
+use Rattle.std.proofs.lemmas.List.Sorted.{IsPermutation-refl}
+use Rattle.std.proofs.lemmas.List.FromFn.{get_or-map-range_with_len, length-map-range_with_len}
+use Rattle.call_places.specs.declared.entries.Entry.{Entry}
+use Rattle.call_places.specs.declared.entries.Mark.{Mark}
+use Rattle.call_places.specs.Entries.{mark_of, stamps_of}
+use Rattle.hpke_context.specs.Contexts.{ContextView}
+use Rattle.context_books.specs.Books.{BookView}
+use Rattle.legal_journals.specs.Entries.{entry_places}
+use Rattle.gathered_lanes.specs.Lanes.{Closes}
+use Rattle.gathered_lanes.proofs.Entries.{own_places-entries}
+use Rattle.batch_plans.specs.declared.plan.Plan.{Plan}
+use Rattle.batch_plans.specs.declared.replies.LaneAnswers.{LaneAnswers}
+use Rattle.batch_plans.specs.Calls.{all_items_on}
+use Rattle.batch_plans.specs.Replies.{IsPrintable}
+use Rattle.batch_plans.specs.Room.{journal_room, blank_mark}
+use Rattle.due_replies.specs.Standing.{export_limits}
+use Rattle.lane_quotas.specs.Journals.{written, HasRoom}
+use Rattle.lane_quotas.proofs.Places.{journal_count}
+use Rattle.lane_workers.specs.declared.works.LaneWork.{LaneWork}
+use Rattle.lane_workers.specs.Gathered.{no_answers, AllLanesServed, AllClosed}
+use Rattle.lane_workers.specs.Served.{seen_of}
+use Rattle.lane_workers.specs.Turns.{views, view_in}
+use Rattle.shared_runs.specs.declared.tables.Table.{Table}
+use Rattle.shared_runs.specs.Tables.{IsTable, AreReady, journal_rooms}
+use Rattle.shared_runs.specs.Collected.{Collected}
+use Rattle.shared_runs.specs.Closing.{entries_of}
+use Rattle.shared_runs.proofs.Closed.{book_at, entries_at}
+
+-- ---- a table with other passes
+
+pub still_table : (old new : Table) → new ≡ record old { passes = new.passes } → IsTable old
+    → IsTable new
+still_table old new same t = subst IsTable (sym same) (record {
+  within = t.within;
+  of_lines = t.of_lines;
+  shared = t.shared;
+  stamps = t.stamps;
+  seat = t.seat;
+})
+
+pub still_ready : (old new : Table) (works : List LaneWork)
+    → new ≡ record old { passes = new.passes } → AreReady old works → AreReady new works
+still_ready old new works same r = subst (λ t. AreReady t works) (sym same) (record {
+  count = r.count;
+  each = λ lane w at. let e = r.each lane w at in record { number = e.number; fresh = e.fresh };
+})
+
+pub other_passes : (first second third : Table) → second ≡ record first { passes = second.passes }
+    → third ≡ record second { passes = third.passes }
+    → third ≡ record first { passes = third.passes }
+other_passes first second third same then =
+    then ∙ ap (λ (t : Table). record t { passes = third.passes }) same
+
+-- ---- journals
+
+-- there is a journal for each context
+pub journal_each : (t : Table) (rooms : List (List Mark)) → IsTable t
+    → rooms ≡ journal_rooms t.plan.now (views t.contexts) → length rooms ≡ length t.contexts
+journal_each t rooms table is =
+    ap length is
+    ∙ length-map-range_with_len
+    (journal_room t.plan.now.contexts (export_limits (views t.contexts)) t.plan.now.lanes) 0
+    (length t.plan.now.contexts)
+    ∙ sym table.of_lines.count ∙ length-map t.contexts view_in
+
+-- the room of a journal has a place for each entry
+written_is : (book : Option BookView) (room : List Mark)
+    → room ≡ replicate (length (entries_of book)) blank_mark
+    → HasRoom book room × (written book room ≡ map mark_of (entries_of book))
+written_is None room is = (refl, is)
+written_is (Some b) room is =
+    (ap length is ∙ length-replicate (length b.entries) blank_mark, refl)
+
+module _ (t : Table) (table : IsTable t) (answers : List LaneAnswers) (c : Collected t answers)
+    (count : length answers ≡ length t.plan.now.lanes) where
+  abbrev plan : Plan
+  plan = t.plan.now
+
+  abbrev contexts : List (Option ContextView)
+  contexts = views t.contexts
+
+  -- ---- the lanes
+
+  pub all_served : AllLanesServed plan contexts c.passes answers
+  all_served = record {
+    passes_count = c.few ∙ count;
+    answers_count = count;
+    each = λ lane low. c.served lane (omega (arith, c.few, count));
+  }
+
+  pub printable : All IsPrintable answers
+  printable k d low =
+      subst IsPrintable (get_or_default answers k no_answers d low)
+      (c.served k (omega (arith, c.few))).printable
+
+  module _ (books : List (Option BookView))
+      (closed : AllClosed plan c.passes (map entries_of books)) (rooms : List (List Mark))
+      (rooms_are : rooms ≡ journal_rooms plan contexts) where
+    -- a book has as many entries as the lanes ask of its context
+    size : (n : ℕ) → length (entries_of (book_at books n))
+        ≡ all_items_on plan.contexts (export_limits contexts) n plan.lanes
+    size n =
+        let entries = slice_index_or (map entries_of books) n [] in
+        let closes = closed.closes n in
+        sym (ap length (entries_at books n))
+        ∙ sym (length-map entries (λ (e : Entry). e.place))
+        ∙ journal_count plan contexts table.of_lines n table.within (entry_places entries)
+        (λ l low. own_places-entries l entries
+        ∙ ap entry_places (sym (closes.whole l low))
+        ∙ (let s = all_served.each l low in (s.shows n).places))
+        (λ l high. own_places-entries l entries ∙ ap entry_places (closes.others l high))
+
+    books_count : length books ≡ length plan.contexts
+    books_count = sym (length-map books entries_of) ∙ closed.count
+
+    pub rooms_count : length rooms ≡ length books
+    rooms_count = ap length rooms_are
+        ∙ length-map-range_with_len
+        (journal_room plan.contexts (export_limits contexts) plan.lanes) 0 (length plan.contexts)
+        ∙ sym books_count
+
+    room_at : (n : ℕ) → n < length books
+        → slice_index_or rooms n [] ≡ replicate (length (entries_of (book_at books n))) blank_mark
+    room_at n low =
+        ap (λ (js : List (List Mark)). slice_index_or js n []) rooms_are
+        ∙ get_or-map-range_with_len
+        (journal_room plan.contexts (export_limits contexts) plan.lanes) 0
+        (length plan.contexts) n n [] (omega (arith, books_count)) (omega arith)
+        ∙ ap (λ k. replicate k blank_mark) (sym (size n))
+
+    pub has_room : (n : ℕ) → n < length books
+        → HasRoom (book_at books n) (slice_index_or rooms n [])
+    has_room n low = (written_is (book_at books n) (slice_index_or rooms n []) (room_at n low)).0
+
+    pub journals_are : (journals : List (List Mark)) → length journals ≡ length rooms
+        → ((n : ℕ) → n < length books → slice_index_or journals n []
+        ≡ written (book_at books n) (slice_index_or rooms n []))
+        → map (map mark_of) (map entries_of books) ≡ journals
+    journals_are journals size_is each =
+        let marks = map (map mark_of) (map entries_of books) in
+        let marks_count : length marks ≡ length books =
+        length-map (map entries_of books) (map mark_of) ∙ length-map books entries_of in
+        ext_get_or [] marks journals (marks_count ∙ sym (size_is ∙ rooms_count))
+        (λ n low.
+        let there : n < length books = omega (arith, marks_count) in
+        get_or-map (map mark_of) (map entries_of books) n []
+        ∙ ap (map mark_of) (entries_at books n)
+        ∙ sym (each n there
+        ∙ (written_is (book_at books n) (slice_index_or rooms n []) (room_at n there)).1))
+
+-- ---- a plan with no lanes
+
+module _ (plan : Plan) (contexts : List (Option ContextView)) (none : plan.lanes ≡ []) where
+  -- each context has a book with no entries
+  abbrev pub no_books : List (List Entry)
+  no_books = map (λ (n : ℕ). []) (range_with_len 0 (length plan.contexts))
+
+  pub none_served : AllLanesServed plan contexts [] []
+  none_served = record {
+    passes_count = sym (ap length none);
+    answers_count = sym (ap length none);
+    each = λ lane low. absurd (omega (arith, ap length none));
+  }
+
+  no_stamps : (ns : List ℕ) → flat_map stamps_of (map (λ (n : ℕ). []) ns) ≡ []
+  no_stamps [] = refl
+  no_stamps (n ∷ ns) =
+      flat_map-cons stamps_of [] (map (λ (k : ℕ). []) ns) ∙ no_stamps ns
+
+  pub nothing_closed : AllClosed plan [] no_books
+  nothing_closed =
+      let numbers = range_with_len 0 (length plan.contexts) in
+      record {
+        count = length-map-range_with_len (λ (n : ℕ). []) 0 (length plan.contexts);
+        closes = λ context.
+            let empty : slice_index_or no_books context [] ≡ [] =
+            get_or-map (λ (n : ℕ). []) numbers context 0 in
+            subst (Closes (length plan.lanes) (λ lane. seen_of (slice_index_or [] lane []) context))
+            (sym empty) (record {
+              begins = λ lane low. absurd (omega (arith, ap length none));
+              whole = λ lane low. absurd (omega (arith, ap length none));
+              others = λ lane high. refl;
+              rise = tt;
+            });
+        stamps = 0;
+        given = subst (λ ds. IsPermutation ds []) (sym (no_stamps numbers)) (IsPermutation-refl []);
+      }
+
+  pub no_journals : (rooms : List (List Mark))
+      → rooms ≡ journal_rooms plan contexts → map (map mark_of) no_books ≡ rooms
+  no_journals rooms is =
+      each (range_with_len 0 (length plan.contexts))
+      ∙ ap (λ lanes. map (journal_room plan.contexts (export_limits contexts) lanes)
+      (range_with_len 0 (length plan.contexts))) (sym none)
+      ∙ sym is
+    where
+      each : (ns : List ℕ) → map (map mark_of) (map (λ (n : ℕ). []) ns)
+          ≡ map (journal_room plan.contexts (export_limits contexts) []) ns
+      each [] = refl
+      each (n ∷ ns) = ap (λ (js : List (List Mark)). [] ∷ js) (each ns)

@@ -1,0 +1,57 @@
+-- Lists that grow at their ends, and what holds of the numbers below one.
+use Rattle.std.proofs.Common.{◌≡◌, ◌≢◌, ℕ, zero, suc, ◌+◌, ◌<◌, ◌≤◌, List, [], ◌∷◌, ◌++◌, length, map, get_or, Option, Some, None, inl, inr, sym, refl, ap, ◌∙◌, subst, arith, length-append}
+use Rattle.std.specs.Prelude.{◌⊎◌, slice_get}
+use Rattle.std.proofs.lemmas.List.{length-map, get_or-map}
+use Rattle.legal_journals.proofs.Lists.{is_cases}
+
+pub at_front : {X : Type 0} (xs ys : List X) (d : X) (k : ℕ) → k < length xs
+    → get_or (xs ++ ys) k d ≡ get_or xs k d
+at_front [] ys d k low = absurd (omega arith)
+at_front (x ∷ xs) ys d zero low = refl
+at_front (x ∷ xs) ys d (suc k) low = at_front xs ys d k (omega arith)
+
+pub at_end : {X : Type 0} (xs ys : List X) (y d : X)
+    → get_or (xs ++ y ∷ ys) (length xs) d ≡ y
+at_end [] ys y d = refl
+at_end (x ∷ xs) ys y d = at_end xs ys y d
+
+pub one_more : (P : ℕ → Type 0) (n : ℕ) → ((k : ℕ) → k < n → P k) → P n
+    → (k : ℕ) → k < n + 1 → P k
+one_more P n below here k low = elim (is_cases k n) [
+  | inl same ↦ subst P (sym same) here
+  | inr apart ↦ below k (less k n low apart)
+]
+  where
+    less : (k n : ℕ) → k < n + 1 → k ≢ n → k < n
+    less k n low apart = omega arith
+
+-- what stands in a list with one element more stood there before, or is that element
+pub pushed_at : {X : Type 0} (xs : List X) (y w : X) (k : ℕ) → slice_get (xs ++ y ∷ []) k ≡ Some w
+    → (slice_get xs k ≡ Some w) ⊎ ((k ≡ length xs) × (y ≡ w))
+pushed_at [] y w zero e = inr (refl, cc)
+pushed_at [] y w (suc k) e = absurd (none_some w e)
+  where
+    none_some : {X : Type 0} (x : X) → None ≡ Some x → ⊥
+    none_some x e = cc
+pushed_at (x ∷ xs) y w zero e = inl e
+pushed_at (x ∷ xs) y w (suc k) e = elim (pushed_at xs y w k e) [
+  | inl before ↦ inl before
+  | inr here ↦ inr (ap suc here.0, here.1)
+]
+
+-- an element of a list that is made of another, behind so many others
+module _ {X Y : Type 0} (f : Y → X) (ys : List Y) (all front rest : List X) (x : X)
+    (is : all ≡ front ++ x ∷ rest) (of : all ≡ map f ys) where
+  pub below_count : length front < length ys
+  below_count =
+      let a = ap length is in
+      let b = ap length of in
+      let c = length-map ys f in
+      let d = length-append front (x ∷ rest) in
+      omega arith
+
+  pub made_of : (d : Y) → x ≡ f (get_or ys (length front) d)
+  made_of d =
+      sym (at_end front rest x x)
+      ∙ ap (λ l. get_or l (length front) x) (sym is ∙ of)
+      ∙ get_or-map f ys (length front) d x below_count

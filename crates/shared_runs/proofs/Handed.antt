@@ -1,0 +1,100 @@
+-- A lane that gets its passes.
+use Rattle.std.proofs.Common.{◌≡◌, ℕ, suc, ◌+◌, ◌-◌, ◌<◌, ◌≤◌, List, [], ◌++◌, length, take, drop, Option, Some, None, inl, inr, sym, refl, ap, ◌∙◌, subst, arith, Bor}
+use Rattle.std.specs.Prelude.{Result, Ok, Err, IfOk, OnOk}
+use Rattle.std.proofs.lemmas.Bool.{cases_lt}
+use Rattle.std.proofs.lemmas.List.{get_or_past, take-append-le, take_all}
+use Rattle.turn_lock.specs.Passes.{PassView, PassListView, fresh_pass, fresh_from}
+use Rattle.stamp_counter.specs.Seats.{SeatView, CounterView}
+use Rattle.shared_context.specs.Calls.{SharedView}
+use Rattle.shared_context.specs.Stamped.{IsNote}
+use Rattle.lane_workers.specs.Handing.{list_at, TakesEach}
+use Rattle.lane_workers.specs.Served.{seen_of, seen_by}
+use Rattle.lane_workers.specs.Turns.{shared_at, pass_at}
+use Rattle.lane_workers.specs.declared.works.LaneWork.{LaneWork}
+use Rattle.shared_runs.specs.declared.tables.Table.{Table}
+use Rattle.shared_runs.specs.Tables.{AreLeft, IsReady}
+
+pub IfOk-both : {X E : Type 0} (r : Result X E) (P Q R : X → Type 0)
+    → ((x : X) → P x → Q x → R x) → IfOk r P → IfOk r Q → IfOk r R
+IfOk-both (Ok x) P Q R both p q = both x p q
+IfOk-both (Err e) P Q R both p q = tt
+
+pub OnOk-holds : {X E : Type 0} (r : Result X E) (P : Type 0) → P → OnOk r P
+OnOk-holds (Ok x) P p = p
+OnOk-holds (Err e) P p = tt
+
+-- items of the same count, written back into a vector
+pub written_back : {X : Type 0} (len : ℕ) (items new : List X) → len ≡ length items
+    → length new ≡ length items → take len (new ++ drop (length new) items) ≡ new
+written_back len items new size same =
+    take-append-le len new (drop (length new) items) (omega arith) ∙ take_all len new (omega arith)
+
+none_some : {X : Type 0} (x : X) → None ≡ Some x → ⊥
+none_some x e = cc
+
+-- a context that is shared has a number below their count
+pub within_shared : (shared : List (Option SharedView)) (number : ℕ) (s : SharedView)
+    → shared_at shared number ≡ Some s → number < length shared
+within_shared shared number s is = elim (cases_lt number (length shared)) [
+  | inl low ↦ low
+  | inr high ↦ absurd (none_some s (sym (get_or_past shared number None high) ∙ is))
+]
+
+module _ (shared : List (Option SharedView)) (lane n : ℕ) (low : lane < n)
+    (lists lists' : List (Option PassListView)) (passes : List (Option PassView))
+    (t : AreLeft shared lane (n - lane) n lists) (takes : TakesEach lists lists' passes) where
+  pub taken : (number : ℕ) (s : SharedView) → shared_at shared number ≡ Some s
+      → (pass_at passes number ≡ Some (fresh_pass s.lock lane))
+      × (list_at lists' number
+      ≡ Some (record { passes = fresh_from s.lock (lane + 1) (n - (lane + 1)); made = n }))
+  taken number s is =
+      let there = within_shared shared number s is in
+      let count = t.count in
+      let one_more : n - lane ≡ suc (n - (lane + 1)) = omega arith in
+      (takes.each number (omega arith)).first
+      (record { passes = fresh_from s.lock lane (n - lane); made = n }) s.lock lane (n - (lane + 1))
+      (t.some number s is) (ap (fresh_from s.lock lane) one_more)
+
+  not_taken : (number : ℕ) → shared_at shared number ≡ None
+      → (pass_at passes number ≡ None) × (list_at lists' number ≡ None)
+  not_taken number is = elim (cases_lt number (length lists)) [
+    | inl there ↦ (takes.each number there).none (t.none number is)
+    | inr past ↦ (
+      get_or_past passes number None (let a = takes.count in omega arith),
+      get_or_past lists' number None (let a = takes.lists_count in omega arith),
+    )
+  ]
+
+  pub unseen : (number : ℕ) → seen_of passes number ≡ []
+  unseen number = by_case (shared_at shared number) refl
+    where
+      by_case : (o : Option SharedView) → shared_at shared number ≡ o → seen_of passes number ≡ []
+      by_case None is = ap seen_by (not_taken number is).0
+      by_case (Some s) is = ap seen_by (taken number s is).0
+
+  pub count_is : length passes ≡ length shared
+  count_is = takes.count ∙ t.count
+
+  pub left_after : AreLeft shared (lane + 1) (n - (lane + 1)) n lists'
+  left_after = record {
+    count = takes.lists_count ∙ t.count;
+    none = λ number is. (not_taken number is).1;
+    some = λ number s is. (taken number s is).1;
+  }
+
+-- the note that a lane gets
+pub note_is : (counter : List ℕ) (seat : SeatView) (low : ℕ) (stamps : Bor CounterView)
+    → seat ≡ record { counter = counter; low = low; drawn = []; left = 0 }
+    → stamps.now.id ≡ counter → IsNote stamps.now.id seat
+note_is counter seat low stamps is same = record {
+  counter_is = ap (λ (s : SeatView). s.counter) is ∙ sym same;
+  drawn = ap (λ (s : SeatView). s.drawn) is;
+  left = ap (λ (s : SeatView). s.left) is;
+}
+
+-- a lane is ready by its table, whichever passes are left there
+pub ready_same : (t u : Table) (lane : ℕ) (w : LaneWork) → u ≡ record t { passes = u.passes }
+    → IsReady u lane w → IsReady t lane w
+ready_same t u lane w same ready =
+    let r = subst (λ (x : Table). IsReady x lane w) same ready in
+    record { number = r.number; fresh = r.fresh }

@@ -1,0 +1,188 @@
+-- Lanes that give back their passes, in order.
+use Rattle.std.proofs.Common.{◌≡◌, ◌≢◌, ℕ, zero, suc, ◌+◌, ◌-◌, ◌<◌, ◌≤◌, List, [], ◌∷◌, ◌++◌, length, get_or, Option, Some, None, inl, inr, sym, refl, ap, ◌∙◌, subst, arith, length-append}
+use Rattle.std.specs.Prelude.{slice_get, All}
+use Rattle.std.proofs.lemmas.Bool.{cases_lt}
+use Rattle.std.proofs.lemmas.List.{get_or_past}
+use Rattle.turn_lock.specs.Passes.{LockId, PassView, PassListView, fresh_from, AllOf}
+use Rattle.shared_context.specs.Calls.{SharedView}
+use Rattle.batch_plans.specs.declared.replies.LaneAnswers.{LaneAnswers}
+use Rattle.lane_workers.specs.Gathered.{no_answers}
+use Rattle.lane_workers.specs.Handing.{list_at, Puts}
+use Rattle.lane_workers.specs.Served.{seen_of, LaneIsServed}
+use Rattle.lane_workers.specs.Turns.{shared_at, pass_at, views}
+use Rattle.shared_runs.specs.declared.tables.Table.{Table}
+use Rattle.shared_runs.specs.Tables.{HasGiven}
+use Rattle.shared_runs.specs.Collected.{passes_of, MayGiveBack, GivesBack, AreBack, Collected}
+use Rattle.shared_runs.proofs.Ends.{at_end, at_front, one_more}
+use Rattle.shared_runs.proofs.Handed.{within_shared}
+
+none_some : {X : Type 0} (x : X) → None ≡ Some x → ⊥
+none_some x e = cc
+
+-- ---- lists with one element more
+
+got_front : {X : Type 0} (xs ys : List X) (k : ℕ) (x : X) → slice_get xs k ≡ Some x
+    → slice_get (xs ++ ys) k ≡ Some x
+got_front [] ys k x e = absurd (none_some x e)
+got_front (y ∷ xs) ys zero x e = e
+got_front (y ∷ xs) ys (suc k) x e = got_front xs ys k x e
+
+-- what stands behind so many others
+pub got_here : {X : Type 0} (front rest : List X) (x : X)
+    → slice_get (front ++ x ∷ rest) (length front) ≡ Some x
+got_here [] rest x = refl
+got_here (y ∷ front) rest x = got_here front rest x
+
+all_push : {X : Type 0} (P : X → Type 0) (xs : List X) (y : X) → All P xs → P y
+    → All P (xs ++ y ∷ [])
+all_push P xs y all here k d low =
+    one_more (λ i. P (get_or (xs ++ y ∷ []) i d)) (length xs)
+    (λ i less. subst P (sym (at_front xs (y ∷ []) d i less)) (all i d less))
+    (subst P (sym (at_end xs [] y d)) here) k
+    (let size = length-append xs (y ∷ []) in omega arith)
+
+-- ---- before the first lane
+
+pub none_back : (t : Table) → HasGiven (length t.plan.now.lanes) t → Collected t []
+none_back t given =
+    let n = length t.plan.now.lanes in
+    let left : n - n ≡ 0 = omega arith in
+    record {
+      passes = [];
+      few = refl;
+      served = λ lane low. absurd (omega arith);
+      absent = λ lane number low is. absurd (omega arith);
+      count = given.count;
+      none = given.none;
+      back = λ number s is. (
+        record { passes = []; made = n },
+        given.some number s is
+            ∙ ap (λ k. Some (record { passes = fresh_from s.lock n k; made = n })) left,
+        record {
+          of_lock = λ k d low. absurd (omega arith);
+          count = refl;
+          made = refl;
+          each = λ lane low. absurd (omega arith);
+        },
+      );
+    }
+
+-- ---- a lane more
+
+-- while a lane is out there is room for its passes
+pub may_give : (t : Table) (answers : List LaneAnswers) → Collected t answers
+    → length answers < length t.plan.now.lanes → MayGiveBack t
+may_give t answers c few = record {
+  count = c.count;
+  room = λ number list at. by_case number list at (shared_at t.contexts number) refl;
+}
+  where
+    one_list : (x y : PassListView) → Some x ≡ Some y → x ≡ y
+    one_list x y e = cc
+
+    by_case : (number : ℕ) (list : PassListView) → list_at t.passes.items number ≡ Some list
+        → (o : Option SharedView) → shared_at t.contexts number ≡ o
+        → (s : SharedView) × (shared_at t.contexts number ≡ Some s)
+        × (length list.passes < list.made)
+    by_case number list at None is = absurd (none_some list (sym (c.none number is) ∙ at))
+    by_case number list at (Some s) is =
+        let b = c.back number s is in
+        let same : b.0 ≡ list = one_list b.0 list (sym b.1 ∙ at) in
+        let size = b.2.count in
+        let made = b.2.made in
+        let all = c.few in (
+          s,
+          is,
+          subst (λ (l : PassListView). length l.passes < l.made) same (omega arith),
+        )
+
+module _ (old new : Table) (same : new ≡ record old { passes = new.passes })
+    (answers : List LaneAnswers) (c : Collected old answers) (passes : List (Option PassView))
+    (a : LaneAnswers) (g : GivesBack old new (length answers) passes a) where
+  abbrev all : List (List (Option PassView))
+  all = c.passes ++ passes ∷ []
+
+  abbrev both : List LaneAnswers
+  both = answers ++ a ∷ []
+
+  here : passes_of all (length answers) ≡ passes
+  here = ap (passes_of all) (sym c.few) ∙ at_end c.passes [] passes []
+
+  answers_here : get_or both (length answers) no_answers ≡ a
+  answers_here = at_end answers [] a no_answers
+
+  before : (lane : ℕ) → lane < length answers → passes_of all lane ≡ passes_of c.passes lane
+  before lane low = at_front c.passes (passes ∷ []) [] lane (let few = c.few in omega arith)
+
+  all_count : length all ≡ length answers + 1
+  all_count = length-append c.passes (passes ∷ []) ∙ ap (λ k. k + 1) c.few
+
+  back_more : (number : ℕ) (s : SharedView) → shared_at old.contexts number ≡ Some s
+      → (list : PassListView) × (list_at new.passes.items number ≡ Some list)
+      × AreBack s number (length old.plan.now.lanes) all list
+  back_more number s is =
+      let b = c.back number s is in
+      let list = b.0 in
+      let p = g.passes_are number s is in
+      let low : number < length old.passes.items =
+      (let there = within_shared old.contexts number s is in let count = c.count in omega arith) in
+      let size : length list.passes ≡ length answers = b.2.count ∙ c.few in (
+        record { passes = list.passes ++ p.0 ∷ []; made = list.made },
+        (g.puts.each number low).last list p.0 b.1 p.1,
+        record {
+          of_lock = all_push (λ (q : PassView). q.lock ≡ s.lock) list.passes p.0 b.2.of_lock p.2;
+          count = length-append list.passes (p.0 ∷ []) ∙ ap (λ k. k + 1) size ∙ sym all_count;
+          made = b.2.made;
+          each = λ lane less. one_more (λ l. (q : PassView)
+              × (pass_at (passes_of all l) number ≡ Some q) × (q.number ≡ l)
+              × (slice_get (list.passes ++ p.0 ∷ []) l ≡ Some q)) (length answers)
+              (λ l few.
+              let e = b.2.each l (let x = c.few in omega arith) in (
+                e.0,
+                ap (λ ps. pass_at ps number) (before l few) ∙ e.1,
+                e.2,
+                got_front list.passes (p.0 ∷ []) l e.0 e.3,
+              )) (
+                p.0,
+                ap (λ ps. pass_at ps number) here ∙ p.1,
+                p.3,
+                subst (λ k. slice_get (list.passes ++ p.0 ∷ []) k ≡ Some p.0) size
+                    (got_here list.passes [] p.0),
+              ) lane (let x = all_count in omega arith);
+        },
+      )
+
+  none_more : (number : ℕ) → shared_at old.contexts number ≡ None
+      → list_at new.passes.items number ≡ None
+  none_more number is = elim (cases_lt number (length old.passes.items)) [
+    | inl low ↦ (g.puts.each number low).none (c.none number is)
+    | inr past ↦ get_or_past new.passes.items number None
+        (let size = g.puts.lists_count in omega arith)
+  ]
+
+  pub one_back : Collected new both
+  one_back = subst (λ (t : Table). Collected t both) (sym same) (record {
+    passes = all;
+    few = all_count ∙ sym (length-append answers (a ∷ []));
+    served = λ lane low. one_more (λ l. LaneIsServed old.plan.now (views old.contexts) l
+        (passes_of all l) (get_or both l no_answers)) (length answers)
+        (λ l less. subst (λ ps. LaneIsServed old.plan.now (views old.contexts) l ps
+        (get_or both l no_answers)) (sym (before l less))
+        (subst (LaneIsServed old.plan.now (views old.contexts) l (passes_of c.passes l))
+        (sym (at_front answers (a ∷ []) no_answers l less))
+        (c.served l (let x = c.few in omega arith))))
+        (subst (λ ps. LaneIsServed old.plan.now (views old.contexts) (length answers) ps
+        (get_or both (length answers) no_answers)) (sym here)
+        (subst (LaneIsServed old.plan.now (views old.contexts) (length answers) passes)
+        (sym answers_here) g.served))
+        lane (let x = all_count in omega arith);
+    absent = λ lane number low is. one_more (λ l. seen_of (passes_of all l) number ≡ [])
+        (length answers)
+        (λ l less. ap (λ ps. seen_of ps number) (before l less)
+        ∙ c.absent l number (let x = c.few in omega arith) is)
+        (ap (λ ps. seen_of ps number) here ∙ g.absent number is)
+        lane (let x = all_count in omega arith);
+    count = g.puts.lists_count ∙ c.count;
+    none = none_more;
+    back = back_more;
+  })

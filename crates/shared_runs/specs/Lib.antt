@@ -1,0 +1,4 @@
+pub mod Sharing
+pub mod Tables
+pub mod Collected
+pub mod Closing

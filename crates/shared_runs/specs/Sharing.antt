@@ -1,0 +1,58 @@
+-- The contexts of a plan, shared by its lanes.
+use Rattle.std.specs.Prelude.{ℕ, ◌≡◌, ◌<◌, ◌≤◌, ◌∷◌, [], List, length, map, sum, slice_index_or, Option, Some, None}
+use Rattle.std.specs.List.{range_with_len}
+use Rattle.turn_lock.specs.Passes.{PassListView, fresh_from}
+use Rattle.stamp_counter.specs.Seats.{SeatView}
+use Rattle.hpke_context.specs.Contexts.{ContextView}
+use Rattle.shared_context.specs.Calls.{SharedView}
+use Rattle.batch_plans.specs.declared.plan.Plan.{Plan}
+use Rattle.due_replies.specs.Standing.{standing_at}
+use Rattle.lane_quotas.specs.Quotas.{lane_quota}
+use Rattle.lane_workers.specs.Handing.{list_at}
+use Rattle.lane_workers.specs.Turns.{shared_at}
+
+-- ---- how many entries there may be
+
+-- by each lane, in a context
+abbrev pub quotas_on : Plan → List (Option ContextView) → ℕ → List ℕ
+quotas_on plan contexts number = map (lane_quota plan contexts number) plan.lanes
+
+abbrev pub all_quotas : Plan → List (Option ContextView) → List (List ℕ)
+all_quotas plan contexts = map (quotas_on plan contexts) (range_with_len 0 (length contexts))
+
+-- so many stamps each context may draw. A lane draws none of its own: the share from which lanes
+-- get their notes comes first, and is 0
+abbrev pub shares : List (List ℕ) → List ℕ
+shares quotas = 0 ∷ map sum quotas
+
+-- ---- contexts that are shared
+
+-- a pass for each quota, and a seat for all entries
+pub record MayShare (quotas : List ℕ) (seat : SeatView) : Type 0 where
+  pub some : 0 < length quotas
+  pub few : length quotas < 65536
+  pub most : sum quotas ≤ 65536
+  pub drawn : seat.drawn ≡ []
+  pub left : seat.left ≡ sum quotas
+
+-- the context is shared by lanes with these quotas, and its stamps are of this counter
+pub record IsSharedBy (view : ContextView) (quotas counter : List ℕ) (s : SharedView) : Type 0 where
+  pub context : s.context ≡ view
+  pub terms : s.lock.terms ≡ record { limit = view.limit; quotas = quotas; counter = counter }
+  pub passes : s.passes ≡ length quotas
+
+-- a context that stands is shared, with a fresh pass for each quota; where none stands there is none
+abbrev pub Shares : Option ContextView → List ℕ → List ℕ → Option SharedView
+    → Option PassListView → Type 0
+Shares None quotas counter shared list = (shared ≡ None) × (list ≡ None)
+Shares (Some view) quotas counter shared list =
+    (s : SharedView) × (shared ≡ Some s) × IsSharedBy view quotas counter s
+    × (list ≡ Some (record { passes = fresh_from s.lock 0 (length quotas); made = length quotas }))
+
+pub record SharesEach (contexts : List (Option ContextView)) (all : List (List ℕ))
+    (counter : List ℕ) (shared : List (Option SharedView)) (lists : List (Option PassListView))
+    : Type 0 where
+  pub count : length shared ≡ length contexts
+  pub lists_count : length lists ≡ length contexts
+  pub each : (number : ℕ) → number < length contexts → Shares (standing_at contexts number)
+      (slice_index_or all number []) counter (shared_at shared number) (list_at lists number)

@@ -1,0 +1,69 @@
+-- ---- for the proofs: shared contexts, and their passes that are with no lane.
+use Rattle.std.specs.Prelude.{ℕ, ◌≡◌, ◌-◌, ◌<◌, List, length, map, sum, slice_get, Option, Some, None}
+use Rattle.std.specs.List.{range_with_len}
+use Rattle.std.specs.Borrow.{Bor}
+use Rattle.call_places.specs.declared.entries.Mark.{Mark}
+use Rattle.hpke_context.specs.Contexts.{ContextView}
+use Rattle.turn_lock.specs.Passes.{PassListView, fresh_from}
+use Rattle.stamp_counter.specs.Seats.{CounterView}
+use Rattle.shared_context.specs.Stamped.{IsNote}
+use Rattle.shared_context.specs.Calls.{SharedView}
+use Rattle.batch_plans.specs.declared.plan.Plan.{Plan}
+use Rattle.batch_plans.specs.Limits.{IsWithinLimits}
+use Rattle.batch_plans.specs.Room.{journal_room}
+use Rattle.due_replies.specs.Standing.{AreOfLines, export_limits}
+use Rattle.lane_workers.specs.declared.works.LaneWork.{LaneWork}
+use Rattle.lane_workers.specs.Groups.{IsFresh, IsDone}
+use Rattle.lane_workers.specs.Handing.{list_at}
+use Rattle.lane_workers.specs.Turns.{shared_at, views}
+use Rattle.shared_runs.specs.declared.tables.Table.{Table}
+use Rattle.shared_runs.specs.Sharing.{quotas_on, all_quotas, IsSharedBy}
+
+-- the contexts of the table's plan are shared by its lanes, and the counter has a stamp for each
+-- entry that there may be
+pub record IsTable (t : Table) : Type 0 where
+  pub within : IsWithinLimits t.plan.now
+  pub of_lines : AreOfLines t.plan.now.contexts (views t.contexts)
+  pub shared : (number : ℕ) (s : SharedView) → shared_at t.contexts number ≡ Some s
+      → IsSharedBy s.context (quotas_on t.plan.now (views t.contexts) number) t.counter.id s
+  pub stamps : t.counter.all ≡ sum (map sum (all_quotas t.plan.now (views t.contexts)))
+  pub seat : IsNote t.counter.id t.seat
+
+-- of each context that is shared so many fresh passes are left, from this lane's on
+pub record AreLeft (shared : List (Option SharedView)) (lane left made : ℕ)
+    (lists : List (Option PassListView)) : Type 0 where
+  pub count : length lists ≡ length shared
+  pub none : (number : ℕ) → shared_at shared number ≡ None → list_at lists number ≡ None
+  pub some : (number : ℕ) (s : SharedView) → shared_at shared number ≡ Some s
+      → list_at lists number
+      ≡ Some (record { passes = fresh_from s.lock lane left; made = made })
+
+-- the lanes before this one have got their passes
+abbrev pub HasGiven : ℕ → Table → Type 0
+HasGiven lane t = AreLeft t.contexts lane (length t.plan.now.lanes - lane)
+    (length t.plan.now.lanes) t.passes.items
+
+-- the journals of all contexts before the lanes are served: a place for each item that there will be
+abbrev pub journal_rooms : Plan → List (Option ContextView) → List (List Mark)
+journal_rooms plan contexts = map (journal_room plan.contexts (export_limits contexts) plan.lanes)
+    (range_with_len 0 (length plan.contexts))
+
+-- ---- lanes
+
+-- the lane of this number before its first call
+pub record IsReady (t : Table) (lane : ℕ) (w : LaneWork) : Type 0 where
+  pub number : w.lane ≡ lane
+  pub fresh : (stamps : Bor CounterView) → stamps.now.id ≡ t.counter.id
+      → IsFresh t.plan.now t.contexts (Some stamps) w
+
+-- all lanes in their order, before their first calls
+pub record AreReady (t : Table) (works : List LaneWork) : Type 0 where
+  pub count : length works ≡ length t.plan.now.lanes
+  pub each : (lane : ℕ) (w : LaneWork) → slice_get works lane ≡ Some w → IsReady t lane w
+
+-- after their last
+pub record AreDone (t : Table) (works : List LaneWork) : Type 0 where
+  pub counter : Option (Bor CounterView)
+  pub count : length works ≡ length t.plan.now.lanes
+  pub each : (lane : ℕ) (w : LaneWork) → slice_get works lane ≡ Some w
+      → (w.lane ≡ lane) × IsDone t.plan.now t.contexts counter w

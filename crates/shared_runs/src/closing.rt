@@ -1,0 +1,64 @@
+//! The close of all contexts and of their counter.
+
+ghost use Rattle.std.specs.Prelude.{◌≡◌, ◌≤◌, [], List, length, map, vec_len, vec_capacity};
+ghost use Rattle.batch_plans.specs.declared.replies.LaneAnswers.{LaneAnswers};
+ghost use Rattle.lane_workers.specs.Gathered.{AllClosed};
+ghost use Rattle.shared_runs.specs.Tables.{IsTable};
+ghost use Rattle.shared_runs.specs.Collected.{Collected};
+ghost use Rattle.shared_runs.specs.Closing.{entries_of, MayClose, HasClosed};
+
+use crate::tables::Table;
+use context_books::Book;
+use shared_context::SharedContext;
+use stamp_counter::{StampCounter, StampSeat};
+use turn_lock::PassList;
+
+// Closes a context, where there is one. What its seat drew and has left goes to `all`.
+fn close(
+    context: Option<SharedContext>,
+    passes: Option<PassList>,
+    counter: &StampCounter,
+    all: &mut StampSeat,
+) -> Option<Book>
+    requires may { MayClose counter.now.id context passes }
+    requires seat { all.old.counter ≡ counter.now.id }
+    ensures { HasClosed context passes all.old all.new result }
+{
+    let (Some(context), Some(passes)) = (context, passes) else {
+        return None;
+    };
+    let (_, book, seat) = context.close(passes);
+    counter.join(all, seat);
+    // A book keeps it that the stamps of its entries rise, and tells so with them.
+    let _ = book.entries();
+    Some(book)
+}
+
+impl Table<'_> {
+    /// Closes the contexts and the counter, and gives the contexts' books. All passes are back.
+    pub(crate) fn close(self, books: &mut Vec<Option<Book>>)
+        requires table { IsTable self }
+        requires back { (answers : List LaneAnswers) × Collected self answers
+            × (length answers ≡ length self.plan.now.lanes) }
+        requires none { books.old.items ≡ [] }
+        requires room { length self.contexts ≤ vec_capacity books.old }
+        ensures count { length books.new.items ≡ length self.entry.contexts }
+        ensures closed { (answers : List LaneAnswers) (collected : Collected self.entry answers)
+            → length answers ≡ length self.entry.plan.now.lanes
+            → AllClosed self.entry.plan.now collected.passes (map entries_of books.new.items) }
+    {
+        let Table {
+            mut contexts,
+            mut passes,
+            counter,
+            mut seat,
+            ..
+        } = self;
+        let contexts = contexts.as_mut_slice();
+        'contexts: for number in 0..contexts.len() {
+            let (context, list) = (contexts[number].take(), passes[number].take());
+            books.push_reserved(close(context, list, &counter, &mut seat));
+        }
+        counter.close(seat);
+    }
+}

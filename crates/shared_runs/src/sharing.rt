@@ -1,0 +1,99 @@
+//! Contexts that are shared by the lanes of a plan.
+
+ghost use Rattle.std.specs.Prelude.{ℕ, ◌≡◌, ◌<◌, ◌≤◌, List, All, IfOk, length, map, sum};
+ghost use Rattle.stamp_counter.specs.Seats.{fresh_seats};
+ghost use Rattle.batch_plans.specs.Limits.{IsWithinLimits};
+ghost use Rattle.due_replies.specs.Standing.{AreOfLines};
+ghost use Rattle.shared_runs.specs.Sharing.{all_quotas, shares, MayShare, Shares, SharesEach};
+
+use batch_plans::{PlainList, Plan};
+use hpke_context::Context;
+use lane_quotas::quotas;
+use shared_context::SharedContext;
+use stamp_counter::{SeatList, StampSeat};
+use std::alloc::{AllocError as OutOfMemory, Global};
+use turn_lock::PassList;
+
+/// How many entries each lane may add to each context.
+pub(crate) fn all_quotas(
+    alloc: Global,
+    plan: &Plan,
+    contexts: &[Option<Context>],
+) -> Result<Vec<PlainList<u32>>, OutOfMemory>
+    requires within { IsWithinLimits plan.now }
+    requires standing { AreOfLines plan.now.contexts contexts.now }
+    ensures { IfOk result (λ all. all.items ≡ all_quotas plan.now contexts.now) }
+{
+    let mut all = Vec::with_capacity(alloc, contexts.len())?;
+    'contexts: for number in 0..contexts.len() {
+        let quotas = quotas(alloc, plan, contexts, number as u32)?;
+        all.push_reserved(PlainList::from_vec(quotas));
+    }
+    Ok(all)
+}
+
+// How many entries all lanes may add to a context.
+fn total(quotas: &[u32]) -> u32
+    requires { sum quotas.now ≤ 65536 }
+    ensures { result ≡ sum quotas.now }
+{
+    quotas.iter().sum()
+}
+
+/// How many stamps each context may draw, behind a share of 0.
+pub(crate) fn shares(alloc: Global, all: &[PlainList<u32>]) -> Result<Vec<u32>, OutOfMemory>
+    requires { sum (map sum all.now) ≤ 65536 }
+    ensures { IfOk result (λ r. r.items ≡ shares all.now) }
+{
+    let mut shares = Vec::with_capacity(alloc, all.len() + 1)?;
+    shares.push_reserved(0);
+    'contexts: for quotas in all {
+        shares.push_reserved(total(quotas.as_slice()));
+    }
+    Ok(shares)
+}
+
+// Shares a context, where it stands. The stamps of its entries are drawn from `seat`.
+fn share(
+    alloc: Global,
+    context: Option<Context>,
+    quotas: &[u32],
+    seat: StampSeat,
+) -> Result<(Option<SharedContext>, Option<PassList>), OutOfMemory>
+    requires { MayShare quotas.now seat }
+    ensures { IfOk result (λ r. Shares context quotas.now seat.counter r.0 r.1) }
+{
+    let Some(context) = context else {
+        return Ok((None, None));
+    };
+    let (shared, passes) = SharedContext::new(alloc, context, quotas, seat)?;
+    Ok((Some(shared), Some(passes)))
+}
+
+/// Shares the contexts that stand, each by lanes with its quotas.
+pub(crate) fn share_all(
+    alloc: Global,
+    contexts: &mut [Option<Context>],
+    all: &[PlainList<u32>],
+    seats: &mut SeatList,
+) -> Result<(Vec<Option<SharedContext>>, Vec<Option<PassList>>), OutOfMemory>
+    requires count { length all.now ≡ length contexts.old }
+    requires lanes { All (λ quotas. (0 < length quotas) × (length quotas < 65536)) all.now }
+    requires sums { All (λ quotas. sum quotas ≤ 65536) all.now }
+    requires seats { (counter : List ℕ) × (seats.old ≡ fresh_seats counter (map sum all.now)) }
+    ensures { IfOk result (λ r. (counter : List ℕ)
+        → seats.old ≡ fresh_seats counter (map sum all.now)
+        → SharesEach contexts.old all.now counter r.0.items r.1.items) }
+{
+    let mut shared = Vec::with_capacity(alloc, contexts.len())?;
+    let mut passes = Vec::with_capacity(alloc, contexts.len())?;
+    'contexts: for number in 0..contexts.len() {
+        let Some(seat) = seats.take() else {
+            unreachable!()
+        };
+        let (one, list) = share(alloc, contexts[number].take(), all[number].as_slice(), seat)?;
+        shared.push_reserved(one);
+        passes.push_reserved(list);
+    }
+    Ok((shared, passes))
+}

@@ -1,0 +1,31 @@
+"""The command grammar of docs/FORMAT.md, over lists of words of bytes."""
+
+import re
+
+WORKERS = rb"[1-9]|1[0-6]"
+MULT = rb"plain|karatsuba|lanes"
+STEP = rb"(?:[0-9]|1[0-5])"
+SCHEDULE = rb"-|" + STEP + rb"(?:," + STEP + rb"){0,65535}"
+
+
+def options_of(words):
+    """The names of the options, in their order, or None where something else stands among them."""
+    names = []
+    while words:
+        name, sign, value = words[0].partition(b"=")
+        if not sign:
+            words = words[1:]
+            value = words[0] if words else b""
+        form = {b"--workers": WORKERS, b"--mult": MULT}.get(name)
+        if form is None or not re.fullmatch(form, value):
+            return None
+        names.append(name)
+        words = words[1:]
+    return names
+
+
+def is_command(words):
+    if words[:1] == [b"run"]:
+        names = options_of(words[1:])
+        return names is not None and len(names) == len(set(names))
+    return len(words) == 2 and words[0] == b"rehearse" and re.fullmatch(SCHEDULE, words[1]) is not None
