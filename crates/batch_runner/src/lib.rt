@@ -22,6 +22,8 @@ pub use outcomes::{Outcome, status};
 pub use serving::{serve_pure, serve_words};
 
 #[cfg(test)]
+mod hostile_tests;
+#[cfg(test)]
 mod runs;
 #[cfg(test)]
 mod tests;

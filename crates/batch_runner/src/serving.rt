@@ -9,7 +9,7 @@ ghost use Rattle.field_text.specs.declared.reasons.Reason.{Reason};
 ghost use Rattle.field_text.specs.Printing.{AppendsPrefix};
 ghost use Rattle.request_frames.specs.Batch.{Spells, BadAt, batch};
 ghost use Rattle.batch_plans.specs.Limits.{IsWithinLimits};
-ghost use Rattle.reply_texts.specs.ReplyText.{answers_text, bad_text};
+ghost use Rattle.reply_texts.specs.ReplyText.{IsAnswered, answers_text, bad_text};
 ghost use Rattle.batch_runner.specs.Input.{IsInput, input_limit};
 ghost use Rattle.batch_runner.specs.Outcomes.{outcome_for};
 ghost use Rattle.batch_runner.specs.Text.{IsReplyBy, IsDue};
@@ -23,7 +23,7 @@ use crate::reading::{ReadStop, read_input};
 use batch_io::{Gate, PureSink, PureSource, Sink, Source};
 use batch_words::{Command, read_words};
 use request_frames::{
-    BadBatch, Plan, Printed, ReadBatchFault, print_answers, print_bad, read_batch,
+    Answers, BadBatch, Plan, Printed, ReadBatchFault, print_answers, print_bad, read_batch,
 };
 use std::alloc::Global;
 use std::sync::Wait;
@@ -50,16 +50,35 @@ fn reply_to<R: Threads + Wait + Sync, K: Sink, G: Gate + Sync>(
     ensures no_fault { result ≢ Outcome.WriteFault → K.faults sink.new ≡ K.faults sink.old }
     ensures unwritten { result ≡ Outcome.OutOfMemory → sink.new ≡ sink.old }
 {
-    let Ok(answers) = answers_to(rt, alloc, plan, command, gate) else {
-        return Outcome::OutOfMemory;
-    };
-    match print_answers(plan, &answers, sink) {
+    match answers_to(rt, alloc, plan, command, gate) {
+        Ok(answers) => tell_answers(plan, &answers, sink),
+        Err(_) => Outcome::OutOfMemory,
+    }
+}
+
+// Writes the replies to a plan, which were answered.
+//
+// A printer has 32 KiB of text on the stack: kept by itself, so that none of it stands there while
+// the calls are answered.
+#[inline(never)]
+fn tell_answers<K: Sink>(plan: &Plan, answers: &Answers, sink: &mut K) -> Outcome
+    requires { IsAnswered plan.now answers.now }
+    ensures outcomes { (result ≡ Outcome.Done) ⊎ (result ≡ Outcome.WriteFault) }
+    ensures whole { result ≡ Outcome.Done
+        → Appends (K.written sink.old) (K.written sink.new) (answers_text plan.now answers.now) }
+    ensures cut { result ≡ Outcome.WriteFault → AppendsPrefix (K.written sink.old)
+        (K.written sink.new) (answers_text plan.now answers.now) }
+    ensures failed { result ≡ Outcome.WriteFault → Rose (K.faults sink.old) (K.faults sink.new) }
+    ensures no_fault { result ≢ Outcome.WriteFault → K.faults sink.new ≡ K.faults sink.old }
+{
+    match print_answers(plan, answers, sink) {
         Printed::Whole => Outcome::Done,
         Printed::Failed => Outcome::WriteFault,
     }
 }
 
 // Writes the reply to an input that is no batch.
+#[inline(never)]
 fn tell_bad<K: Sink>(bad: &BadBatch, sink: &mut K) -> Outcome
     ensures outcomes { (result ≡ Outcome.BadBatch bad.now.line bad.now.reason)
         ⊎ (result ≡ Outcome.WriteFault) }

@@ -105,7 +105,7 @@ const RUN_WORDS: [&'static [&'static str]; 4] = [
 ];
 
 // The outcome of these words over a source and a sink.
-fn outcome_of<R: Threads + Wait + Sync, G: Gate + Sync>(
+pub fn outcome_of<R: Threads + Wait + Sync, G: Gate + Sync>(
     rt: &R,
     alloc: Global,
     words: &[&str],

@@ -8,6 +8,7 @@ ghost use Rattle.context_table.specs.Slots.{HoldKeys};
 use crate::copies::copied;
 use crate::exchanges::Exchange;
 use crate::keys::KeyTable;
+use crate::parts::ContextParts;
 use crate::streams::context_stream;
 use batch_plans::{ContextKind, ContextLine, ContextRefusal, ContextReply, EncField, Plan};
 use hkdf_labelled::Suite;
@@ -20,7 +21,7 @@ use std::alloc::{AllocError as OutOfMemory, Global};
 #[derive(Drop)]
 pub(crate) struct Standing {
     pub(crate) reply: ContextReply,
-    pub(crate) context: Context,
+    pub(crate) context: ContextParts,
 }
 
 // The bytes of ENC: those of the line, or what an earlier sender's line was answered.
@@ -110,7 +111,7 @@ fn scheduled(
     match schedule(&suite, line.mode, shared_secret, info, psk, psk_id) {
         Ok(secrets) => Ok(Standing {
             reply: exchanged.reply,
-            context: Context::new(line.kind.role(), suite, secrets, line.limit),
+            context: ContextParts::new(line.kind.role(), suite, secrets, line.limit),
         }),
         Err(fault) => Err(psk_refusal(fault)),
     }
@@ -145,7 +146,7 @@ fn parts(outcome: Result<Standing, ContextRefusal>) -> (ContextReply, Option<Con
     ensures context { result.1 ≡ slot_of outcome }
 {
     match outcome {
-        Ok(standing) => (standing.reply, Some(standing.context)),
+        Ok(standing) => (standing.reply, Some(standing.context.into_context())),
         Err(refusal) => (ContextReply::Refused(refusal), None),
     }
 }

@@ -17,6 +17,7 @@ mod exchanges;
 mod keys;
 pub mod laws;
 mod pairs;
+mod parts;
 mod setups;
 mod streams;
 #[cfg(test)]

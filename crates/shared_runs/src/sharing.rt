@@ -54,6 +54,9 @@ pub(crate) fn shares(alloc: Global, all: &[PlainList<u32>]) -> Result<Vec<u32>, 
 }
 
 // Shares a context, where it stands. The stamps of its entries are drawn from `seat`.
+//
+// It moves contexts of 9 KiB: kept by itself, so that no caller's frame has room for them.
+#[inline(never)]
 fn share(
     alloc: Global,
     context: Option<Context>,
