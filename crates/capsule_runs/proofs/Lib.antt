@@ -1,0 +1,5 @@
+pub mod Ordering
+pub mod Placing
+pub mod Filling
+pub mod OneReply
+pub mod Exchanging
