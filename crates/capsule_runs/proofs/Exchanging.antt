@@ -85,8 +85,8 @@ made_by plan keys k public secret (lines.Peer857 bytes) a b el er is = absurd is
 
 -- an ask has algorithms that encrypt
 encrypts_by : (aead : Aead) → aead ≢ ExportOnly → IsTrue (encrypts aead)
-encrypts_by Aes128 other = tt
-encrypts_by Aes256 other = tt
+encrypts_by Aes128 other = refl
+encrypts_by Aes256 other = refl
 encrypts_by ExportOnly other = absurd (other refl)
 
 ask_encrypts : (p : CapsulePlan) (i key id : ℕ) (kdf : _) (aead : Aead) (text : Span) → IsWithin p

@@ -1,3 +1,4 @@
+pub mod Telling
 pub mod Ordering
 pub mod Placing
 pub mod Filling

@@ -9,12 +9,13 @@ use Rattle.batch_plans.specs.declared.plan.EncField.{EncField}
 use Rattle.batch_plans.specs.declared.replies.KeyReply.{KeyReply}
 use Rattle.capsule_frames.specs.declared.lines.CapsuleLine.{CapsuleLine}
 use Rattle.capsule_frames.specs.declared.lines.CapsuleLine.TheVariants.{Ask, Answer, Take}
+use Rattle.capsule_frames.specs.declared.lines.CapsulePlan.{CapsulePlan}
 use Rattle.capsule_frames.specs.declared.replies.CapsuleRefusal.{CapsuleRefusal}
 use Rattle.capsule_frames.specs.declared.replies.CapsuleReply.{CapsuleReply}
 use Rattle.capsule_runs.specs.declared.jobs.AnswerJob.{AnswerJob}
 use Rattle.capsule_runs.specs.Results.{SentView, GivenView}
 use Rattle.capsule_runs.specs.Lines.{sent, given, took}
-use Rattle.capsule_runs.specs.Replies.{Done, nothing_done, asked_reply, answered_reply, took_reply, done_with, replies_after}
+use Rattle.capsule_runs.specs.Replies.{Done, nothing_done, asked_reply, answered_reply, took_reply, done_with, replies_after, due_replies}
 use Rattle.capsule_runs.specs.Orders.{asks_from, jobs_from, given_for, takes_from, merged}
 
 -- d is done, these lines are left, and all asks and all answers are known
@@ -172,8 +173,8 @@ pub merged_is : (plan : Plan) (keys : List KeyReply)
     → merged lines asks answers (takes_from plan asks answers 0 0 lines)
     ≡ replies_after plan keys nothing_done lines
 merged_is plan keys asks answers lines asks_are answers_are =
-    ap (λ (as : List (Result SentView CapsuleRefusal)).
-    merged lines as answers (takes_from plan asks answers 0 0 lines)) asks_are
+    ap (λ (made : List (Result SentView CapsuleRefusal)).
+    merged lines made answers (takes_from plan asks answers 0 0 lines)) asks_are
     ∙ ap (λ (bs : List (Result GivenView CapsuleRefusal)).
     merged lines (asks_from plan keys 0 lines) bs (takes_from plan asks answers 0 0 lines))
     answers_are
@@ -183,3 +184,42 @@ merged_is plan keys asks answers lines asks_are answers_are =
       asks_are = asks_are;
       answers_are = answers_are;
     })
+
+-- the same from what the calls gave, which were lent the asks and the answers
+pub record Served (p : CapsulePlan) (keys : List KeyReply)
+    (asks lent lent' : List (Result SentView CapsuleRefusal))
+    (answers given : List (Result GivenView CapsuleRefusal))
+    (takes : List (Result (List ℕ) CapsuleRefusal)) (lines : List CapsuleLine)
+    (replies : List CapsuleReply) : Type 0 where
+  pub asks_are : asks ≡ asks_from p.plan keys 0 p.lines
+  pub lent_is : lent ≡ asks
+  pub lent_again : lent' ≡ asks
+  pub answers_are : answers ≡ map (given_for p.plan keys lent) (jobs_from 0 p.lines)
+  pub given_is : given ≡ answers
+  pub takes_are : takes ≡ takes_from p.plan lent' given 0 0 p.lines
+  pub lines_are : lines ≡ p.lines
+  pub replies_are : replies ≡ merged lines asks answers takes
+
+pub served_are : (p : CapsulePlan) (keys : List KeyReply)
+    (asks lent lent' : List (Result SentView CapsuleRefusal))
+    (answers given : List (Result GivenView CapsuleRefusal))
+    (takes : List (Result (List ℕ) CapsuleRefusal)) (lines : List CapsuleLine)
+    (replies : List CapsuleReply)
+    → Served p keys asks lent lent' answers given takes lines replies
+    → replies ≡ due_replies p keys
+unfolding due_replies
+served_are p keys asks lent lent' answers given takes lines replies s =
+    let answered : answers ≡ map (given_for p.plan keys asks) (jobs_from 0 p.lines) =
+    s.answers_are
+    ∙ ap (λ (made : List (Result SentView CapsuleRefusal)).
+    map (given_for p.plan keys made) (jobs_from 0 p.lines)) s.lent_is in
+    let taken : takes ≡ takes_from p.plan asks answers 0 0 p.lines =
+    s.takes_are
+    ∙ ap (λ (made : List (Result SentView CapsuleRefusal)). takes_from p.plan made given 0 0 p.lines)
+    s.lent_again
+    ∙ ap (λ (bs : List (Result GivenView CapsuleRefusal)). takes_from p.plan asks bs 0 0 p.lines)
+    s.given_is in
+    s.replies_are
+    ∙ ap (λ (ls : List CapsuleLine). merged ls asks answers takes) s.lines_are
+    ∙ ap (λ (ts : List (Result (List ℕ) CapsuleRefusal)). merged p.lines asks answers ts) taken
+    ∙ merged_is p.plan keys asks answers p.lines s.asks_are answered

@@ -3,6 +3,7 @@
 use Rattle.std.specs.Prelude.{ℕ, List, ◌∷◌, Option, Some, None, Result, Ok, Err, slice_get}
 use Rattle.hkdf_labelled.specs.declared.suites.Kdf.{Kdf}
 use Rattle.hkdf_labelled.specs.declared.suites.Aead.{Aead}
+use Rattle.hkdf_labelled.specs.declared.suites.Suite.{Suite}
 use Rattle.sntrup_kem.specs.Kem.{drawn_r}
 use Rattle.call_places.specs.declared.spans.Span.{Span}
 use Rattle.call_places.specs.Spans.{span_bytes}
@@ -43,7 +44,7 @@ left_by results number = left_in (slice_get results number)
 -- a request to a public key, with r drawn from these words
 abbrev pub sent_to : Kem → List ℕ → ℕ → Kdf → Aead → (ℕ → ℕ) → List ℕ → SentView
 sent_to kem public id kdf aead word text =
-    let suite = record { kem = kem.id; kdf = kdf; aead = aead } in
+    let suite : Suite = record { kem = kem.id; kdf = kdf; aead = aead } in
     let asked = asked_with id suite kem.set public (drawn_r kem.set word 0) in
     record { asked = asked; request = encapsulated_request id asked text }
 

@@ -1,9 +1,10 @@
 //! The answers of a plan, by several threads.
 
-ghost use Rattle.std.specs.Prelude.{◌≡◌, ◌≢◌, ◌≤◌, ℕ, map, length, slice_get, slice_index_or, Some, Ok, IfOk, IfSome, OnOk, All, option_copied};
+ghost use Rattle.std.specs.Prelude.{◌≡◌, ◌≢◌, ◌≤◌, ◌<◌, ℕ, map, length, slice_get, Some, Ok, IfOk, IfSome, OnOk, All, option_copied};
 ghost use Rattle.context_table.specs.Slots.{HoldKeys};
 ghost use Rattle.capsule_frames.specs.Forms.{most_text, most_request};
-ghost use Rattle.capsule_frames.specs.Within.{IsMessageWithin, IsLineWithin, IsWithin};
+ghost use Rattle.capsule_frames.specs.Within.{IsMessageWithin, IsWithin};
+ghost use Rattle.capsule_runs.specs.declared.jobs.AnswerJob.{AnswerJob};
 ghost use Rattle.capsule_runs.specs.Lines.{request_at, given_with};
 ghost use Rattle.capsule_runs.specs.Orders.{IsJobWithin, jobs_from, given_for, AreGiven};
 
@@ -49,7 +50,7 @@ fn given_with<R: Threads + Sync, S: KemParams, M: Multiplier>(
     nonce: &[u8],
     text: &[u8],
 ) -> Result<AnswerResult, OutOfMemory>
-    requires request { IfSome request.entry (λ r. length r.now ≤ most_request) }
+    requires request { IfSome request (λ r. length r.now ≤ most_request) }
     requires text { length text.now ≤ most_text }
     ensures { IfOk result (λ g. g ≡ given_with key.now.kem key.now.secret id
         (option_copied request.entry) nonce.now text.now) }
@@ -81,6 +82,7 @@ struct Gateway<'a, M: Multiplier> {
 
 impl<M: Multiplier> Gateway<'_, M> {
     // What becomes of an answer.
+    #[tactic(auto, unfolding(crate::specs::Lines::given))]
     fn given<R: Threads + Sync>(
         &self,
         rt: &R,
@@ -108,6 +110,28 @@ impl<M: Multiplier> Gateway<'_, M> {
     }
 }
 
+impl<M: Multiplier> Gateway<'_, M> {
+    // What becomes of the answer at this index, in its slot.
+    fn fill_slot<R: Threads + Sync>(
+        &self,
+        rt: &R,
+        alloc: Global,
+        jobs: &[AnswerJob],
+        i: usize,
+        slot: &mut Result<AnswerResult, OutOfMemory>,
+    )
+        requires keys { HoldKeys self.now.plan.now self.now.keys.now.replies
+            self.now.keys.now.slots }
+        requires jobs { All (IsJobWithin (length self.now.plan.now.pool)) jobs.now }
+        requires within { i < length jobs.now }
+        ensures { (job : AnswerJob) → slice_get jobs.now i ≡ Some job
+            → IfOk slot.new (λ g. g ≡ given_for self.now.plan.now self.now.keys.now.replies
+            self.now.asks.now job) }
+    {
+        *slot = self.given(rt, alloc, jobs[i]);
+    }
+}
+
 impl<M: Multiplier + Sync> Gateway<'_, M> {
     // Each slot gets what becomes of its answer.
     fn fill<R: Threads + Sync>(
@@ -124,9 +148,12 @@ impl<M: Multiplier + Sync> Gateway<'_, M> {
         ensures { AreGiven (given_for self.now.plan.now self.now.keys.now.replies
             self.now.asks.now) jobs.now slots.new }
     {
-        for_each_mut(rt, slots, MOST_THREADS, &|i, slot| {
-            *slot = self.given(rt, alloc, jobs[i]);
-        });
+        for_each_mut(
+            rt,
+            slots,
+            MOST_THREADS,
+            &|i, slot| self.fill_slot(rt, alloc, jobs, i, slot),
+        );
     }
 }
 

@@ -44,6 +44,7 @@ fn sent_to<S: KemParams, M: Multiplier>(
 }
 
 // What becomes of the ask of this number.
+#[tactic(auto, unfolding(crate::specs::Lines::sent))]
 fn sent<M: Multiplier>(
     alloc: Global,
     plan: &Plan,
@@ -66,11 +67,15 @@ fn sent<M: Multiplier>(
 {
     let text = text.of(plan.pool.as_slice());
     let words = context_stream(plan, number);
-    Ok(match keys.key(key) {
-        None => Err(CapsuleRefusal::NoKey),
-        Some(Key::Of761(pair)) => Ok(sent_to(alloc, words, mult, pair, id, kdf, aead, text)?),
-        Some(Key::Of857(pair)) => Ok(sent_to(alloc, words, mult, pair, id, kdf, aead, text)?),
-    })
+    match keys.key(key) {
+        None => Ok(Err(CapsuleRefusal::NoKey)),
+        Some(Key::Of761(pair)) => {
+            Ok(Ok(sent_to(alloc, words, mult, pair, id, kdf, aead, text)?))
+        }
+        Some(Key::Of857(pair)) => {
+            Ok(Ok(sent_to(alloc, words, mult, pair, id, kdf, aead, text)?))
+        }
+    }
 }
 
 /// What becomes of the asks of a plan, in their order.

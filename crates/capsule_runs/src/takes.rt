@@ -31,6 +31,7 @@ fn response_at<'a>(
 }
 
 // What becomes of a take, after these asks and answers.
+#[tactic(auto, unfolding(crate::specs::Lines::took))]
 fn took<R: Threads + Sync>(
     rt: &R,
     alloc: Global,

@@ -1,3 +1,6 @@
-use Rattle.capsule_runs.specs.Replies.{due_replies}
-use Rattle.capsule_runs.proofs.Ordering.{merged_is}
+use Rattle.std.proofs.Common.{◌∙◌, refl}
+use Rattle.capsule_runs.proofs.Ordering.{served_are}
 use Rattle.capsule_runs.proofs.serving.serve_capsules.Goals as goal
+
+pub returns : goal.returns
+returns g c = ?
