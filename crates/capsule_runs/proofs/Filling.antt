@@ -1,5 +1,5 @@
 -- Slots that each hold what becomes of their jobs.
-use Rattle.std.proofs.Common.{◌≡◌, ℕ, List, [], ◌∷◌, length, map, Result, Ok, Some, refl, sym, ap, subst, ◌∙◌, arith}
+use Rattle.std.proofs.Common.{◌≡◌, ℕ, suc, List, [], ◌∷◌, length, map, Result, Ok, Some, refl, sym, ap, subst, ◌∙◌, arith}
 use Rattle.std.specs.Prelude.{IfOk, slice_get}
 use Rattle.std.proofs.lemmas.List.{length-map}
 use Rattle.capsule_frames.specs.declared.replies.CapsuleRefusal.{CapsuleRefusal}
@@ -20,8 +20,10 @@ filled_are given_for (j ∷ jobs) [] answers count given all = absurd (omega ari
 filled_are given_for (j ∷ jobs) (s ∷ slots) [] count given all =
     absurd (omega (arith, ap length all))
 filled_are {E} given_for (j ∷ jobs) (s ∷ slots) (a ∷ answers) count given all =
-    let head : Ok {E = E} a ≡ s = cc in
-    let tail : map (Ok {E = E}) answers ≡ slots = cc in
+    let stands : Result GivenView CapsuleRefusal → Result (Result GivenView CapsuleRefusal) E =
+    λ x. Ok x in
+    let head : stands a ≡ s = cc in
+    let tail : map stands answers ≡ slots = cc in
     let first : IfOk s (λ now. now ≡ given_for j) = given 0 j s refl refl in
     let P : Result (Result GivenView CapsuleRefusal) E → Type 0 =
     λ r. IfOk r (λ now. now ≡ given_for j) in
@@ -29,4 +31,4 @@ filled_are {E} given_for (j ∷ jobs) (s ∷ slots) (a ∷ answers) count given 
     ap (λ x. x ∷ answers) is
     ∙ ap (λ xs. given_for j ∷ xs)
     (filled_are given_for jobs slots answers (omega arith)
-    (λ i job slot ej es. given (i + 1) job slot ej es) tail)
+    (λ i job slot ej es. given (suc i) job slot ej es) tail)

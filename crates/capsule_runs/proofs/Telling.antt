@@ -1,17 +1,45 @@
 -- What the calls of ohttp_capsule ensure, as the definitions say it.
 use Rattle.std.proofs.Common.{◌≡◌, ℕ, List, Option, Some, Result, Ok, Err, sym, ap, ◌∙◌}
-use Rattle.std.specs.Prelude.{◌≢◌}
+use Rattle.std.specs.Prelude.{◌≢◌, slice_get}
 use Rattle.ring_core.specs.Sets.{Set}
+use Rattle.call_places.specs.declared.spans.Span.{Span}
+use Rattle.call_places.specs.Spans.{span_bytes}
+use Rattle.hkdf_labelled.specs.declared.suites.Kdf.{Kdf}
+use Rattle.hkdf_labelled.specs.declared.suites.Aead.{Aead}
 use Rattle.batch_plans.specs.declared.plan.Plan.{Plan}
 use Rattle.batch_plans.specs.declared.plan.EncField.{EncField}
-use Rattle.context_table.specs.Keys.{Kem}
+use Rattle.batch_plans.specs.declared.replies.KeyReply.{KeyReply}
+use Rattle.context_table.specs.declared.keys.Key.{Key}
+use Rattle.context_table.specs.Streams.{context_words}
+use Rattle.context_table.specs.Keys.{Kem, KeyView}
+use Rattle.context_table.specs.Slots.{view_of, held_in, HoldKeys}
 use Rattle.ohttp_capsule.specs.declared.asking.Asked.{Asked}
 use Rattle.ohttp_capsule.specs.declared.faults.CapsuleFault.{CapsuleFault}
 use Rattle.ohttp_capsule.specs.declared.faults.CapsuleFault.TheVariants.{OutOfMemory}
 use Rattle.ohttp_capsule.specs.Replies.{answered, taken}
 use Rattle.capsule_frames.specs.declared.replies.CapsuleRefusal.{CapsuleRefusal}
 use Rattle.capsule_runs.specs.Results.{SentView, GivenView}
-use Rattle.capsule_runs.specs.Lines.{refusal_of, left_by, given_of, given_with, response_at, took_of, took_by, took}
+use Rattle.capsule_runs.specs.Lines.{refusal_of, left_by, sent_to, sent_by, sent, given_of, given_with, response_at, took_of, took_by, took}
+
+-- what becomes of an ask, whose key is found
+pub sent_is : (plan : Plan) (keys : List KeyReply) (slots : List (Option Key))
+    (number k id : ℕ) (kdf : Kdf) (aead : Aead) (text : Span) (key : Key) (word : ℕ → ℕ)
+    (pool bytes : List ℕ) (made : SentView)
+    → HoldKeys plan keys slots → Some (view_of key) ≡ held_in (slice_get slots k)
+    → word ≡ context_words plan number → pool ≡ plan.pool → bytes ≡ span_bytes pool text
+    → made ≡ sent_to (view_of key).kem (view_of key).public id kdf aead word bytes
+    → Ok made ≡ sent plan keys number k id kdf aead text
+unfolding sent
+sent_is plan keys slots number k id kdf aead text key word pool bytes made held found words pool_is
+    bytes_is is =
+    let stands : SentView → Result SentView CapsuleRefusal = λ s. Ok s in
+    ap stands is
+    ∙ ap (λ (w : ℕ → ℕ). sent_by (Some (view_of key)) id kdf aead w bytes) words
+    ∙ ap (sent_by (Some (view_of key)) id kdf aead (context_words plan number))
+    (bytes_is ∙ ap (λ (p : List ℕ). span_bytes p text) pool_is)
+    ∙ ap (λ (o : Option KeyView).
+    sent_by o id kdf aead (context_words plan number) (span_bytes plan.pool text))
+    (found ∙ held k)
 
 -- a refusal of an answer
 pub given_refused : (set : Set) (number : ℕ) (kem : Kem) (known found : Option (List ℕ))

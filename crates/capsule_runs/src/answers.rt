@@ -152,8 +152,32 @@ impl<M: Multiplier + Sync> Gateway<'_, M> {
             rt,
             slots,
             MOST_THREADS,
-            &|i, slot| self.fill_slot(rt, alloc, jobs, i, slot),
+            &|i: usize, slot: &mut Result<AnswerResult, OutOfMemory>|
+                requires { HoldKeys self.now.plan.now self.now.keys.now.replies
+                    self.now.keys.now.slots
+                    × All (IsJobWithin (length self.now.plan.now.pool)) jobs.now
+                    × (i < length jobs.now) }
+            { self.fill_slot(rt, alloc, jobs, i, slot) },
         );
+    }
+
+    // What becomes of these answers, each in a slot.
+    fn all<R: Threads + Sync>(
+        &self,
+        rt: &R,
+        alloc: Global,
+        jobs: &[AnswerJob],
+    ) -> Result<Vec<Result<AnswerResult, OutOfMemory>>, OutOfMemory>
+        requires keys { HoldKeys self.now.plan.now self.now.keys.now.replies
+            self.now.keys.now.slots }
+        requires jobs { All (IsJobWithin (length self.now.plan.now.pool)) jobs.now }
+        ensures count { IfOk result (λ v. length v.items ≡ length jobs.now) }
+        ensures given { IfOk result (λ v. AreGiven (given_for self.now.plan.now
+            self.now.keys.now.replies self.now.asks.now) jobs.now v.items) }
+    {
+        let mut slots = empty_slots(alloc, jobs.len())?;
+        self.fill(rt, alloc, jobs, &mut slots);
+        Ok(slots)
     }
 }
 
@@ -207,7 +231,6 @@ pub(crate) fn all_answers<R: Threads + Sync, M: Multiplier + Sync>(
         keys,
         asks,
     };
-    let mut slots = empty_slots(alloc, jobs.len())?;
-    gateway.fill(rt, alloc, &jobs, &mut slots);
+    let slots = gateway.all(rt, alloc, &jobs)?;
     filled(alloc, slots)
 }

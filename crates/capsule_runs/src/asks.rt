@@ -3,7 +3,7 @@
 ghost use Rattle.std.specs.Prelude.{◌≡◌, ◌≢◌, ◌^◌, ◌<◌, ◌≤◌, length, IfOk, IsSome};
 ghost use Rattle.hkdf_labelled.specs.declared.suites.Aead.TheVariants.{ExportOnly};
 ghost use Rattle.batch_plans.specs.Limits.{IsField};
-ghost use Rattle.context_table.specs.Slots.{HoldKeys};
+ghost use Rattle.context_table.specs.Slots.{view_of, HoldKeys};
 ghost use Rattle.capsule_frames.specs.Forms.{most_text};
 ghost use Rattle.capsule_frames.specs.Within.{IsWithin};
 ghost use Rattle.capsule_runs.specs.Lines.{sent_to, sent};
@@ -43,6 +43,29 @@ fn sent_to<S: KemParams, M: Multiplier>(
     Ok(Sent::new(asked, copied(alloc, request.as_slice())?))
 }
 
+// The same to a key of either parameter set.
+fn sent_by<M: Multiplier>(
+    alloc: Global,
+    words: SeedStream,
+    mult: &M,
+    key: &Key,
+    id: u8,
+    kdf: Kdf,
+    aead: Aead,
+    text: &[u8],
+) -> Result<Sent, OutOfMemory>
+    requires start { ⟦<SeedStream as Words>⟧.place words ≡ 0 }
+    requires aead { aead ≢ ExportOnly }
+    requires text { length text.now ≤ most_text }
+    ensures { IfOk result (λ s. s ≡ sent_to (view_of key.now).kem (view_of key.now).public id kdf
+        aead (⟦<SeedStream as Words>⟧.word words) text.now) }
+{
+    match key {
+        Key::Of761(pair) => sent_to(alloc, words, mult, pair, id, kdf, aead, text),
+        Key::Of857(pair) => sent_to(alloc, words, mult, pair, id, kdf, aead, text),
+    }
+}
+
 // What becomes of the ask of this number.
 #[tactic(auto, unfolding(crate::specs::Lines::sent))]
 fn sent<M: Multiplier>(
@@ -69,12 +92,9 @@ fn sent<M: Multiplier>(
     let words = context_stream(plan, number);
     match keys.key(key) {
         None => Ok(Err(CapsuleRefusal::NoKey)),
-        Some(Key::Of761(pair)) => {
-            Ok(Ok(sent_to(alloc, words, mult, pair, id, kdf, aead, text)?))
-        }
-        Some(Key::Of857(pair)) => {
-            Ok(Ok(sent_to(alloc, words, mult, pair, id, kdf, aead, text)?))
-        }
+        Some(key) => Ok(Ok(sent_by(
+            alloc, words, mult, key, id, kdf, aead, text,
+        )?)),
     }
 }
 
