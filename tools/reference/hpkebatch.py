@@ -3,6 +3,7 @@
 
     tools/reference/hpkebatch.py rehearse SCHEDULE < BATCH     the reply, status 0; or the bad line, status 3
     tools/reference/hpkebatch.py run < BATCH                   that of the lanes one after another
+    tools/reference/hpkebatch.py capsules < BATCH              the reply to a batch of capsules
 
 What threads may have answered is judged by tools/reference/judge.
 
@@ -13,6 +14,7 @@ that of `cryptography`, the hashes are hashlib's, the KEM is tools/vectors/sntru
 import sys
 
 from batches import Bad, items_of, read_batch
+from capsules import answer_capsules
 from contexts import set_up
 
 
@@ -137,6 +139,7 @@ if __name__ == "__main__":
     command = sys.argv[1]
     given = sys.argv[2] if command == "rehearse" else "-"
     steps = [] if given == "-" else [int(step) for step in given.split(",")]
-    reply, status = answer(sys.stdin.buffer.read(), steps)
+    data = sys.stdin.buffer.read()
+    reply, status = answer_capsules(data) if command == "capsules" else answer(data, steps)
     sys.stdout.write(reply)
     sys.exit(status)

@@ -21,7 +21,7 @@ use Rattle.batch_plans.specs.declared.replies.ContextReply.TheVariants.{Shared}
 use Rattle.context_table.specs.Streams.{key_words}
 use Rattle.context_table.specs.Keys.{IsPairReply, IsSecretReply, IsPeerReply, IsKeyReply, AreKeyReplies}
 use Rattle.context_table.specs.Contexts.{outcome, reply_of, slot_of, AreOutcomes}
-use Rattle.context_table.specs.Laws.{OneSetUp}
+use Rattle.context_table.specs.Laws.{OneKeySetUp, OneSetUp}
 use Rattle.context_table.proofs.Lists.{same_lists, some_within}
 use Rattle.context_table.proofs.OneKey.{one_pair}
 
@@ -207,6 +207,10 @@ all_slots plan keys replies replies' standing standing' both =
     er.1 er'.1 es es').1)
 
 -- ---- the whole
+
+pub one_key_set_up_lem : OneKeySetUp
+one_key_set_up_lem plan keys keys' a b =
+    one_keys plan keys keys' a.key_count b.key_count a.key_replies b.key_replies
 
 pub one_set_up_lem : OneSetUp
 one_set_up_lem plan keys keys' contexts contexts' standing standing' a b =

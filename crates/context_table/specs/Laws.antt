@@ -1,4 +1,5 @@
--- What is said of the set-up: there is one, and the two ends of an exchange match.
+-- What is said of the set-up: there is one, of the keys and of the whole, and the two ends of an
+-- exchange match.
 use Rattle.std.specs.Prelude.{◌≡◌, ℕ, ◌+◌, ◌<◌, ◌≤◌, List, [], ◌∷◌, map, length, Option, Some, slice_get}
 use Rattle.call_places.specs.Spans.{span_bytes}
 use Rattle.hpke_context.specs.Answers.{Item, Seal, Unseal, Answer, Sealed_at, Opened_at, run}
@@ -13,7 +14,12 @@ use Rattle.batch_plans.specs.declared.replies.KeyReply.{KeyReply}
 use Rattle.batch_plans.specs.declared.replies.KeyReply.TheVariants.{Generated}
 use Rattle.batch_plans.specs.declared.replies.ContextReply.{ContextReply}
 use Rattle.batch_plans.specs.declared.replies.ContextReply.TheVariants.{Sender}
-use Rattle.context_table.specs.SetUp.{IsSetUp}
+use Rattle.context_table.specs.SetUp.{IsKeySetUp, IsSetUp}
+
+abbrev pub OneKeySetUp : Type 0
+OneKeySetUp =
+    (plan : Plan) (keys keys' : List KeyReply) → IsKeySetUp plan keys → IsKeySetUp plan keys'
+    → keys ≡ keys'
 
 abbrev pub OneSetUp : Type 0
 OneSetUp =

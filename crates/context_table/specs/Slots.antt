@@ -1,4 +1,4 @@
--- ---- for the proofs: the keys as the code holds them
+-- The keys of a plan as a program holds them, each in the slot of its number.
 use Rattle.std.specs.Prelude.{◌≡◌, ℕ, List, Option, Some, None, slice_get}
 use Rattle.batch_plans.specs.declared.plan.Plan.{Plan}
 use Rattle.batch_plans.specs.declared.replies.KeyReply.{KeyReply}

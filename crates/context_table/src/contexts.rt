@@ -48,10 +48,10 @@ fn exchange<M: Multiplier>(
     mult: &M,
 ) -> Result<Result<Exchange, ContextRefusal>, OutOfMemory>
     requires kind { IsKindWithin plan.now.seed (length plan.now.pool) kind.now }
-    requires keys { HoldKeys plan.now keys.now.replies.items keys.now.slots.items }
+    requires keys { HoldKeys plan.now keys.now.replies keys.now.slots }
     requires number { length earlier.now < 2 ^ 32 }
     ensures { IfOk result (λ e. e
-        ≡ exchange plan.now keys.now.replies.items earlier.now (length earlier.now) kind.now) }
+        ≡ exchange plan.now keys.now.replies earlier.now (length earlier.now) kind.now) }
 {
     let pool = plan.pool.as_slice();
     match *kind {
@@ -127,10 +127,10 @@ fn outcome<M: Multiplier>(
     mult: &M,
 ) -> Result<Result<Standing, ContextRefusal>, OutOfMemory>
     requires line { IsContextWithin plan.now.seed (length plan.now.pool) line.now }
-    requires keys { HoldKeys plan.now keys.now.replies.items keys.now.slots.items }
+    requires keys { HoldKeys plan.now keys.now.replies keys.now.slots }
     requires number { length earlier.now < 2 ^ 32 }
     ensures { IfOk result (λ o. o
-        ≡ outcome plan.now keys.now.replies.items earlier.now (length earlier.now) line.now) }
+        ≡ outcome plan.now keys.now.replies earlier.now (length earlier.now) line.now) }
 {
     Ok(
         match exchange(alloc, plan, keys, earlier, &line.kind, mult)? {
@@ -166,10 +166,10 @@ pub(crate) fn context_table<M: Multiplier>(
     mult: &M,
 ) -> Result<ContextTable, OutOfMemory>
     requires limits { IsWithinLimits plan.now }
-    requires keys { HoldKeys plan.now keys.now.replies.items keys.now.slots.items }
+    requires keys { HoldKeys plan.now keys.now.replies keys.now.slots }
     ensures reply_count { IfOk result (λ t. length t.replies.items ≡ length plan.now.contexts) }
     ensures slot_count { IfOk result (λ t. length t.slots.items ≡ length plan.now.contexts) }
-    ensures outcomes { IfOk result (λ t. AreOutcomes plan.now keys.now.replies.items
+    ensures outcomes { IfOk result (λ t. AreOutcomes plan.now keys.now.replies
         t.replies.items t.slots.items) }
 {
     let mut replies = Vec::new(alloc);

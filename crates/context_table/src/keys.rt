@@ -2,21 +2,22 @@
 
 ghost use Rattle.std.specs.Prelude.{◌≡◌, ◌+◌, ◌*◌, ◌^◌, ◌<◌, ◌≤◌, length, IfOk, option_copied, slice_get};
 ghost use Rattle.batch_plans.specs.Limits.{IsKeyWithin, IsWithinLimits};
-ghost use Rattle.context_table.specs.Keys.{IsKeyReply, AreKeyReplies, kem_of, given_bytes, key_by};
+ghost use Rattle.context_table.specs.Keys.{IsKeyReply, kem_of, given_bytes, key_by};
 ghost use Rattle.context_table.specs.Contexts.{sender_exchange, recipient_exchange};
+ghost use Rattle.context_table.specs.SetUp.{IsKeySetUp};
 ghost use Rattle.context_table.specs.Slots.{view_of, held_view, held_in, HoldKeys};
 
 use crate::exchanges::Exchange;
 use crate::pairs::{Answered, KeyPair, given_public, given_secret, made_pair};
 use crate::streams::key_stream;
-use batch_plans::{ContextRefusal, KeyLine, KeyReply, Plan};
+use batch_plans::{ContextRefusal, KeyLine, KeyReplies, KeyReply, PlainList, Plan};
 use rand_words::{SeedStream, Words};
 use ring_core::{Multiplier, Sntrup761, Sntrup857};
 use std::alloc::{AllocError as OutOfMemory, Global};
 
-/// A key of either parameter set.
+/// A key that stands, of either parameter set.
 #[derive(Drop)]
-pub(crate) enum Key {
+pub enum Key {
     Of761(KeyPair<Sntrup761>),
     Of857(KeyPair<Sntrup857>),
 }
@@ -108,33 +109,38 @@ fn answered_key<M: Multiplier>(
     })
 }
 
-/// The replies to key lines, and the keys that stand, each in the slot of its number.
+/// The keys of a plan, each in the slot of its number; none where it was refused.
+pub type KeySlots = PlainList<Option<Key>>;
+
+/// The replies to the key lines of a plan, and the keys that stand.
 #[derive(Drop)]
-pub(crate) struct KeyTable {
-    pub(crate) replies: Vec<KeyReply>,
-    pub(crate) slots: Vec<Option<Key>>,
+pub struct KeyTable {
+    pub replies: KeyReplies,
+    pub slots: KeySlots,
 }
 
 impl KeyTable {
     /// The key of this number, where there is one and it stands.
-    pub(crate) fn key(&self, number: u32) -> Option<&Key>
-        ensures { held_view (option_copied result)
-            ≡ held_in (slice_get self.now.slots.items number) }
+    pub fn key(&self, number: u32) -> Option<&Key>
+        ensures { held_view (option_copied result) ≡ held_in (slice_get self.now.slots number) }
     {
-        self.slots.get(number as usize)?.as_ref()
+        self.slots.as_slice().get(number as usize)?.as_ref()
     }
 }
 
-/// Answers the key lines of a plan, in their order.
-pub(crate) fn key_table<M: Multiplier>(
+/// Answers the key lines of a plan (NTRU Prime round 3, KeyGen), and keeps the keys that stand.
+///
+/// Key number k draws its words from stream 2k of the plan's seed; lines of all kinds are counted,
+/// and refused ones too. A key that is given is not tested further than
+/// [`SecretKey::from_bytes`](sntrup_kem::SecretKey::from_bytes) does.
+pub fn key_table<M: Multiplier>(
     alloc: Global,
     plan: &Plan,
     mult: &M,
 ) -> Result<KeyTable, OutOfMemory>
     requires { IsWithinLimits plan.now }
-    ensures count { IfOk result (λ t. length t.replies.items ≡ length plan.now.keys) }
-    ensures replies { IfOk result (λ t. AreKeyReplies plan.now t.replies.items) }
-    ensures slots { IfOk result (λ t. HoldKeys plan.now t.replies.items t.slots.items) }
+    ensures key_set_up { IfOk result (λ t. IsKeySetUp plan.now t.replies) }
+    ensures slots { IfOk result (λ t. HoldKeys plan.now t.replies t.slots) }
 {
     let mut replies = Vec::new(alloc);
     let mut slots = Vec::new(alloc);
@@ -143,5 +149,8 @@ pub(crate) fn key_table<M: Multiplier>(
         replies.push(answered.reply)?;
         slots.push(answered.key)?;
     }
-    Ok(KeyTable { replies, slots })
+    Ok(KeyTable {
+        replies: PlainList::from_vec(replies),
+        slots: PlainList::from_vec(slots),
+    })
 }

@@ -1,9 +1,14 @@
 //! What the set-up is for, each the contract of a function that does no work.
 
-ghost use Rattle.context_table.specs.Laws.{OneSetUp, EndsMatch};
+ghost use Rattle.context_table.specs.Laws.{OneKeySetUp, OneSetUp, EndsMatch};
 
 use ring_core::{Sntrup761, Sntrup857};
 use sntrup_kem::laws::both_ends_agree;
+
+/// The key lines of a plan have one set-up: it is a function of the plan alone.
+pub fn one_key_set_up()
+    ensures { OneKeySetUp }
+{}
 
 /// A plan has one set-up: it is a function of the plan alone.
 pub fn one_set_up()

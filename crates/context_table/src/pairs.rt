@@ -17,7 +17,7 @@ use std::marker::Model;
 
 /// A public key, with its secret key where that is known. Contracts see the KEM and the bytes.
 #[derive(Drop)]
-pub(crate) struct KeyPair<S: KemParams> {
+pub struct KeyPair<S: KemParams> {
     public: PublicKey<S>,
     secret: Option<SecretKey<S>>,
 }
@@ -35,6 +35,22 @@ impl<S: KemParams> Model for KeyPair<S> {
 }
 
 impl<S: KemParams> KeyPair<S> {
+    /// The public key.
+    pub fn public(&self) -> &PublicKey<S>
+        ensures kem { self.now.kem ≡ record { id = S.ID; set = S.set } }
+        ensures public { result.now ≡ self.now.public }
+    {
+        &self.public
+    }
+
+    /// The secret key, where it is known.
+    pub fn secret(&self) -> Option<&SecretKey<S>>
+        ensures kem { self.now.kem ≡ record { id = S.ID; set = S.set } }
+        ensures secret { option_copied result ≡ self.now.secret }
+    {
+        self.secret.as_ref()
+    }
+
     /// A sender's exchange, by Encap to the public key with words of a source that stands at its
     /// first.
     pub(crate) fn sender_exchange<R: Words, M: Multiplier>(

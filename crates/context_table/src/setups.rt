@@ -40,7 +40,7 @@ pub fn set_up<M: Multiplier>(alloc: Global, plan: &Plan, mult: &M) -> Result<Set
     let keys = key_table(alloc, plan, mult)?;
     let contexts = context_table(alloc, plan, &keys, mult)?;
     Ok(Setup {
-        keys: PlainList::from_vec(keys.replies),
+        keys: keys.replies,
         contexts: PlainList::from_vec(contexts.replies),
         standing: PlainList::from_vec(contexts.slots),
     })

@@ -28,8 +28,8 @@ pub(crate) fn key_stream(plan: &Plan, number: usize) -> SeedStream
     stream(plan, 2 * number as u64)
 }
 
-// The words of the context of this number.
-pub(crate) fn context_stream(plan: &Plan, number: usize) -> SeedStream
+/// The words of the context of this number, at the first of them: stream 2c + 1 of the plan's seed.
+pub fn context_stream(plan: &Plan, number: usize) -> SeedStream
     requires seed { IsSome plan.now.seed }
     requires number { number < 2 ^ 32 }
     ensures start { ⟦<SeedStream as Words>⟧.place result ≡ 0 }

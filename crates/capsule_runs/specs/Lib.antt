@@ -1,0 +1,5 @@
+pub mod Results
+pub mod Lines
+pub mod Replies
+pub mod Orders
+pub mod Laws

@@ -1,0 +1,236 @@
+//! The answers of a plan, by several threads.
+
+ghost use Rattle.std.specs.Prelude.{◌≡◌, ◌≢◌, ◌≤◌, ◌<◌, ℕ, map, length, slice_get, Some, Ok, IfOk, IfSome, OnOk, All, option_copied};
+ghost use Rattle.context_table.specs.Slots.{HoldKeys};
+ghost use Rattle.capsule_frames.specs.Forms.{most_text, most_request};
+ghost use Rattle.capsule_frames.specs.Within.{IsMessageWithin, IsWithin};
+ghost use Rattle.capsule_runs.specs.declared.jobs.AnswerJob.{AnswerJob};
+ghost use Rattle.capsule_runs.specs.Lines.{request_at, given_with};
+ghost use Rattle.capsule_runs.specs.Orders.{IsJobWithin, jobs_from, given_for, AreGiven};
+
+use crate::finding::{first, refusal_of, sent_by};
+use crate::jobs::{AnswerJob, jobs};
+use crate::results::{AnswerResult, AskResult, Given, copied};
+use batch_plans::{EncField, Plan};
+use capsule_frames::{CapsulePlan, CapsuleRefusal};
+use context_table::{Key, KeyPair, KeyTable};
+use ohttp_capsule::answer;
+use ring_core::Multiplier;
+use sntrup_kem::KemParams;
+use std::alloc::{AllocError as OutOfMemory, Global};
+use std::thread::{Threads, for_each_mut};
+
+/// The most threads that answer at once.
+const MOST_THREADS: usize = 16;
+
+// The request of an answer: bytes of its line, or what an earlier ask made.
+fn request_at<'a>(
+    pool: &'a [u8],
+    asks: &'a [AskResult],
+    request: EncField,
+) -> Option<&'a [u8]>
+    requires { IsMessageWithin most_request (length pool.now) request }
+    ensures request { option_copied result ≡ request_at pool.now asks.now request }
+    ensures size { IfSome result (λ r. length r.now ≤ most_request) }
+{
+    match request {
+        EncField::Bytes(bytes) => Some(bytes.of(pool)),
+        EncField::Of(number) => Some(sent_by(asks, number)?.request()),
+    }
+}
+
+// The answer of a key to a request, where there is one.
+fn given_with<R: Threads + Sync, S: KemParams, M: Multiplier>(
+    rt: &R,
+    alloc: Global,
+    mult: &M,
+    key: &KeyPair<S>,
+    id: u8,
+    request: Option<&[u8]>,
+    nonce: &[u8],
+    text: &[u8],
+) -> Result<AnswerResult, OutOfMemory>
+    requires request { IfSome request (λ r. length r.now ≤ most_request) }
+    requires text { length text.now ≤ most_text }
+    ensures { IfOk result (λ g. g ≡ given_with key.now.kem key.now.secret id
+        (option_copied request.entry) nonce.now text.now) }
+{
+    let Some(secret) = key.secret() else {
+        return Ok(Err(CapsuleRefusal::NeedSecret));
+    };
+    let Some(request) = request else {
+        return Ok(Err(CapsuleRefusal::NoAsk));
+    };
+    match answer(rt, alloc, mult, secret, id, request, nonce, text) {
+        Ok((question, response)) => {
+            let question = copied(alloc, question.as_slice())?;
+            let response = copied(alloc, response.as_slice())?;
+            Ok(Ok(Given::new(question, response)))
+        }
+        Err(fault) => Ok(Err(refusal_of(fault)?)),
+    }
+}
+
+// What answers are made with, besides their lines.
+#[derive(Drop)]
+struct Gateway<'a, M: Multiplier> {
+    plan: &'a Plan,
+    mult: &'a M,
+    keys: &'a KeyTable,
+    asks: &'a [AskResult],
+}
+
+impl<M: Multiplier> Gateway<'_, M> {
+    // What becomes of an answer.
+    #[tactic(auto, unfolding(crate::specs::Lines::given))]
+    fn given<R: Threads + Sync>(
+        &self,
+        rt: &R,
+        alloc: Global,
+        job: AnswerJob,
+    ) -> Result<AnswerResult, OutOfMemory>
+        requires keys { HoldKeys self.now.plan.now self.now.keys.now.replies
+            self.now.keys.now.slots }
+        requires job { IsJobWithin (length self.now.plan.now.pool) job }
+        ensures { IfOk result (λ g. g ≡ given_for self.now.plan.now self.now.keys.now.replies
+            self.now.asks.now job) }
+    {
+        let pool = self.plan.pool.as_slice();
+        let request = request_at(pool, first(self.asks, job.asks), job.request);
+        let (nonce, text) = (job.nonce.of(pool), job.text.of(pool));
+        match self.keys.key(job.key) {
+            None => Ok(Err(CapsuleRefusal::NoKey)),
+            Some(Key::Of761(pair)) => {
+                given_with(rt, alloc, self.mult, pair, job.id, request, nonce, text)
+            }
+            Some(Key::Of857(pair)) => {
+                given_with(rt, alloc, self.mult, pair, job.id, request, nonce, text)
+            }
+        }
+    }
+}
+
+impl<M: Multiplier> Gateway<'_, M> {
+    // What becomes of the answer at this index, in its slot.
+    fn fill_slot<R: Threads + Sync>(
+        &self,
+        rt: &R,
+        alloc: Global,
+        jobs: &[AnswerJob],
+        i: usize,
+        slot: &mut Result<AnswerResult, OutOfMemory>,
+    )
+        requires keys { HoldKeys self.now.plan.now self.now.keys.now.replies
+            self.now.keys.now.slots }
+        requires jobs { All (IsJobWithin (length self.now.plan.now.pool)) jobs.now }
+        requires within { i < length jobs.now }
+        ensures { (job : AnswerJob) → slice_get jobs.now i ≡ Some job
+            → IfOk slot.new (λ g. g ≡ given_for self.now.plan.now self.now.keys.now.replies
+            self.now.asks.now job) }
+    {
+        *slot = self.given(rt, alloc, jobs[i]);
+    }
+}
+
+impl<M: Multiplier + Sync> Gateway<'_, M> {
+    // Each slot gets what becomes of its answer.
+    fn fill<R: Threads + Sync>(
+        &self,
+        rt: &R,
+        alloc: Global,
+        jobs: &[AnswerJob],
+        slots: &mut [Result<AnswerResult, OutOfMemory>],
+    )
+        requires keys { HoldKeys self.now.plan.now self.now.keys.now.replies
+            self.now.keys.now.slots }
+        requires jobs { All (IsJobWithin (length self.now.plan.now.pool)) jobs.now }
+        requires count { length slots.old ≡ length jobs.now }
+        ensures { AreGiven (given_for self.now.plan.now self.now.keys.now.replies
+            self.now.asks.now) jobs.now slots.new }
+    {
+        for_each_mut(
+            rt,
+            slots,
+            MOST_THREADS,
+            &|i: usize, slot: &mut Result<AnswerResult, OutOfMemory>|
+                requires { HoldKeys self.now.plan.now self.now.keys.now.replies
+                    self.now.keys.now.slots
+                    × All (IsJobWithin (length self.now.plan.now.pool)) jobs.now
+                    × (i < length jobs.now) }
+            { self.fill_slot(rt, alloc, jobs, i, slot) },
+        );
+    }
+
+    // What becomes of these answers, each in a slot.
+    fn all<R: Threads + Sync>(
+        &self,
+        rt: &R,
+        alloc: Global,
+        jobs: &[AnswerJob],
+    ) -> Result<Vec<Result<AnswerResult, OutOfMemory>>, OutOfMemory>
+        requires keys { HoldKeys self.now.plan.now self.now.keys.now.replies
+            self.now.keys.now.slots }
+        requires jobs { All (IsJobWithin (length self.now.plan.now.pool)) jobs.now }
+        ensures count { IfOk result (λ v. length v.items ≡ length jobs.now) }
+        ensures given { IfOk result (λ v. AreGiven (given_for self.now.plan.now
+            self.now.keys.now.replies self.now.asks.now) jobs.now v.items) }
+    {
+        let mut slots = empty_slots(alloc, jobs.len())?;
+        self.fill(rt, alloc, jobs, &mut slots);
+        Ok(slots)
+    }
+}
+
+// So many slots, with no answer yet.
+fn empty_slots(
+    alloc: Global,
+    count: usize,
+) -> Result<Vec<Result<AnswerResult, OutOfMemory>>, OutOfMemory>
+    ensures { IfOk result (λ v. length v.items ≡ count) }
+{
+    let mut slots = Vec::new(alloc);
+    'slots: for _slot in 0..count {
+        slots.push(Err(OutOfMemory))?;
+    }
+    Ok(slots)
+}
+
+// The answers, if there was memory for each.
+fn filled(
+    alloc: Global,
+    slots: Vec<Result<AnswerResult, OutOfMemory>>,
+) -> Result<Vec<AnswerResult>, OutOfMemory>
+    ensures { IfOk result (λ v. map Ok v.items ≡ slots.items) }
+{
+    let mut answers = Vec::new(alloc);
+    'slots: for slot in slots {
+        answers.push(slot?)?;
+    }
+    Ok(answers)
+}
+
+/// What becomes of the answers of a plan, in their order, by several threads. They are joined before
+/// the call returns.
+pub(crate) fn all_answers<R: Threads + Sync, M: Multiplier + Sync>(
+    rt: &R,
+    alloc: Global,
+    plan: &CapsulePlan,
+    mult: &M,
+    keys: &KeyTable,
+    asks: &[AskResult],
+) -> Result<Vec<AnswerResult>, OutOfMemory>
+    requires within { IsWithin plan.now }
+    requires keys { HoldKeys plan.now.plan keys.now.replies keys.now.slots }
+    ensures { IfOk result (λ v. v.items ≡ map
+        (given_for plan.now.plan keys.now.replies asks.now) (jobs_from 0 plan.now.lines)) }
+{
+    let jobs = jobs(alloc, plan)?;
+    let gateway = Gateway {
+        plan: &plan.plan,
+        mult,
+        keys,
+        asks,
+    };
+    let slots = gateway.all(rt, alloc, &jobs)?;
+    filled(alloc, slots)
+}

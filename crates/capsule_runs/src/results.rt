@@ -1,0 +1,125 @@
+//! What capsule lines leave for later ones.
+
+ghost use Rattle.std.specs.Prelude.{◌≡◌, IfOk};
+
+use batch_plans::{ByteList, PlainList};
+use capsule_frames::CapsuleRefusal;
+use ohttp_capsule::Asked;
+use std::alloc::{AllocError as OutOfMemory, Global};
+use std::marker::Model;
+
+/// What a client has of an ask that was made: what it keeps, and the request. They are within the
+/// limits of [`answer`](ohttp_capsule::answer) and [`take`](ohttp_capsule::take).
+#[derive(Drop)]
+pub(crate) struct Sent {
+    asked: Asked,
+    request: ByteList,
+}
+
+impl Model for Sent {
+    ghost use Rattle.std.specs.Prelude.{◌≤◌, length};
+    ghost use Rattle.hpke_context.specs.Contexts.{HasCipher};
+    ghost use Rattle.capsule_runs.specs.Results.{SentView};
+
+    ghost Value = { SentView };
+
+    ghost view = { λ s. record { asked = s.asked; request = s.request } };
+
+    ghost invariant = { λ s. HasCipher s.asked.context × (length s.asked.enc ≤ 1184)
+        × (length s.request ≤ 1049783) };
+}
+
+impl Sent {
+    ghost use Rattle.std.specs.Prelude.{◌≡◌, ◌≤◌, length};
+    ghost use Rattle.hpke_context.specs.Contexts.{HasCipher};
+
+    pub(crate) fn new(asked: Asked, request: ByteList) -> Sent
+        requires cipher { HasCipher asked.context }
+        requires enc { length asked.enc ≤ 1184 }
+        requires request { length request ≤ 1049783 }
+        ensures { result ≡ record { asked = asked; request = request } }
+    {
+        Sent { asked, request }
+    }
+
+    pub(crate) fn asked(&self) -> &Asked
+        ensures asked { result.now ≡ self.now.asked }
+        ensures cipher { HasCipher result.now.context }
+        ensures enc { length result.now.enc ≤ 1184 }
+    {
+        &self.asked
+    }
+
+    pub(crate) fn request(&self) -> &[u8]
+        ensures request { result.now ≡ self.now.request }
+        ensures size { length result.now ≤ 1049783 }
+    {
+        self.request.as_slice()
+    }
+
+    pub(crate) fn into_request(self) -> ByteList
+        ensures { result ≡ self.request }
+    {
+        self.request
+    }
+}
+
+/// What a gateway has of an answer that was given: the text of the request, and the response, which
+/// is within the limit of [`take`](ohttp_capsule::take).
+#[derive(Drop)]
+pub(crate) struct Given {
+    text: ByteList,
+    response: ByteList,
+}
+
+impl Model for Given {
+    ghost use Rattle.std.specs.Prelude.{◌≤◌, length};
+    ghost use Rattle.capsule_runs.specs.Results.{GivenView};
+
+    ghost Value = { GivenView };
+
+    ghost view = { λ g. record { text = g.text; response = g.response } };
+
+    ghost invariant = { λ g. length g.response ≤ 1048624 };
+}
+
+impl Given {
+    ghost use Rattle.std.specs.Prelude.{◌≡◌, ◌≤◌, length};
+
+    pub(crate) fn new(text: ByteList, response: ByteList) -> Given
+        requires { length response ≤ 1048624 }
+        ensures { result ≡ record { text = text; response = response } }
+    {
+        Given { text, response }
+    }
+
+    pub(crate) fn response(&self) -> &[u8]
+        ensures response { result.now ≡ self.now.response }
+        ensures size { length result.now ≤ 1048624 }
+    {
+        self.response.as_slice()
+    }
+
+    pub(crate) fn into_parts(self) -> (ByteList, ByteList)
+        ensures text { result.0 ≡ self.text }
+        ensures response { result.1 ≡ self.response }
+    {
+        (self.text, self.response)
+    }
+}
+
+/// What becomes of an ask, of an answer and of a take.
+pub(crate) type AskResult = Result<Sent, CapsuleRefusal>;
+
+pub(crate) type AnswerResult = Result<Given, CapsuleRefusal>;
+
+pub(crate) type TakeResult = Result<ByteList, CapsuleRefusal>;
+
+/// The same bytes in memory of their own.
+pub(crate) fn copied(alloc: Global, bytes: &[u8]) -> Result<ByteList, OutOfMemory>
+    ensures { IfOk result (λ b. b ≡ bytes.now) }
+{
+    let mut copy = Vec::with_capacity(alloc, bytes.len())?;
+    copy.extend_from_slice(bytes)?;
+    Ok(PlainList::from_vec(copy))
+}
