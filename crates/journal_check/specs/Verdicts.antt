@@ -7,7 +7,7 @@ use Rattle.batch_plans.specs.declared.plan.Plan.{Plan}
 use Rattle.batch_plans.specs.declared.replies.KeyReply.{KeyReply}
 use Rattle.batch_plans.specs.declared.replies.ContextReply.{ContextReply}
 use Rattle.reply_texts.specs.ReplyText.{has_stamps}
-use Rattle.due_replies.specs.Runs.{Run, IsAllowed, asks_of, run_text}
+use Rattle.due_replies.specs.Runs.{Run, asks_of}
 use Rattle.context_table.specs.SetUp.{IsSetUp}
 use Rattle.result_lines.specs.declared.told.GuessLine.{GuessLine}
 use Rattle.result_lines.specs.Told.{ToldView, told_by}
@@ -75,27 +75,3 @@ pub record IsVerdict (plan : Plan) (text : List ℕ) (verdict : Verdict) : Type 
   pub standing : List (Option ContextView)
   pub set_up : IsSetUp plan keys contexts standing
   pub is : verdict ≡ by_form plan standing (told_by plan keys contexts standing text)
-
--- ---- which results there may be
-
--- the text replies to the plan's set-up, and to its calls along journals and guesses, which it
--- prints. The journals are legal, and each guess may have been made.
-pub record IsResult (plan : Plan) (text : List ℕ) : Type 0 where
-  pub keys : List KeyReply
-  pub contexts : List ContextReply
-  pub standing : List (Option ContextView)
-  pub set_up : IsSetUp plan keys contexts standing
-  pub journals : List (List Mark)
-  pub guesses : List (List ℕ)
-  pub allowed : IsAllowed (record {
-    plan = plan;
-    contexts = standing;
-    journals = journals;
-    guesses = guesses;
-  })
-  pub text_is : text ≡ run_text keys contexts (record {
-    plan = plan;
-    contexts = standing;
-    journals = journals;
-    guesses = guesses;
-  })
