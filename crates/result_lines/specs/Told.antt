@@ -57,11 +57,11 @@ unfoldable pub with_reply : ToldView → Result ToldView ℕ
 with_reply told = do
   (line, lines) ← next_line told.lines
   Ok (
-    record told {
-      lines = lines;
-      replies = told.replies ++ record { number = told.lines.number; line = line } ∷ [];
-    }
-  )
+      record told {
+        lines = lines;
+        replies = told.replies ++ record { number = told.lines.number; line = line } ∷ [];
+      }
+      )
 
 -- so many of them
 abbrev pub with_replies : ℕ → ToldView → Result ToldView ℕ
@@ -73,11 +73,11 @@ unfoldable pub with_guess : ToldView → Result ToldView ℕ
 with_guess told = do
   (guess, lines) ← guess_from told.lines
   Ok (
-    record told {
-      lines = lines;
-      guesses = told.guesses ++ record { number = told.lines.number; guess = guess } ∷ [];
-    }
-  )
+      record told {
+        lines = lines;
+        guesses = told.guesses ++ record { number = told.lines.number; guess = guess } ∷ [];
+      }
+      )
 
 -- a call that is served
 abbrev pub with_served : CallLine → ToldView → Result ToldView ℕ

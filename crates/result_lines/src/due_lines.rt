@@ -29,11 +29,7 @@ pub fn push_number(alloc: Global, out: &mut Vec<u8>, number: u64) -> Result<(), 
 }
 
 /// A word, a number and a line feed.
-pub(crate) fn numbered_line(
-    alloc: Global,
-    word: &[u8],
-    number: u64,
-) -> Result<Vec<u8>, AllocError>
+pub(crate) fn numbered_line(alloc: Global, word: &[u8], number: u64) -> Result<Vec<u8>, AllocError>
     ensures { IfOk result (λ line. line.items ≡ word.now ++ decimal number ++ codes "\n") }
 {
     let mut line = word.to_vec(alloc)?;
@@ -113,11 +109,7 @@ fn push_context_words(
 }
 
 /// The line of a key.
-pub(crate) fn key_line(
-    alloc: Global,
-    number: u64,
-    reply: &KeyReply,
-) -> Result<Vec<u8>, AllocError>
+pub(crate) fn key_line(alloc: Global, number: u64, reply: &KeyReply) -> Result<Vec<u8>, AllocError>
     ensures { IfOk result (λ line. line.items ≡ key_line_of number reply.now) }
 {
     let mut line = b"key ".to_vec(alloc)?;

@@ -106,7 +106,12 @@ pub fn read_result<'a>(
     let mut told = Told::nothing_yet(alloc, text);
     read_setup(&mut told, alloc, plan.version, keys, replies)?;
     read_lanes(&mut told, alloc, contexts, plan.lanes.as_slice())?;
-    read_journals(&mut told, alloc, plan.version == 2, plan.contexts.as_slice())?;
+    read_journals(
+        &mut told,
+        alloc,
+        plan.version == 2,
+        plan.contexts.as_slice(),
+    )?;
     told.end()?;
     Ok(told)
 }
