@@ -1,5 +1,4 @@
 pub mod Walks
-pub mod Limited
 pub mod Asking
 pub mod Blocks
 pub mod Putting

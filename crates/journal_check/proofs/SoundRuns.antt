@@ -24,15 +24,15 @@ use Rattle.due_replies.specs.Runs.{Run, asks_of, journal_of, answer_line}
 use Rattle.journal_check.specs.declared.runs.JournalRun.{JournalRun}
 use Rattle.reply_texts.specs.ReplyText.{has_stamps}
 use Rattle.result_lines.specs.Told.{ToldView}
-use Rattle.journal_check.specs.declared.verdicts.Verdict.{Verdict}
-use Rattle.journal_check.specs.Guesses.{wrong_guesses}
-use Rattle.journal_check.specs.Journals.{is_journal, broken_journal, is_one_history}
-use Rattle.journal_check.specs.Replies.{all_replies, wrong_reply}
-use Rattle.journal_check.specs.Verdicts.{run_told, by_journal, by_stamps, by_reply, by_guess, or_later, verdict_on}
+use Rattle.result_verdicts.specs.declared.verdicts.Verdict.{Verdict}
+use Rattle.result_verdicts.specs.Guesses.{wrong_guesses}
+use Rattle.result_verdicts.specs.Journals.{is_journal, broken_journal, is_one_history}
+use Rattle.result_verdicts.specs.Replies.{all_replies, wrong_reply}
+use Rattle.result_verdicts.specs.Verdicts.{run_told, by_journal, by_stamps, by_reply, by_guess, or_later, verdict_on}
 use Rattle.journal_check.specs.Passing.{AreNumbersOf, AreLegal, HaveNumbers}
 use Rattle.journal_check.specs.Runs.{items_at, AreRuns, AreFor}
 use Rattle.journal_check.specs.Walks.{AreRepliesOf, AreLong, HaveLanes}
-use Rattle.journal_check.proofs.Limited.{IsLine, lines_of_limits}
+use Rattle.result_verdicts.proofs.Limited.{IsLine, lines_of_limits}
 use Rattle.journal_check.proofs.Asking.{from_asked, asks_of_lane}
 use Rattle.journal_check.proofs.ServedPlaces.{asked_served, items_same}
 use Rattle.journal_check.proofs.LegalRuns.{all_served, lines_of_run, numbers_of_run}

@@ -103,21 +103,21 @@ pub line_read : (lines : LinesView) (text body : List ℕ) (new : LinesView) →
     → next_line lines ≡ Ok (body, new) → IsTaken lines text body new
 line_read lines text body new left e = elim (first_line text) [
   | inl has ↦
-    (let same : (has.body, behind_line lines has.after) ≡ (body, new) =
-    ok_is (has.body, behind_line lines has.after) (body, new) (sym (line_given lines text has.body has.after left has.parts has.one) ∙ e) in
-    let line : has.body ≡ body = ap (λ (p : List ℕ × LinesView). p.0) same in
-    let more : behind_line lines has.after ≡ new = ap (λ (p : List ℕ × LinesView). p.1) same in
-    record {
-      after = has.after;
-      parts =
-          has.parts ∙ sym (append_assoc has.body (10 ∷ []) has.after)
-          ∙ ap (λ (bytes : List ℕ). (bytes ++ (10 ∷ [])) ++ has.after) line;
-      left = sym (ap (λ (l : LinesView). l.parts) more);
-    })
+      (let same : (has.body, behind_line lines has.after) ≡ (body, new) =
+      ok_is (has.body, behind_line lines has.after) (body, new) (sym (line_given lines text has.body has.after left has.parts has.one) ∙ e) in
+      let line : has.body ≡ body = ap (λ (p : List ℕ × LinesView). p.0) same in
+      let more : behind_line lines has.after ≡ new = ap (λ (p : List ℕ × LinesView). p.1) same in
+      record {
+        after = has.after;
+        parts =
+            has.parts ∙ sym (append_assoc has.body (10 ∷ []) has.after)
+            ∙ ap (λ (bytes : List ℕ). (bytes ++ (10 ∷ [])) ++ has.after) line;
+        left = sym (ap (λ (l : LinesView). l.parts) more);
+      })
   | inr none ↦ absurd (
-    let unfinished : next_line lines ≡ Err lines.number =
-    ap (line_from lines.number) (left ∙ slice_split_none (λ byte. byte == 10) text none) in
-    let clash : Err lines.number ≡ Ok (body, new) = sym unfinished ∙ e in cc)
+      let unfinished : next_line lines ≡ Err lines.number =
+      ap (line_from lines.number) (left ∙ slice_split_none (λ byte. byte == 10) text none) in
+      let clash : Err lines.number ≡ Ok (body, new) = sym unfinished ∙ e in cc)
 ]
 
 -- ---- the line that is due

@@ -185,7 +185,7 @@ call_took None call told new text left e = served_took call told new text left e
 call_took (Some refusal) call told new text left e = one_took told new text left e
 
 -- the lines of one call more
-calls_split : (contexts : List (Option ContextView)) (call : CallLine) (more : List CallLine) (r1 r2 : List (List ℕ)) (g1 g2 : List Batch)
+pub calls_split : (contexts : List (Option ContextView)) (call : CallLine) (more : List CallLine) (r1 r2 : List (List ℕ)) (g1 g2 : List Batch)
     → length r1 ≡ call_replies contexts call → length g1 ≡ call_guesses contexts call
     → told_calls contexts (call ∷ more) (r1 ++ r2) (g1 ++ g2) ≡ r1 ++ (map guess_line g1 ++ told_calls contexts more r2 g2)
 calls_split contexts call more r1 r2 g1 g2 count kept =
