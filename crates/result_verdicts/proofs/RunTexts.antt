@@ -216,7 +216,9 @@ pub drop_step : {X : Type 0} (all xs : List X) (i : ℕ) (x : X) → drop i all 
 drop_step [] xs zero x is = absurd cc
 drop_step [] xs (suc i) x is = absurd cc
 drop_step (y ∷ all) xs zero x is = (cc, cc)
-drop_step (y ∷ all) xs (suc i) x is = drop_step all xs i x is
+drop_step (y ∷ all) xs (suc i) x is =
+    let t = drop_step all xs i x is in
+    (t.0, ap (λ (n : ℕ). drop n (y ∷ all)) (let z : suc i + 1 ≡ suc (i + 1) = omega arith in z) ∙ t.1)
 
 -- the lines of one lane more
 told_lanes_split : (contexts : List (Option ContextView)) (calls : List CallLine) (lanes : List (List CallLine)) (r1 r2 : List (List ℕ)) (own : List Told) (guesses : List (List Told))
@@ -241,7 +243,7 @@ module _ (run : Run) (within : IsWithinLimits run.plan) (counted : AreCounted ru
         lines = subst (All (IsLine run.plan)) is (lines_of_limits run.plan lane [] within low);
         size = counted lane low ∙ ap guess_count asks;
         keeps = λ i. ap (λ (k : ℕ). slice_index (guesses_of run lane) (guess_count (take k (lane_of (asks_of run) lane)))) (let z : 0 + i ≡ i = omega arith in z)
-            ∙ ap (λ (as : List Ask). slice_index (guesses_of run lane) (guess_count (take i as))) asks;
+            ∙ ap (λ (all : List Ask). slice_index (guesses_of run lane) (guess_count (take i all))) asks;
       }
 
   lanes_are : (k : ℕ) (lanes : List (List CallLine)) → drop k run.plan.lanes ≡ lanes

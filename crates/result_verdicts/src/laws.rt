@@ -19,7 +19,7 @@ pub fn legal_texts_are_those_of_allowed_runs()
         (contexts : List (Option ContextView)) (text : List ℕ) → IsWithinLimits plan
         → length contexts ≡ length plan.contexts
         → (by_form plan contexts (told_by plan keys replies contexts text) ≡ Verdict.Legal)
-        ↔ ((journals : List (List Mark)) (guesses : List (List ℕ))
+        ↔ ((journals : List (List Mark)) × (guesses : List (List ℕ))
         × IsAllowed (run_of plan contexts journals guesses)
         × (text ≡ run_text keys replies (run_of plan contexts journals guesses))) }
 {}
