@@ -15,3 +15,4 @@ pub mod ServedPlaces
 pub mod LegalRuns
 pub mod SoundRuns
 pub mod ToldSizes
+pub mod LegalVerdicts

@@ -1,6 +1,6 @@
 //! The verdict on a result.
 
-ghost use Rattle.std.specs.Prelude.{◌≡◌, ◌≤◌, ◌<◌, ◌^◌, length, None, IfOk};
+ghost use Rattle.std.specs.Prelude.{◌≡◌, ◌↔◌, ◌≤◌, ◌<◌, ◌^◌, length, None, IfOk};
 ghost use Rattle.batch_plans.specs.Limits.{IsWithinLimits, most_input};
 ghost use Rattle.reply_texts.specs.ReplyText.{has_stamps};
 ghost use Rattle.due_replies.specs.Asks.{batch_of};
@@ -13,6 +13,7 @@ ghost use Rattle.result_verdicts.specs.Guesses.{wrong_guesses as wrong_guesses_o
 ghost use Rattle.result_verdicts.specs.Verdicts.{by_journal, by_stamps, by_reply, by_guess, or_later};
 ghost use Rattle.result_verdicts.specs.Verdicts.{verdict_on as verdict_on_of, by_form};
 ghost use Rattle.journal_check.specs.Verdicts.{IsVerdict};
+ghost use Rattle.context_table.specs.ReplyTo.{IsReply};
 ghost use Rattle.result_lines.specs.Told.{told_by};
 ghost use Rattle.journal_check.specs.Passing.{AreNumbersOf, AreLegal, HaveNumbers};
 ghost use Rattle.journal_check.specs.Walks.{AreRepliesOf, AreLong, HaveLanes};
@@ -159,7 +160,9 @@ pub fn check_result<R: Threads, M: Multiplier>(
 ) -> Result<Verdict, AllocError>
     requires within { IsWithinLimits plan.now }
     requires size { length text.now ≤ most_input }
-    ensures { IfOk result (λ verdict. IsVerdict plan.now text.now verdict) }
+    ensures verdict { IfOk result (λ verdict. IsVerdict plan.now text.now verdict) }
+    ensures legal { IfOk result (λ verdict.
+        (verdict ≡ Verdict.Legal) ↔ IsReply plan.now text.now) }
 {
     let setup = set_up(alloc, plan, mult)?;
     judge(rt, alloc, plan, setup, text)
