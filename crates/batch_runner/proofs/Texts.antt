@@ -12,7 +12,8 @@ use Rattle.due_replies.specs.Runs.{run_text}
 use Rattle.context_table.specs.SetUp.{IsSetUp}
 use Rattle.context_core.specs.Rehearsals.{rehearsed, AreAnswersOf}
 use Rattle.lane_workers.specs.Gathered.{AreOfARun}
-use Rattle.batch_runner.specs.Text.{IsReply, IsRehearsal}
+use Rattle.context_table.specs.ReplyTo.{IsReply}
+use Rattle.batch_runner.specs.Text.{IsRehearsal}
 
 -- keys and contexts are answered as the set-up says, and the lanes as the rehearsal over its contexts
 pub record IsRehearsed (plan : Plan) (keys : List KeyReply) (contexts : List ContextReply)

@@ -6,7 +6,8 @@ ghost use Rattle.reply_texts.specs.ReplyText.{answers_text, IsAnswered};
 ghost use Rattle.due_replies.specs.Standing.{AreOfLines};
 ghost use Rattle.context_table.specs.SetUp.{IsSetUp};
 ghost use Rattle.batch_words.specs.Words.{IsWithin};
-ghost use Rattle.batch_runner.specs.Text.{IsReply, IsRehearsal, IsReplyBy};
+ghost use Rattle.context_table.specs.ReplyTo.{IsReply};
+ghost use Rattle.batch_runner.specs.Text.{IsRehearsal, IsReplyBy};
 
 use batch_io::Gate;
 use batch_plans::{Answers, Plan};

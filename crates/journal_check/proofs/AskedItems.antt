@@ -13,7 +13,7 @@ use Rattle.batch_plans.specs.Limits.{items_from, IsItemWithin, IsWithinLimits, m
 use Rattle.journal_check.specs.declared.items.Asked.{Asked}
 use Rattle.journal_check.specs.declared.items.Asked.TheVariants.{Seal, Open}
 use Rattle.journal_check.specs.Runs.{asks_in, asked_in_call, asked_at, IsAskedIn}
-use Rattle.journal_check.proofs.Limited.{IsLine, line_of_limits}
+use Rattle.result_verdicts.proofs.Limited.{IsLine, line_of_limits}
 
 -- an element of a list
 pub get_in : {X : Type 0} (xs : List X) (i : ℕ) (d : X) → i < length xs → In (get_or xs i d) xs

@@ -22,7 +22,7 @@ use Rattle.due_replies.specs.Asks.{asked_by, ask_unless, ask_of, batch_of}
 use Rattle.due_replies.proofs.Done.{lane_asks, length-messages}
 use Rattle.journal_check.specs.Asks.{items_asked, asked_unless, places_asked, places_from, opens_more, more_unless, call_goes_on}
 use Rattle.journal_check.specs.Histories.{spots_asked, spots_from}
-use Rattle.journal_check.proofs.Limited.{IsLine, line_of_limits, lines_of_limits}
+use Rattle.result_verdicts.proofs.Limited.{IsLine, line_of_limits, lines_of_limits}
 
 -- ---- the places of one call
 

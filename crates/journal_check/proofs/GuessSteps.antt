@@ -13,9 +13,9 @@ use Rattle.due_replies.specs.Asks.{asked_by, ask_unless, ask_of}
 use Rattle.due_replies.specs.Runs.{Run}
 use Rattle.due_replies.proofs.Done.{length-messages}
 use Rattle.result_lines.specs.declared.told.GuessLine.{GuessLine}
-use Rattle.journal_check.specs.Guesses.{is_right, wrong_guess}
+use Rattle.result_verdicts.specs.Guesses.{is_right, wrong_guess}
 use Rattle.journal_check.specs.Passing.{opens_unless, is_opening}
-use Rattle.journal_check.proofs.Limited.{IsLine}
+use Rattle.result_verdicts.proofs.Limited.{IsLine}
 
 module _ (run : Run) (lane number : ℕ) (contexts : List (Option ContextView)) (asks : List Ask) where
   -- a call that keeps no guess

@@ -4,7 +4,7 @@ use Rattle.reply_texts.specs.ReplyText.{all_lines, numbered}
 use Rattle.result_lines.specs.Told.{ReplyView}
 use Rattle.journal_check.specs.declared.halts.Halt.{Halt}
 use Rattle.journal_check.specs.declared.halts.Halt.TheVariants.{OutOfMemory, Ended, Wrong}
-use Rattle.journal_check.specs.Replies.{wrong_reply}
+use Rattle.result_verdicts.specs.Replies.{wrong_reply}
 use Rattle.journal_check.specs.Walks.{Holds}
 
 module _ {A : Type 0} (f : ℕ → A → List (List ℕ)) (xs : List A) (i : ℕ) (x : A) (at : drop i xs ≡ x ∷ drop (i + 1) xs)

@@ -1,5 +1,4 @@
 pub mod Walks
-pub mod Limited
 pub mod Asking
 pub mod Blocks
 pub mod Putting
@@ -16,3 +15,4 @@ pub mod ServedPlaces
 pub mod LegalRuns
 pub mod SoundRuns
 pub mod ToldSizes
+pub mod LegalVerdicts

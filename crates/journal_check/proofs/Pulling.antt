@@ -10,7 +10,7 @@ use Rattle.legal_journals.proofs.Members.{got}
 use Rattle.result_lines.specs.Told.{ReplyView}
 use Rattle.journal_check.specs.declared.halts.Halt.{Halt}
 use Rattle.journal_check.specs.declared.halts.Halt.TheVariants.{OutOfMemory, Ended, Wrong}
-use Rattle.journal_check.specs.Replies.{wrong_reply}
+use Rattle.result_verdicts.specs.Replies.{wrong_reply}
 use Rattle.journal_check.specs.Walks.{Holds}
 use Rattle.journal_check.proofs.Walks.{drop_next}
 

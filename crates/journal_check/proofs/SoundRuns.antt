@@ -24,38 +24,21 @@ use Rattle.due_replies.specs.Runs.{Run, asks_of, journal_of, answer_line}
 use Rattle.journal_check.specs.declared.runs.JournalRun.{JournalRun}
 use Rattle.reply_texts.specs.ReplyText.{has_stamps}
 use Rattle.result_lines.specs.Told.{ToldView}
-use Rattle.journal_check.specs.declared.verdicts.Verdict.{Verdict}
-use Rattle.journal_check.specs.Guesses.{wrong_guesses}
-use Rattle.journal_check.specs.Journals.{is_journal, broken_journal, is_one_history}
-use Rattle.journal_check.specs.Replies.{all_replies, wrong_reply}
-use Rattle.journal_check.specs.Verdicts.{run_told, by_journal, by_stamps, by_reply, by_guess, or_later, verdict_on}
+use Rattle.result_verdicts.specs.declared.verdicts.Verdict.{Verdict}
+use Rattle.result_verdicts.specs.Guesses.{wrong_guesses}
+use Rattle.result_verdicts.specs.Journals.{is_journal, broken_journal, is_one_history}
+use Rattle.result_verdicts.specs.Replies.{all_replies, wrong_reply}
+use Rattle.result_verdicts.specs.Verdicts.{run_told, by_journal, by_stamps, by_reply, by_guess, or_later, verdict_on}
 use Rattle.journal_check.specs.Passing.{AreNumbersOf, AreLegal, HaveNumbers}
 use Rattle.journal_check.specs.Runs.{items_at, AreRuns, AreFor}
 use Rattle.journal_check.specs.Walks.{AreRepliesOf, AreLong, HaveLanes}
-use Rattle.journal_check.proofs.Limited.{IsLine, lines_of_limits}
+use Rattle.result_verdicts.proofs.Limited.{IsLine, lines_of_limits}
+use Rattle.result_verdicts.proofs.LegalJournals.{none_broken}
 use Rattle.journal_check.proofs.Asking.{from_asked, asks_of_lane}
 use Rattle.journal_check.proofs.ServedPlaces.{asked_served, items_same}
 use Rattle.journal_check.proofs.LegalRuns.{all_served, lines_of_run, numbers_of_run}
 
 -- ---- each journal is legal
-
-not_some : (k : ℕ) → Some k ≡ None → ⊥
-not_some k e = cc
-
-pub none_broken : (stamps : Bool) (batch : Batch) (k : ℕ) (journals : List (List Mark)) → broken_journal stamps batch k journals ≡ None
-    → (c at : ℕ) → c < length journals → k + c ≡ at → is_legal batch at (places (marks_at journals c)) ≡ true
-none_broken stamps batch k [] none c at low is = absurd (omega arith)
-none_broken stamps batch k (marks ∷ more) none c at low is =
-    step (is_journal stamps batch k marks) refl none c low is (λ later d there same. none_broken stamps batch (k + 1) more later d at there same)
-  where
-    step : (b : Bool) → is_journal stamps batch k marks ≡ b → cond b (broken_journal stamps batch (k + 1) more) (Some k) ≡ None
-        → (d : ℕ) → d < length (marks ∷ more) → k + d ≡ at
-        → (broken_journal stamps batch (k + 1) more ≡ None → (e : ℕ) → e < length more → (k + 1) + e ≡ at → is_legal batch at (places (marks_at more e)) ≡ true)
-        → is_legal batch at (places (marks_at (marks ∷ more) d)) ≡ true
-    step false e clash d there same later = absurd (not_some k clash)
-    step true e rest zero there same later =
-        subst (λ (j : ℕ). is_legal batch j (places marks) ≡ true) (let here : k ≡ at = omega arith in here) (and_left (is_legal batch k (places marks)) _ e)
-    step true e rest (suc d) there same later = later rest d (omega arith) (omega arith)
 
 -- a context that stands has a number
 pub stands_low : (contexts : List (Option ContextView)) (c : ℕ) (context : ContextView) → standing_at contexts c ≡ Some context → c < length contexts

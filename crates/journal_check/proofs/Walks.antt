@@ -12,7 +12,7 @@ use Rattle.legal_journals.specs.Batches.{Batch, own_places, place}
 use Rattle.legal_journals.specs.Legal.{is_same_place}
 use Rattle.legal_journals.specs.Histories.{places}
 use Rattle.legal_journals.specs.Checks.{are_same, goes_on, is_unbroken}
-use Rattle.journal_check.specs.Journals.{stamps_rise}
+use Rattle.result_verdicts.specs.Journals.{stamps_rise}
 
 -- the element of this number, and those behind it
 pub drop_next : {A : Type 0} (xs : List A) (i : ℕ) (d : A) → i < length xs → drop i xs ≡ get_or xs i d ∷ drop (i + 1) xs

@@ -1,7 +1,4 @@
 pub mod Asks
-pub mod Journals
-pub mod Replies
-pub mod Guesses
 pub mod Verdicts
 pub mod Histories
 pub mod Runs

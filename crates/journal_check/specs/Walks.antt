@@ -13,7 +13,7 @@ use Rattle.journal_check.specs.declared.halts.Halt.{Halt}
 use Rattle.journal_check.specs.declared.halts.Halt.TheVariants.{OutOfMemory, Ended, Wrong}
 use Rattle.journal_check.specs.declared.runs.JournalRun.{JournalRun}
 use Rattle.journal_check.specs.Asks.{places_from}
-use Rattle.journal_check.specs.Replies.{wrong_reply}
+use Rattle.result_verdicts.specs.Replies.{wrong_reply}
 
 -- replies were held against the lines that are due: they are those, or the first that isn't was found
 abbrev pub Holds : List ReplyView → List ReplyView → List (List ℕ) → Result (Unit {0}) Halt

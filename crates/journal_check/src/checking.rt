@@ -1,17 +1,19 @@
 //! The verdict on a result.
 
-ghost use Rattle.std.specs.Prelude.{◌≡◌, ◌≤◌, ◌<◌, ◌^◌, length, None, IfOk};
+ghost use Rattle.std.specs.Prelude.{◌≡◌, ◌↔◌, ◌≤◌, ◌<◌, ◌^◌, length, None, IfOk};
 ghost use Rattle.batch_plans.specs.Limits.{IsWithinLimits, most_input};
 ghost use Rattle.reply_texts.specs.ReplyText.{has_stamps};
 ghost use Rattle.due_replies.specs.Asks.{batch_of};
 ghost use Rattle.due_replies.specs.Runs.{Run};
-ghost use Rattle.journal_check.specs.declared.verdicts.Verdict.{Verdict};
-ghost use Rattle.journal_check.specs.Journals.{broken_journal as broken_journal_of};
-ghost use Rattle.journal_check.specs.Journals.{is_one_history as is_one_history_of};
-ghost use Rattle.journal_check.specs.Replies.{all_replies, wrong_reply as wrong_reply_of};
-ghost use Rattle.journal_check.specs.Guesses.{wrong_guesses as wrong_guesses_of};
-ghost use Rattle.journal_check.specs.Verdicts.{by_journal, by_stamps, by_reply, by_guess, or_later};
-ghost use Rattle.journal_check.specs.Verdicts.{verdict_on as verdict_on_of, by_form, IsVerdict};
+ghost use Rattle.result_verdicts.specs.declared.verdicts.Verdict.{Verdict};
+ghost use Rattle.result_verdicts.specs.Journals.{broken_journal as broken_journal_of};
+ghost use Rattle.result_verdicts.specs.Journals.{is_one_history as is_one_history_of};
+ghost use Rattle.result_verdicts.specs.Replies.{all_replies, wrong_reply as wrong_reply_of};
+ghost use Rattle.result_verdicts.specs.Guesses.{wrong_guesses as wrong_guesses_of};
+ghost use Rattle.result_verdicts.specs.Verdicts.{by_journal, by_stamps, by_reply, by_guess, or_later};
+ghost use Rattle.result_verdicts.specs.Verdicts.{verdict_on as verdict_on_of, by_form};
+ghost use Rattle.journal_check.specs.Verdicts.{IsVerdict};
+ghost use Rattle.context_table.specs.ReplyTo.{IsReply};
 ghost use Rattle.result_lines.specs.Told.{told_by};
 ghost use Rattle.journal_check.specs.Passing.{AreNumbersOf, AreLegal, HaveNumbers};
 ghost use Rattle.journal_check.specs.Walks.{AreRepliesOf, AreLong, HaveLanes};
@@ -21,12 +23,12 @@ use crate::histories::is_one_history;
 use crate::journals::broken_journal;
 use crate::replies::wrong_reply;
 use crate::runs::{JournalRun, run_journals};
-use crate::verdicts::Verdict;
 use batch_plans::{PlainList, Plan};
 use call_places::Mark;
 use context_table::{Setup, set_up};
 use hpke_context::Context;
 use result_lines::{Stop, Told, read_result};
+use result_verdicts::Verdict;
 use ring_core::Multiplier;
 use std::alloc::{AllocError, Global};
 use std::thread::Threads;
@@ -158,7 +160,9 @@ pub fn check_result<R: Threads, M: Multiplier>(
 ) -> Result<Verdict, AllocError>
     requires within { IsWithinLimits plan.now }
     requires size { length text.now ≤ most_input }
-    ensures { IfOk result (λ verdict. IsVerdict plan.now text.now verdict) }
+    ensures verdict { IfOk result (λ verdict. IsVerdict plan.now text.now verdict) }
+    ensures legal { IfOk result (λ verdict.
+        (verdict ≡ Verdict.Legal) ↔ IsReply plan.now text.now) }
 {
     let setup = set_up(alloc, plan, mult)?;
     judge(rt, alloc, plan, setup, text)

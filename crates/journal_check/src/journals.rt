@@ -10,9 +10,9 @@ ghost use Rattle.legal_journals.specs.Histories.{places as places_in};
 ghost use Rattle.legal_journals.specs.Checks.{are_same, has_lanes as has_lanes_of};
 ghost use Rattle.legal_journals.specs.Checks.{is_unbroken as is_unbroken_of, is_legal as is_legal_of};
 ghost use Rattle.due_replies.specs.Asks.{batch_of};
-ghost use Rattle.journal_check.specs.Journals.{stamps_rise as stamps_rise_of};
-ghost use Rattle.journal_check.specs.Journals.{is_journal as is_journal_of};
-ghost use Rattle.journal_check.specs.Journals.{broken_journal as broken_journal_of};
+ghost use Rattle.result_verdicts.specs.Journals.{stamps_rise as stamps_rise_of};
+ghost use Rattle.result_verdicts.specs.Journals.{is_journal as is_journal_of};
+ghost use Rattle.result_verdicts.specs.Journals.{broken_journal as broken_journal_of};
 
 use crate::asks::{goes_on, places_on};
 use batch_plans::{PlainList, Plan};

@@ -22,10 +22,9 @@ mod lane_walks;
 mod replies;
 mod runs;
 mod spots;
-mod verdicts;
 
 pub use checking::check_result;
-pub use verdicts::Verdict;
+pub use result_verdicts::Verdict;
 
 #[cfg(test)]
 mod history_rows;

@@ -2,3 +2,9 @@ pub mod Cursors
 pub mod Feeds
 pub mod Steps
 pub mod Taking
+pub mod FirstLines
+pub mod NumberLines
+pub mod PlainLines
+pub mod Growing
+pub mod Took
+pub mod Gave

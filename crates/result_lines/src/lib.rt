@@ -11,6 +11,7 @@
 
 mod due_lines;
 mod forms;
+mod laws;
 mod lines;
 mod reading;
 mod refusals;
@@ -19,6 +20,7 @@ mod stop;
 mod told;
 
 pub use due_lines::{push_hex, push_number};
+pub use laws::{what_is_printed_is_read_back, what_is_read_is_the_text};
 pub use lines::{Lines, is_line};
 pub use reading::read_result;
 pub use refusals::{refusal_of, standing};

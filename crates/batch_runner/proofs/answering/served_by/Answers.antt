@@ -3,7 +3,7 @@ use Rattle.batch_plans.specs.declared.replies.Answers.{Answers}
 use Rattle.reply_texts.specs.ReplyText.{answers_text}
 use Rattle.lane_workers.specs.Gathered.{AreOfARun}
 use Rattle.shared_runs.proofs.Handed.{IfOk-both}
-use Rattle.batch_runner.specs.Text.{IsReply}
+use Rattle.context_table.specs.ReplyTo.{IsReply}
 use Rattle.batch_runner.proofs.Texts.{is_reply}
 use Rattle.batch_runner.proofs.answering.served_by.Goals as goal
 

@@ -1,6 +1,6 @@
 use Rattle.std.proofs.Common.{length, List, Option, sym, ap, ◌∙◌, arith}
 use Rattle.hpke_context.specs.Contexts.{ContextView}
-use Rattle.journal_check.specs.Verdicts.{by_form, verdict_on}
+use Rattle.result_verdicts.specs.Verdicts.{by_form, verdict_on}
 use Rattle.journal_check.proofs.SoundRuns.{if_ok_map}
 use Rattle.journal_check.proofs.ToldSizes.{read_as, has_of}
 use Rattle.journal_check.proofs.checking.judge.Goals as goal

@@ -3,10 +3,10 @@ use Rattle.call_places.specs.declared.entries.Mark.{Mark}
 use Rattle.hpke_context.specs.Contexts.{ContextView}
 use Rattle.reply_texts.specs.ReplyText.{has_stamps}
 use Rattle.due_replies.specs.Asks.{batch_of}
-use Rattle.journal_check.specs.Journals.{broken_journal}
+use Rattle.result_verdicts.specs.Journals.{broken_journal}
 use Rattle.journal_check.specs.Passing.{AreNumbersOf, HaveNumbers}
 use Rattle.journal_check.specs.Runs.{AreRuns, AreFor}
-use Rattle.journal_check.specs.Verdicts.{run_told}
+use Rattle.result_verdicts.specs.Verdicts.{run_told}
 use Rattle.journal_check.specs.Walks.{AreRepliesOf, AreLong, HaveLanes}
 use Rattle.journal_check.proofs.SoundRuns.{have_lanes, legal_at, are_for, are_replies, are_numbers, are_long, have_numbers, if_ok_map, found_early, found_late}
 use Rattle.journal_check.proofs.checking.verdict_on.Goals as goal

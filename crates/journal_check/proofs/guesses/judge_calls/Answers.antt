@@ -1,7 +1,7 @@
 use Rattle.std.proofs.Common.{ℕ, ◌+◌, Bool, cond, Some, map, drop, get_or, sym, ap, ◌∙◌, arith}
 use Rattle.due_replies.specs.Asks.{ask_of}
 use Rattle.result_lines.specs.declared.told.GuessLine.{GuessLine}
-use Rattle.journal_check.specs.Guesses.{wrong_guess}
+use Rattle.result_verdicts.specs.Guesses.{wrong_guess}
 use Rattle.journal_check.specs.Passing.{is_right_by}
 use Rattle.journal_check.proofs.Walks.{drop_next}
 use Rattle.journal_check.proofs.ServedCalls.{points_at}

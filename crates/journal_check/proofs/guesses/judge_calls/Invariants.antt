@@ -2,10 +2,10 @@ use Rattle.std.proofs.Common.{◌≡◌, ◌≤◌, map, drop, length}
 use Rattle.std.specs.List.{All}
 use Rattle.due_replies.specs.Asks.{ask_of}
 use Rattle.due_replies.specs.Runs.{Run}
-use Rattle.journal_check.specs.Guesses.{wrong_guess}
+use Rattle.result_verdicts.specs.Guesses.{wrong_guess}
 use Rattle.journal_check.specs.Passing.{AllReach, AreNumbersOf, AreLegal, AreNumbered}
 use Rattle.journal_check.specs.Walks.{Points}
-use Rattle.journal_check.proofs.Limited.{IsLine}
+use Rattle.result_verdicts.proofs.Limited.{IsLine}
 use Rattle.journal_check.proofs.guesses.judge_calls.Given as goal
 
 abbrev pub invariant-calls : goal.invariant-calls

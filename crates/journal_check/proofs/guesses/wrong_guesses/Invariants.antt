@@ -1,6 +1,6 @@
 use Rattle.std.proofs.Common.{◌≡◌, drop}
 use Rattle.due_replies.specs.Runs.{Run}
-use Rattle.journal_check.specs.Guesses.{wrong_guesses}
+use Rattle.result_verdicts.specs.Guesses.{wrong_guesses}
 use Rattle.journal_check.specs.Passing.{AreNumbersOf, AreLegal}
 use Rattle.journal_check.proofs.guesses.wrong_guesses.Given as goal
 

@@ -5,7 +5,7 @@ use Rattle.legal_journals.specs.Checks.{are_same, is_same_spot, has_lane_spots}
 use Rattle.due_replies.specs.Asks.{batch_of}
 use Rattle.journal_check.specs.Histories.{spots_from}
 use Rattle.journal_check.proofs.Asking.{lane_spots_are}
-use Rattle.journal_check.proofs.Limited.{calls_few}
+use Rattle.result_verdicts.proofs.Limited.{calls_few}
 use Rattle.journal_check.proofs.Walks.{each_go_on, each_fail}
 use Rattle.journal_check.proofs.histories.has_lanes.Goals as goal
 

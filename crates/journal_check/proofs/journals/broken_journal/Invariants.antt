@@ -1,6 +1,6 @@
 use Rattle.std.proofs.Common.{◌≡◌, drop}
 use Rattle.due_replies.specs.Asks.{batch_of}
-use Rattle.journal_check.specs.Journals.{broken_journal}
+use Rattle.result_verdicts.specs.Journals.{broken_journal}
 use Rattle.journal_check.proofs.journals.broken_journal.Given as goal
 
 abbrev pub invariant-journals : goal.invariant-journals

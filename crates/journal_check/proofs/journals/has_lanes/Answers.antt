@@ -10,7 +10,7 @@ use Rattle.legal_journals.specs.Checks.{are_same, has_lane}
 use Rattle.due_replies.specs.Asks.{ask_of, batch_of}
 use Rattle.journal_check.specs.Asks.{places_from}
 use Rattle.journal_check.proofs.Asking.{lane_places_are}
-use Rattle.journal_check.proofs.Limited.{calls_few}
+use Rattle.result_verdicts.proofs.Limited.{calls_few}
 use Rattle.journal_check.proofs.Walks.{each_go_on, each_fail}
 use Rattle.journal_check.proofs.journals.has_lanes.Goals as goal
 

@@ -1,5 +1,5 @@
 use Rattle.std.proofs.Common.{◌≡◌, ◌≤◌, ◌-◌, drop}
-use Rattle.journal_check.specs.Journals.{stamps_rise}
+use Rattle.result_verdicts.specs.Journals.{stamps_rise}
 use Rattle.journal_check.proofs.journals.stamps_rise.Given as goal
 
 abbrev pub invariant-marks : goal.invariant-marks

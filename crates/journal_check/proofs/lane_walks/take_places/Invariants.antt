@@ -2,7 +2,7 @@ use Rattle.std.proofs.Common.{◌≡◌, ◌++◌, ℕ, List, length, map, drop}
 use Rattle.call_places.specs.declared.entries.Place.{Place}
 use Rattle.legal_journals.specs.Batches.{own_places}
 use Rattle.legal_journals.specs.Histories.{places}
-use Rattle.journal_check.specs.Replies.{wrong_reply}
+use Rattle.result_verdicts.specs.Replies.{wrong_reply}
 use Rattle.journal_check.proofs.lane_walks.take_places.Given as goal
 
 abbrev pub invariant-places : goal.invariant-places

@@ -1,6 +1,6 @@
 use Rattle.std.proofs.Common.{◌+◌, drop, arith}
 use Rattle.std.proofs.lemmas.Result.{err_from_is_err_and}
-use Rattle.journal_check.specs.Replies.{reply_lines, lane_replies}
+use Rattle.result_verdicts.specs.Replies.{reply_lines, lane_replies}
 use Rattle.journal_check.proofs.Walks.{drop_next}
 use Rattle.journal_check.proofs.Lanes.{go_on_lines, halt_lines}
 use Rattle.journal_check.proofs.ServedCalls.{points_at}

@@ -1,7 +1,7 @@
 use Rattle.std.proofs.Common.{◌≡◌, ◌++◌, ℕ, List, drop}
 use Rattle.reply_texts.specs.ReplyText.{all_lines, numbered}
 use Rattle.due_replies.specs.Runs.{Run}
-use Rattle.journal_check.specs.Replies.{reply_lines, lane_replies, wrong_reply}
+use Rattle.result_verdicts.specs.Replies.{reply_lines, lane_replies, wrong_reply}
 use Rattle.journal_check.specs.Walks.{Points, AreRepliesOf, AreSized}
 use Rattle.journal_check.proofs.replies.take_calls.Given as goal
 

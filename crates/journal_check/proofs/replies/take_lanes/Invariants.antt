@@ -1,7 +1,7 @@
 use Rattle.std.proofs.Common.{◌≡◌, ◌++◌, ℕ, List, drop}
 use Rattle.reply_texts.specs.ReplyText.{all_lines, numbered}
 use Rattle.due_replies.specs.Runs.{Run}
-use Rattle.journal_check.specs.Replies.{lane_replies, all_replies, wrong_reply}
+use Rattle.result_verdicts.specs.Replies.{lane_replies, all_replies, wrong_reply}
 use Rattle.journal_check.specs.Walks.{AreRepliesOf}
 use Rattle.journal_check.proofs.replies.take_lanes.Given as goal
 

@@ -1,6 +1,6 @@
 use Rattle.std.proofs.Common.{ap, ◌∙◌}
 use Rattle.journal_check.specs.declared.halts.Halt.TheVariants.{Wrong}
-use Rattle.journal_check.specs.Replies.{all_replies}
+use Rattle.result_verdicts.specs.Replies.{all_replies}
 use Rattle.journal_check.proofs.Lanes.{ended_early, wrong_early}
 use Rattle.journal_check.proofs.replies.wrong_reply.Goals as goal
 

@@ -1,0 +1,31 @@
+-- The replies that a plan may have.
+use Rattle.std.specs.Prelude.{◌≡◌, ℕ, List, Option}
+use Rattle.call_places.specs.declared.entries.Mark.{Mark}
+use Rattle.hpke_context.specs.Contexts.{ContextView}
+use Rattle.batch_plans.specs.declared.plan.Plan.{Plan}
+use Rattle.batch_plans.specs.declared.replies.KeyReply.{KeyReply}
+use Rattle.batch_plans.specs.declared.replies.ContextReply.{ContextReply}
+use Rattle.due_replies.specs.Runs.{Run, IsAllowed, run_text}
+use Rattle.context_table.specs.SetUp.{IsSetUp}
+
+-- the text replies to the plan's set-up, and to its calls along journals and guesses, which it
+-- prints. The journals are legal, and each guess may have been made.
+pub record IsReply (plan : Plan) (text : List ℕ) : Type 0 where
+  pub keys : List KeyReply
+  pub contexts : List ContextReply
+  pub standing : List (Option ContextView)
+  pub set_up : IsSetUp plan keys contexts standing
+  pub journals : List (List Mark)
+  pub guesses : List (List ℕ)
+  pub allowed : IsAllowed (record {
+    plan = plan;
+    contexts = standing;
+    journals = journals;
+    guesses = guesses;
+  })
+  pub text_is : text ≡ run_text keys contexts (record {
+    plan = plan;
+    contexts = standing;
+    journals = journals;
+    guesses = guesses;
+  })

@@ -1,0 +1,45 @@
+-- The verdict is Legal exactly for the replies that a plan may have.
+use Rattle.std.proofs.Common.{◌≡◌, ◌↔◌, ℕ, List, Option, refl, sym, ap, ◌∙◌, subst}
+use Rattle.call_places.specs.declared.entries.Mark.{Mark}
+use Rattle.hpke_context.specs.Contexts.{ContextView}
+use Rattle.batch_plans.specs.Limits.{IsWithinLimits}
+use Rattle.batch_plans.specs.declared.plan.Plan.{Plan}
+use Rattle.batch_plans.specs.declared.replies.ContextReply.{ContextReply}
+use Rattle.batch_plans.specs.declared.replies.KeyReply.{KeyReply}
+use Rattle.due_replies.specs.Runs.{IsAllowed, run_text}
+use Rattle.context_table.specs.ReplyTo.{IsReply}
+use Rattle.context_table.proofs.OneSetUp.{one_set_up_lem}
+use Rattle.result_verdicts.specs.declared.verdicts.Verdict.{Verdict}
+use Rattle.result_verdicts.specs.declared.verdicts.Verdict.TheVariants.{Legal}
+use Rattle.result_verdicts.specs.Verdicts.{run_of}
+use Rattle.result_verdicts.proofs.LegalTexts.{sound, complete}
+use Rattle.journal_check.specs.Verdicts.{IsVerdict}
+
+module _ (plan : Plan) (text : List ℕ) (verdict : Verdict) (within : IsWithinLimits plan) (v : IsVerdict plan text verdict) where
+  legal_reply : verdict ≡ Legal → IsReply plan text
+  legal_reply e =
+      let t = sound plan v.keys v.contexts v.standing text within v.set_up.standing_count (sym v.is ∙ e) in
+      record {
+        keys = v.keys;
+        contexts = v.contexts;
+        standing = v.standing;
+        set_up = v.set_up;
+        journals = t.0;
+        guesses = t.1;
+        allowed = t.2;
+        text_is = t.3;
+      }
+
+  reply_legal : IsReply plan text → verdict ≡ Legal
+  reply_legal r =
+      let same = one_set_up_lem plan r.keys v.keys r.contexts v.contexts r.standing v.standing r.set_up v.set_up in
+      v.is
+      ∙ complete plan v.keys v.contexts v.standing text within v.set_up.standing_count (
+        r.journals,
+        r.guesses,
+        subst (λ (standing : List (Option ContextView)). IsAllowed (run_of plan standing r.journals r.guesses)) same.2 r.allowed,
+        r.text_is ∙ (λ i. run_text (same.0 i) (same.1 i) (run_of plan (same.2 i) r.journals r.guesses)),
+      )
+
+  pub legal_iff_reply : (verdict ≡ Legal) ↔ IsReply plan text
+  legal_iff_reply = (legal_reply, reply_legal)

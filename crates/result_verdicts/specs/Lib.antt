@@ -1,0 +1,6 @@
+pub mod Journals
+pub mod Replies
+pub mod Guesses
+pub mod Verdicts
+pub mod VerdictText
+pub mod Opened

@@ -1,0 +1,25 @@
+//! What a verdict is worth.
+
+ghost use Rattle.std.specs.Prelude.{◌≡◌, ◌↔◌, ℕ, List, Option, length};
+ghost use Rattle.call_places.specs.declared.entries.Mark.{Mark};
+ghost use Rattle.hpke_context.specs.Contexts.{ContextView};
+ghost use Rattle.batch_plans.specs.declared.plan.Plan.{Plan};
+ghost use Rattle.batch_plans.specs.declared.replies.KeyReply.{KeyReply};
+ghost use Rattle.batch_plans.specs.declared.replies.ContextReply.{ContextReply};
+ghost use Rattle.batch_plans.specs.Limits.{IsWithinLimits};
+ghost use Rattle.due_replies.specs.Runs.{IsAllowed, run_text};
+ghost use Rattle.result_lines.specs.Told.{told_by};
+ghost use Rattle.result_verdicts.specs.declared.verdicts.Verdict.{Verdict};
+ghost use Rattle.result_verdicts.specs.Verdicts.{by_form, run_of};
+
+/// Over given replies to the set-up and given contexts a text is legal exactly where there are
+/// journals and guesses that are allowed and whose text it is.
+pub fn legal_texts_are_those_of_allowed_runs()
+    ensures { (plan : Plan) (keys : List KeyReply) (replies : List ContextReply)
+        (contexts : List (Option ContextView)) (text : List ℕ) → IsWithinLimits plan
+        → length contexts ≡ length plan.contexts
+        → (by_form plan contexts (told_by plan keys replies contexts text) ≡ Verdict.Legal)
+        ↔ ((journals : List (List Mark)) × (guesses : List (List ℕ))
+        × IsAllowed (run_of plan contexts journals guesses)
+        × (text ≡ run_text keys replies (run_of plan contexts journals guesses))) }
+{}

@@ -1,0 +1,51 @@
+//! The printing of a verdict.
+
+ghost use Rattle.std.specs.Prelude.{◌≡◌, ◌≤◌, ◌++◌, codes, decimal};
+ghost use Rattle.std.specs.Io.KnownBytes.{Appends};
+ghost use Rattle.batch_io.specs.Outside.{Rose};
+ghost use Rattle.field_text.specs.Printing.{Puts, AppendsPrefix};
+ghost use Rattle.result_verdicts.specs.VerdictText.{verdict_text};
+
+use crate::verdicts::Verdict;
+use batch_io::Sink;
+use field_text::{Buffer, Printed};
+
+// A word, a number and the end of the line.
+fn put_numbered<K: Sink>(out: &mut Buffer, sink: &mut K, word: &[u8], number: u32)
+    ensures { Puts K.written K.faults sink.old sink.new out.old out.new
+        (word.now ++ decimal number ++ codes "\n") }
+{
+    out.put_text(sink, word);
+    out.put_number(sink, number as u64);
+    out.put_text(sink, b"\n")
+}
+
+fn put_verdict<K: Sink>(out: &mut Buffer, sink: &mut K, verdict: Verdict)
+    ensures { Puts K.written K.faults sink.old sink.new out.old out.new (verdict_text verdict) }
+{
+    match verdict {
+        Verdict::Legal => out.put_text(sink, b"legal\n"),
+        Verdict::Form { line } => put_numbered(out, sink, b"broken form ", line),
+        Verdict::Journal { context } => put_numbered(out, sink, b"broken journal ", context),
+        Verdict::Stamps => out.put_text(sink, b"broken stamps\n"),
+        Verdict::Reply { line } => put_numbered(out, sink, b"broken reply ", line),
+        Verdict::Guess { line } => put_numbered(out, sink, b"broken guess ", line),
+    }
+}
+
+/// Writes a verdict, which is one line.
+///
+/// Takes no memory. Once a write failed nothing more is written.
+pub fn print_verdict<K: Sink>(verdict: Verdict, sink: &mut K) -> Printed
+    ensures whole { result ≡ Printed.Whole
+        → Appends (K.written sink.old) (K.written sink.new) (verdict_text verdict) }
+    ensures no_fault { result ≡ Printed.Whole → K.faults sink.new ≡ K.faults sink.old }
+    ensures cut { result ≡ Printed.Failed
+        → AppendsPrefix (K.written sink.old) (K.written sink.new) (verdict_text verdict) }
+    ensures failed { result ≡ Printed.Failed → Rose (K.faults sink.old) (K.faults sink.new) }
+    ensures later { K.faults sink.old ≤ K.faults sink.new }
+{
+    let mut out = Buffer::new();
+    put_verdict(&mut out, sink, verdict);
+    out.finish(sink)
+}
