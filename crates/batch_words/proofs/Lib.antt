@@ -11,4 +11,3 @@ pub mod OperandWalk
 pub mod OperandReads
 pub mod Steps
 pub mod Within
-pub mod Demos
