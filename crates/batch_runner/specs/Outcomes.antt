@@ -1,14 +1,18 @@
--- How a run ends where no fault comes in its way, and the exit statuses.
-use Rattle.std.specs.Prelude.{ℕ, Result, Ok, Err}
-use Rattle.batch_plans.specs.declared.plan.Plan.{Plan}
-use Rattle.field_text.specs.declared.faults.BadBatch.{BadBatch}
+-- How a verdict ends a run, and the exit statuses.
+use Rattle.std.specs.Prelude.{ℕ}
+use Rattle.result_verdicts.specs.declared.verdicts.Verdict.{Verdict}
+use Rattle.result_verdicts.specs.declared.verdicts.Verdict.TheVariants.{Legal, Form, Journal, Stamps, Reply, Guess}
 use Rattle.batch_runner.specs.declared.outcomes.Outcome.{Outcome}
 use Rattle.batch_runner.specs.declared.outcomes.Outcome.TheVariants as outcomes
 
--- a batch is answered, and another input has its first bad line told
-abbrev pub outcome_for : Result Plan BadBatch → Outcome
-outcome_for (Ok plan) = outcomes.Done
-outcome_for (Err bad) = outcomes.BadBatch bad.line bad.reason
+-- a legal result is done, and another is broken
+abbrev pub outcome_on : Verdict → Outcome
+outcome_on Legal = outcomes.Done
+outcome_on (Form line) = outcomes.Broken (Form line)
+outcome_on (Journal context) = outcomes.Broken (Journal context)
+outcome_on Stamps = outcomes.Broken Stamps
+outcome_on (Reply line) = outcomes.Broken (Reply line)
+outcome_on (Guess line) = outcomes.Broken (Guess line)
 
 abbrev pub status_of : Outcome → ℕ
 status_of outcomes.Done = 0
@@ -17,3 +21,4 @@ status_of (outcomes.BadBatch line reason) = 3
 status_of outcomes.ReadFault = 4
 status_of outcomes.WriteFault = 5
 status_of outcomes.OutOfMemory = 6
+status_of (outcomes.Broken verdict) = 7

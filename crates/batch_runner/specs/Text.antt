@@ -1,20 +1,39 @@
--- The text that a command writes for an input.
-use Rattle.std.specs.Prelude.{◌≡◌, ℕ, List, Option, Result, Ok, Err}
+-- What may come of an input by a command: how the command ends, and the text that it writes.
+use Rattle.std.specs.Prelude.{◌≡◌, ◌≢◌, ℕ, ◌↔◌, List, drop, Option, Result, Ok, Err}
+use Rattle.field_text.specs.declared.reasons.Reason.{Reason}
 use Rattle.field_text.specs.declared.faults.BadBatch.{BadBatch}
 use Rattle.hpke_context.specs.Contexts.{ContextView}
 use Rattle.batch_plans.specs.declared.plan.Plan.{Plan}
 use Rattle.batch_plans.specs.declared.replies.KeyReply.{KeyReply}
 use Rattle.batch_plans.specs.declared.replies.ContextReply.{ContextReply}
 use Rattle.reply_texts.specs.ReplyText.{bad_text}
-use Rattle.request_frames.specs.Batch.{batch}
+use Rattle.request_frames.specs.Batch.{batch, front_batch, BadAt, BeginsWith, FrontBadAt}
 use Rattle.due_replies.specs.Runs.{run_text}
 use Rattle.context_table.specs.SetUp.{IsSetUp}
 use Rattle.context_table.specs.ReplyTo.{IsReply}
 use Rattle.context_core.specs.Rehearsals.{rehearsed}
+use Rattle.result_verdicts.specs.declared.verdicts.Verdict.{Verdict}
+use Rattle.result_verdicts.specs.declared.verdicts.Verdict.TheVariants.{Legal}
+use Rattle.result_verdicts.specs.VerdictText.{verdict_text}
+use Rattle.journal_check.specs.Verdicts.{IsVerdict}
+use Rattle.capsule_frames.specs.declared.lines.CapsulePlan.{CapsulePlan}
+use Rattle.capsule_frames.specs.Capsules.{capsules}
+use Rattle.capsule_frames.specs.Capsules.{BadAt as BadCapsulesAt}
+use Rattle.capsule_runs.specs.Replies.{IsCapsuleReply}
 use Rattle.batch_words.specs.declared.commands.Command.{Command}
 use Rattle.batch_words.specs.declared.commands.Command.TheVariants as commands
+use Rattle.batch_runner.specs.declared.outcomes.Outcome.{Outcome}
+use Rattle.batch_runner.specs.declared.outcomes.Outcome.TheVariants.{Done, BadBatch as IsBad}
+use Rattle.batch_runner.specs.Outcomes.{outcome_on}
 
--- ---- the reply to a plan
+-- ---- an input that is not in the command's grammar
+
+-- its first bad line is told
+pub record IsTold (bad : BadBatch) (outcome : Outcome) (text : List ℕ) : Type 0 where
+  pub outcome_is : outcome ≡ IsBad bad.line bad.reason
+  pub text_is : text ≡ bad_text bad
+
+-- ---- `run` and `rehearse`: a batch is answered
 
 -- `rehearse`: the text replies to the plan's set-up, and to its calls where the lanes take their steps
 -- by this schedule. A plan has one set-up, so it has one such text.
@@ -25,18 +44,72 @@ pub record IsRehearsal (plan : Plan) (schedule text : List ℕ) : Type 0 where
   pub set_up : IsSetUp plan keys contexts standing
   pub text_is : text ≡ run_text keys contexts (rehearsed plan standing schedule)
 
--- a command replies to the plan by this text; `run` by any that the plan may have
+-- a command that replies to a plan
+abbrev pub AnswersBatches : Command → Type 0
+AnswersBatches (commands.Run workers mult) = Unit {0}
+AnswersBatches (commands.Rehearse schedule) = Unit {0}
+AnswersBatches (commands.Check mult) = ⊥
+AnswersBatches (commands.Capsules mult) = ⊥
+
+-- it replies to the plan by this text: `run` by any that the plan may have
 abbrev pub IsReplyBy : Command → Plan → List ℕ → Type 0
 IsReplyBy (commands.Run workers mult) plan text = IsReply plan text
 IsReplyBy (commands.Rehearse schedule) plan text = IsRehearsal plan schedule text
+IsReplyBy (commands.Check mult) plan text = ⊥
+IsReplyBy (commands.Capsules mult) plan text = ⊥
 
--- ---- the text that is due
+abbrev pub Answers : Command → Result Plan BadBatch → Outcome → List ℕ → Type 0
+Answers command (Ok plan) outcome text = (outcome ≡ Done) × IsReplyBy command plan text
+Answers command (Err bad) outcome text = IsTold bad outcome text
 
--- the replies to a plan, or the first bad line
-abbrev pub IsDueFor : Command → Result Plan BadBatch → List ℕ → Type 0
-IsDueFor command (Ok plan) text = IsReplyBy command plan text
-IsDueFor command (Err bad) text = text ≡ bad_text bad
+-- ---- `check`: a batch is read, and what stands behind it is judged
 
--- the command may write the text for this input
-abbrev pub IsDue : Command → List ℕ → List ℕ → Type 0
-IsDue command input text = IsDueFor command (batch input) text
+-- it is legal exactly where it is a reply that `run` may give
+pub record IsJudged (plan : Plan) (result : List ℕ) (verdict : Verdict) : Type 0 where
+  pub is : IsVerdict plan result verdict
+  pub legal : (verdict ≡ Legal) ↔ IsReply plan result
+
+-- the verdict's line
+pub record TellsVerdict (plan : Plan) (result : List ℕ) (outcome : Outcome) (text : List ℕ)
+    : Type 0 where
+  pub verdict : Verdict
+  pub judged : IsJudged plan result verdict
+  pub outcome_is : outcome ≡ outcome_on verdict
+  pub text_is : text ≡ verdict_text verdict
+
+-- the input begins with a batch, and what stands behind it is broken so
+pub record IsBroken (input : List ℕ) (verdict : Verdict) : Type 0 where
+  pub plan : Plan
+  pub end : ℕ
+  pub begins : BeginsWith input plan end
+  pub judged : IsJudged plan (drop end input) verdict
+  pub broken : verdict ≢ Legal
+
+abbrev pub Judges : Result (Plan × ℕ) BadBatch → List ℕ → Outcome → List ℕ → Type 0
+Judges (Ok front) input outcome text = TellsVerdict front.0 (drop front.1 input) outcome text
+Judges (Err bad) input outcome text = IsTold bad outcome text
+
+-- ---- `capsules`: messages of RFC 9458 are answered
+
+abbrev pub Exchanges : Result CapsulePlan BadBatch → Outcome → List ℕ → Type 0
+Exchanges (Ok plan) outcome text = (outcome ≡ Done) × IsCapsuleReply plan text
+Exchanges (Err bad) outcome text = IsTold bad outcome text
+
+-- ---- all commands
+
+-- the command may end so for this input, and write this text, where no fault comes in its way
+abbrev pub MayEnd : Command → List ℕ → Outcome → List ℕ → Type 0
+MayEnd (commands.Run workers mult) input outcome text =
+    Answers (commands.Run workers mult) (batch input) outcome text
+MayEnd (commands.Rehearse schedule) input outcome text =
+    Answers (commands.Rehearse schedule) (batch input) outcome text
+MayEnd (commands.Check mult) input outcome text =
+    Judges (front_batch input) input outcome text
+MayEnd (commands.Capsules mult) input outcome text = Exchanges (capsules input) outcome text
+
+-- the first bad line and its first reason, by the command's grammar
+abbrev pub IsBadFor : Command → List ℕ → ℕ → Reason → Type 0
+IsBadFor (commands.Run workers mult) input line reason = BadAt input line reason
+IsBadFor (commands.Rehearse schedule) input line reason = BadAt input line reason
+IsBadFor (commands.Check mult) input line reason = FrontBadAt input line reason
+IsBadFor (commands.Capsules mult) input line reason = BadCapsulesAt input line reason

@@ -7,7 +7,7 @@ ghost use Rattle.due_replies.specs.Standing.{AreOfLines};
 ghost use Rattle.context_table.specs.SetUp.{IsSetUp};
 ghost use Rattle.batch_words.specs.Words.{IsWithin};
 ghost use Rattle.context_table.specs.ReplyTo.{IsReply};
-ghost use Rattle.batch_runner.specs.Text.{IsRehearsal, IsReplyBy};
+ghost use Rattle.batch_runner.specs.Text.{AnswersBatches, IsRehearsal, IsReplyBy};
 
 use batch_io::Gate;
 use batch_plans::{Answers, Plan};
@@ -84,7 +84,7 @@ fn rehearsed_by<R: Threads + Sync>(
     Ok(answers)
 }
 
-/// The answers to a plan by a command. All memory is taken before the first call is answered.
+/// The answers to a plan by a command that replies to one. All memory is taken before the first call is answered.
 pub(crate) fn answers_to<R: Threads + Wait + Sync, G: Gate + Sync>(
     rt: &R,
     alloc: Global,
@@ -94,6 +94,7 @@ pub(crate) fn answers_to<R: Threads + Wait + Sync, G: Gate + Sync>(
 ) -> Result<Answers, AllocError>
     requires plan { IsWithinLimits plan.now }
     requires command { IsWithin command.now }
+    requires batch { AnswersBatches command.now }
     ensures text { IfOk result (λ answers.
         IsReplyBy command.now plan.now (answers_text plan.now answers)) }
     ensures answered { IfOk result (IsAnswered plan.now) }
@@ -101,5 +102,6 @@ pub(crate) fn answers_to<R: Threads + Wait + Sync, G: Gate + Sync>(
     match command {
         Command::Run { workers, mult } => served_by(rt, alloc, plan, *workers, *mult, gate),
         Command::Rehearse { schedule } => rehearsed_by(rt, alloc, plan, schedule.as_slice()),
+        Command::Check { .. } | Command::Capsules { .. } => unreachable!(),
     }
 }

@@ -1,12 +1,14 @@
-//! The run of a batch: the order of work, and the top call.
+//! The run of an input: the order of work, and the top call.
 //!
-//! [`serve_words`] reads a batch from a [`Source`](batch_io::Source) and writes one text to a
-//! [`Sink`](batch_io::Sink). The order of work is: the words; reading; the grammar; the set-up of
+//! [`serve_words`] reads an input from a [`Source`](batch_io::Source) and writes one text to a
+//! [`Sink`](batch_io::Sink). The text is one that `MayEnd` of `specs/Text.antt` allows for the command
+//! and the input.
+//!
+//! For `run` and `rehearse` the order of work is: the words; reading; the grammar; the set-up of
 //! keys and contexts (RFC 9180, 5.1); taking all memory for the replies and the journals; the calls
-//! (RFC 9180, 5.2 and 5.3); writing. The text is one that `IsDue` of `specs/Text.antt` allows for
-//! the command and the input: the replies to the batch, each seal and each opening answered as the
-//! sequential context answers at its place in its context's journal, and those journals, which are
-//! legal.
+//! (RFC 9180, 5.2 and 5.3); writing. The text has the replies to the batch, each seal and each opening
+//! answered as the sequential context answers at its place in its context's journal, and those
+//! journals, which are legal. `check` judges such a text, and `capsules` answers messages of RFC 9458.
 //!
 //! A contract sees the two ends as the bytes that they tell and as their counts of faults. Each
 //! [`Outcome`] has its cause there, and want of memory alone is free. What standard input and
@@ -14,9 +16,13 @@
 #![tactic(auto)]
 
 mod answering;
+mod batches;
+mod exchanging;
+mod judging;
 mod outcomes;
 mod reading;
 mod serving;
+mod telling;
 
 pub use outcomes::{Outcome, status};
 pub use serving::{serve_pure, serve_words};
