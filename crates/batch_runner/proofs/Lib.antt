@@ -1,3 +1,4 @@
-pub mod Whole
+pub mod Ends
+pub mod Fronts
 pub mod Texts
 pub mod Rooms

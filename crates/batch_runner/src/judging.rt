@@ -1,6 +1,6 @@
 //! A result, judged: `check`.
 
-ghost use Rattle.std.specs.Prelude.{◌≡◌, ◌≢◌, ◌≤◌, ℕ, List, length, IfOk};
+ghost use Rattle.std.specs.Prelude.{◌≡◌, ◌≢◌, ◌≤◌, ℕ, List, length, drop, IfOk};
 ghost use Rattle.std.specs.Io.KnownBytes.{Appends};
 ghost use Rattle.batch_io.specs.Outside.{Rose};
 ghost use Rattle.field_text.specs.Printing.{AppendsPrefix};
@@ -68,6 +68,14 @@ fn judge_result<R: Threads, K: Sink>(
     }
 }
 
+// What stands behind a batch that ends there.
+fn behind(input: &[u8], end: usize) -> &[u8]
+    requires { end ≤ length input.now }
+    ensures { result.now ≡ drop end input.now }
+{
+    &input[end..]
+}
+
 /// Judges the result that stands behind a batch, or tells the batch's first bad line.
 pub(crate) fn judge<R: Threads, K: Sink>(
     rt: &R,
@@ -87,7 +95,7 @@ pub(crate) fn judge<R: Threads, K: Sink>(
     ensures unwritten { result ≡ Outcome.OutOfMemory → sink.new ≡ sink.old }
 {
     match read_front(alloc, input) {
-        Ok((plan, end)) => judge_result(rt, alloc, &plan, &input[end..], mult, sink),
+        Ok((plan, end)) => judge_result(rt, alloc, &plan, behind(input, end), mult, sink),
         Err(fault) => match fault {
             ReadBatchFault::Bad(bad) => tell_bad(&bad, sink),
             ReadBatchFault::OutOfMemory => Outcome::OutOfMemory,

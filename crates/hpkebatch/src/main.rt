@@ -1,8 +1,8 @@
-//! The command `hpkebatch`: reads one batch from standard input and writes its reply to standard
+//! The command `hpkebatch`: reads one input from standard input and writes its text to standard
 //! output.
 //!
-//! All work is [`serve_words`]. Standard output holds the reply alone; standard error gets one line
-//! for each outcome that the reply can't tell of, and else nothing. The exit status is `status`.
+//! All work is [`serve_words`]. Standard output holds that text alone; standard error gets one line
+//! for each outcome but `Done` and `BadBatch`, and else nothing. The exit status is `status`.
 #![tactic(auto)]
 
 use batch_io::{FreeGate, StdSink, StdSource};
@@ -22,8 +22,8 @@ fn words<R: Env + Alloc<A = Global>>(rt: &R) -> io::Result<Vec<String>> {
     Ok(words)
 }
 
-const USAGE: &'static str =
-    "usage: hpkebatch run [--workers W] [--mult plain|karatsuba|lanes] | rehearse SCHEDULE";
+const USAGE: &'static str = "usage: hpkebatch run [--workers W] [--mult plain|karatsuba|lanes] | \
+    rehearse SCHEDULE | check [--mult M] | capsules [--mult M]";
 
 // What standard error is told of an outcome.
 fn message(outcome: &Outcome) -> Option<&'static str> {
@@ -33,6 +33,7 @@ fn message(outcome: &Outcome) -> Option<&'static str> {
         Outcome::ReadFault => Some("the input could not be read"),
         Outcome::WriteFault => Some("the reply could not be written"),
         Outcome::OutOfMemory => Some("out of memory"),
+        Outcome::Broken { .. } => Some("the result is not legal"),
     }
 }
 

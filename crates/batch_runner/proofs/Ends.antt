@@ -1,0 +1,232 @@
+-- What may come of an input: which outcomes there are, and that an input too large ends as one that was read
+-- in part.
+use Rattle.std.proofs.Common.{◌≡◌, ◌∙◌, ◌<◌, ◌≤◌, ℕ, List, ◌++◌, length, drop, Option, Some, None, Result, Ok, Err, refl, sym, ap, ap₂, subst, inl, inr, ◌⊎◌, arith, append-nil, length-append}
+use Rattle.std.specs.Prelude.{◌≢◌}
+use Rattle.field_text.specs.declared.reasons.Reason.{Reason}
+use Rattle.field_text.specs.declared.reasons.Reason.TheVariants.{Size}
+use Rattle.field_text.specs.declared.faults.BadBatch.{BadBatch}
+use Rattle.field_text.specs.Lines.{bad, whole}
+use Rattle.field_text.proofs.Judging.{too_large as front_too_large}
+use Rattle.batch_plans.specs.Limits.{most_input}
+use Rattle.batch_plans.specs.declared.plan.Plan.{Plan}
+use Rattle.reply_texts.specs.ReplyText.{bad_text}
+use Rattle.request_frames.specs.Batch.{batch, batch_lines, ended, front_batch}
+use Rattle.capsule_frames.specs.declared.lines.CapsulePlan.{CapsulePlan}
+use Rattle.capsule_frames.specs.Capsules.{capsules, capsule_lines}
+use Rattle.result_verdicts.specs.declared.verdicts.Verdict.{Verdict}
+use Rattle.result_verdicts.specs.declared.verdicts.Verdict.TheVariants.{Legal, Form, Journal, Stamps, Reply, Guess}
+use Rattle.result_verdicts.specs.VerdictText.{verdict_text}
+use Rattle.batch_words.specs.declared.commands.Command.{Command}
+use Rattle.batch_words.specs.declared.commands.Command.TheVariants as commands
+use Rattle.batch_words.specs.declared.commands.Mult.{Mult}
+use Rattle.batch_runner.specs.declared.outcomes.Outcome.{Outcome}
+use Rattle.batch_runner.specs.declared.outcomes.Outcome.TheVariants as outcomes
+use Rattle.batch_runner.specs.Input.{IsInput}
+use Rattle.batch_runner.specs.Outcomes.{outcome_on}
+use Rattle.batch_runner.specs.Text.{Answers, Exchanges, IsBadFor, IsBroken, IsJudged, IsTold, Judges, MayEnd, TellsVerdict}
+
+-- ---- an input that is too large
+
+abbrev too_many : BadBatch
+too_many = record { line = 0; reason = Size }
+
+large_batch : (text : List ℕ) → most_input < length text → batch text ≡ bad 0 Size
+unfolding batch
+large_batch text large = ap whole (front_too_large batch_lines most_input text large)
+
+pub large_front : (text : List ℕ) → most_input < length text → front_batch text ≡ bad 0 Size
+unfolding front_batch
+large_front text large = ap (ended text) (front_too_large batch_lines most_input text large)
+
+large_capsules : (text : List ℕ) → most_input < length text → capsules text ≡ bad 0 Size
+unfolding capsules
+large_capsules text large = ap whole (front_too_large capsule_lines most_input text large)
+
+module _ (text : List ℕ) (large : most_input < length text) (outcome : Outcome) (line : List ℕ) where
+  told_when_large : (command : Command) → MayEnd command text outcome line → IsTold too_many outcome line
+  told_when_large (commands.Run workers mult) end =
+      subst (λ r. Answers (commands.Run workers mult) r outcome line) (large_batch text large) end
+  told_when_large (commands.Rehearse schedule) end =
+      subst (λ r. Answers (commands.Rehearse schedule) r outcome line) (large_batch text large) end
+  told_when_large (commands.Check mult) end =
+      subst (λ r. Judges r text outcome line) (large_front text large) end
+  told_when_large (commands.Capsules mult) end =
+      subst (λ r. Exchanges r outcome line) (large_capsules text large) end
+
+  ends_when_large : (command : Command) → IsTold too_many outcome line → MayEnd command text outcome line
+  ends_when_large (commands.Run workers mult) told =
+      subst (λ r. Answers (commands.Run workers mult) r outcome line) (sym (large_batch text large)) told
+  ends_when_large (commands.Rehearse schedule) told =
+      subst (λ r. Answers (commands.Rehearse schedule) r outcome line) (sym (large_batch text large)) told
+  ends_when_large (commands.Check mult) told =
+      subst (λ r. Judges r text outcome line) (sym (large_front text large)) told
+  ends_when_large (commands.Capsules mult) told =
+      subst (λ r. Exchanges r outcome line) (sym (large_capsules text large)) told
+
+-- what comes of what was read comes of all that there was to read
+ends_as_read : (command : Command) (xs input : List ℕ) (new : Option (List ℕ)) (outcome : Outcome) (text : List ℕ)
+    → IsInput (Some xs) new input → MayEnd command input outcome text → MayEnd command xs outcome text
+ends_as_read command xs input None outcome text (consumed, within, stop) end = absurd consumed
+ends_as_read command xs input (Some rest) outcome text (consumed, within, inl at_end) end =
+    let same : input ≡ xs = sym (consumed ∙ ap (λ zs. input ++ zs) at_end ∙ append-nil input) in
+    subst (λ read. MayEnd command read outcome text) same end
+ends_as_read command xs input (Some rest) outcome text (consumed, within, inr full) end =
+    let large : most_input < length input = omega (arith, full) in
+    let larger : most_input < length xs = omega (arith, full, ap length consumed, length-append input rest) in
+    ends_when_large xs larger outcome text command (told_when_large input large outcome text command end)
+
+pub ends_as_told : (command : Command) (xs input : List ℕ) (old new : Option (List ℕ)) (outcome : Outcome) (text : List ℕ)
+    → old ≡ Some xs → IsInput old new input → MayEnd command input outcome text → MayEnd command xs outcome text
+ends_as_told command xs input old new outcome text told read end =
+    ends_as_read command xs input new outcome text (subst (λ o. IsInput o new input) told read) end
+
+-- ---- which outcomes there are
+
+-- those of an input: words outside the grammar and faults are none
+abbrev pub OfInput : Outcome → Type 0
+OfInput outcome =
+    (outcome ≢ outcomes.Usage) × (outcome ≢ outcomes.ReadFault) × (outcome ≢ outcomes.WriteFault)
+    × (outcome ≢ outcomes.OutOfMemory)
+
+of_told : (b : BadBatch) (outcome : Outcome) (text : List ℕ) → IsTold b outcome text → OfInput outcome
+of_told b outcome text told =
+    subst OfInput (sym told.outcome_is) ((λ e. cc), (λ e. cc), (λ e. cc), (λ e. cc))
+
+of_done : (outcome : Outcome) → outcome ≡ outcomes.Done → OfInput outcome
+of_done outcome is = subst OfInput (sym is) ((λ e. cc), (λ e. cc), (λ e. cc), (λ e. cc))
+
+on_verdict : (verdict : Verdict) → OfInput (outcome_on verdict)
+on_verdict Legal = ((λ e. cc), (λ e. cc), (λ e. cc), (λ e. cc))
+on_verdict (Form line) = ((λ e. cc), (λ e. cc), (λ e. cc), (λ e. cc))
+on_verdict (Journal context) = ((λ e. cc), (λ e. cc), (λ e. cc), (λ e. cc))
+on_verdict Stamps = ((λ e. cc), (λ e. cc), (λ e. cc), (λ e. cc))
+on_verdict (Reply line) = ((λ e. cc), (λ e. cc), (λ e. cc), (λ e. cc))
+on_verdict (Guess line) = ((λ e. cc), (λ e. cc), (λ e. cc), (λ e. cc))
+
+of_answers : (command : Command) (r : Result Plan BadBatch) (outcome : Outcome) (text : List ℕ)
+    → Answers command r outcome text → OfInput outcome
+of_answers command (Ok plan) outcome text end = of_done outcome end.0
+of_answers command (Err b) outcome text end = of_told b outcome text end
+
+of_judges : (r : Result (Plan × ℕ) BadBatch) (input : List ℕ) (outcome : Outcome) (text : List ℕ)
+    → Judges r input outcome text → OfInput outcome
+of_judges (Ok front) input outcome text end = subst OfInput (sym end.outcome_is) (on_verdict end.verdict)
+of_judges (Err b) input outcome text end = of_told b outcome text end
+
+of_exchanges : (r : Result CapsulePlan BadBatch) (outcome : Outcome) (text : List ℕ) → Exchanges r outcome text → OfInput outcome
+of_exchanges (Ok plan) outcome text end = of_done outcome end.0
+of_exchanges (Err b) outcome text end = of_told b outcome text end
+
+pub of_input : (command : Command) (input : List ℕ) (outcome : Outcome) (text : List ℕ) → MayEnd command input outcome text → OfInput outcome
+of_input (commands.Run workers mult) input outcome text end =
+    of_answers (commands.Run workers mult) (batch input) outcome text end
+of_input (commands.Rehearse schedule) input outcome text end =
+    of_answers (commands.Rehearse schedule) (batch input) outcome text end
+of_input (commands.Check mult) input outcome text end = of_judges (front_batch input) input outcome text end
+of_input (commands.Capsules mult) input outcome text end = of_exchanges (capsules input) outcome text end
+
+-- a fault of writing, want of memory, or neither
+pub faults_or_not : (outcome : Outcome) → (outcome ≡ outcomes.WriteFault)
+    ⊎ ((outcome ≡ outcomes.OutOfMemory) ⊎ ((outcome ≢ outcomes.WriteFault) × (outcome ≢ outcomes.OutOfMemory)))
+faults_or_not outcomes.Done = inr (inr ((λ e. cc), (λ e. cc)))
+faults_or_not outcomes.Usage = inr (inr ((λ e. cc), (λ e. cc)))
+faults_or_not (outcomes.BadBatch line reason) = inr (inr ((λ e. cc), (λ e. cc)))
+faults_or_not outcomes.ReadFault = inr (inr ((λ e. cc), (λ e. cc)))
+faults_or_not outcomes.WriteFault = inl refl
+faults_or_not outcomes.OutOfMemory = inr (inl refl)
+faults_or_not (outcomes.Broken verdict) = inr (inr ((λ e. cc), (λ e. cc)))
+
+-- ---- a bad line
+
+-- a reading fails at this line, and it is told
+abbrev IsBadLine : {A : Type 0} → Result A BadBatch → ℕ → Reason → List ℕ → Type 0
+IsBadLine r line reason text = (r ≡ bad line reason) × (text ≡ bad_text (record { line = line; reason = reason }))
+
+same_bad : {A : Type 0} (b : BadBatch) (line : ℕ) (reason : Reason) (text : List ℕ)
+    → IsTold b (outcomes.BadBatch line reason) text → IsBadLine {A = A} (Err b) line reason text
+same_bad b line reason text told =
+    let same : outcomes.BadBatch line reason ≡ outcomes.BadBatch b.line b.reason = told.outcome_is in
+    let lines : b.line ≡ line = cc in
+    let reasons : b.reason ≡ reason = cc in
+    let whole : b ≡ record { line = line; reason = reason } = ap₂ (λ l r. record { line = l; reason = r }) lines reasons in
+    (ap Err whole, told.text_is ∙ ap bad_text whole)
+
+no_bad_verdict : (verdict : Verdict) (line : ℕ) (reason : Reason) → outcomes.BadBatch line reason ≡ outcome_on verdict → ⊥
+no_bad_verdict Legal line reason e = cc
+no_bad_verdict (Form l) line reason e = cc
+no_bad_verdict (Journal context) line reason e = cc
+no_bad_verdict Stamps line reason e = cc
+no_bad_verdict (Reply l) line reason e = cc
+no_bad_verdict (Guess l) line reason e = cc
+
+module _ (line : ℕ) (reason : Reason) (text : List ℕ) where
+  bad_answers : (command : Command) (r : Result Plan BadBatch) → Answers command r (outcomes.BadBatch line reason) text
+      → IsBadLine r line reason text
+  bad_answers command (Ok plan) end = let no : outcomes.BadBatch line reason ≡ outcomes.Done = end.0 in cc
+  bad_answers command (Err b) end = same_bad b line reason text end
+
+  bad_judges : (r : Result (Plan × ℕ) BadBatch) (input : List ℕ) → Judges r input (outcomes.BadBatch line reason) text
+      → IsBadLine r line reason text
+  bad_judges (Ok front) input end = absurd (no_bad_verdict end.verdict line reason end.outcome_is)
+  bad_judges (Err b) input end = same_bad b line reason text end
+
+  bad_exchanges : (r : Result CapsulePlan BadBatch) → Exchanges r (outcomes.BadBatch line reason) text → IsBadLine r line reason text
+  bad_exchanges (Ok plan) end = let no : outcomes.BadBatch line reason ≡ outcomes.Done = end.0 in cc
+  bad_exchanges (Err b) end = same_bad b line reason text end
+
+  pub bad_line : (command : Command) (input : List ℕ) → MayEnd command input (outcomes.BadBatch line reason) text
+      → IsBadFor command input line reason × (text ≡ bad_text (record { line = line; reason = reason }))
+  bad_line (commands.Run workers mult) input end = bad_answers (commands.Run workers mult) (batch input) end
+  bad_line (commands.Rehearse schedule) input end = bad_answers (commands.Rehearse schedule) (batch input) end
+  bad_line (commands.Check mult) input end = bad_judges (front_batch input) input end
+  bad_line (commands.Capsules mult) input end = bad_exchanges (capsules input) end
+
+-- ---- a broken result
+
+broken_by : (verdict told : Verdict) → outcomes.Broken told ≡ outcome_on verdict → (verdict ≡ told) × (verdict ≢ Legal)
+broken_by Legal told e = cc
+broken_by (Form line) told e = (cc, (λ l. cc))
+broken_by (Journal context) told e = (cc, (λ l. cc))
+broken_by Stamps told e = (cc, (λ l. cc))
+broken_by (Reply line) told e = (cc, (λ l. cc))
+broken_by (Guess line) told e = (cc, (λ l. cc))
+
+module _ (told : Verdict) (text : List ℕ) where
+  -- a result behind a batch is broken, and that is told
+  abbrev IsToldBroken : List ℕ → Type 0
+  IsToldBroken input = IsBroken input told × (text ≡ verdict_text told)
+
+  broken_judges : (input : List ℕ) (r : Result (Plan × ℕ) BadBatch) → front_batch input ≡ r
+      → Judges r input (outcomes.Broken told) text → IsToldBroken input
+  broken_judges input (Ok front) is end =
+      let same = broken_by end.verdict told end.outcome_is in
+      (record {
+        plan = front.0;
+        end = front.1;
+        begins = is;
+        judged = subst (IsJudged front.0 (drop front.1 input)) same.0 end.judged;
+        broken = subst (λ v. v ≢ Legal) same.0 same.1;
+      }, end.text_is ∙ ap verdict_text same.0)
+  broken_judges input (Err b) is end =
+      let no : outcomes.Broken told ≡ outcomes.BadBatch b.line b.reason = end.outcome_is in cc
+
+  no_answers : (command : Command) (r : Result Plan BadBatch) → Answers command r (outcomes.Broken told) text → ⊥
+  no_answers command (Ok plan) end = let no : outcomes.Broken told ≡ outcomes.Done = end.0 in cc
+  no_answers command (Err b) end =
+      let no : outcomes.Broken told ≡ outcomes.BadBatch b.line b.reason = end.outcome_is in cc
+
+  no_exchanges : (r : Result CapsulePlan BadBatch) → Exchanges r (outcomes.Broken told) text → ⊥
+  no_exchanges (Ok plan) end = let no : outcomes.Broken told ≡ outcomes.Done = end.0 in cc
+  no_exchanges (Err b) end =
+      let no : outcomes.Broken told ≡ outcomes.BadBatch b.line b.reason = end.outcome_is in cc
+
+  pub broken_result : (command : Command) (input : List ℕ) → MayEnd command input (outcomes.Broken told) text
+      → (mult : Mult) × (command ≡ commands.Check mult) × IsBroken input told × (text ≡ verdict_text told)
+  broken_result (commands.Run workers mult) input end =
+      absurd (no_answers (commands.Run workers mult) (batch input) end)
+  broken_result (commands.Rehearse schedule) input end =
+      absurd (no_answers (commands.Rehearse schedule) (batch input) end)
+  broken_result (commands.Check mult) input end =
+      let b = broken_judges input (front_batch input) refl end in
+      (mult, refl, b.0, b.1)
+  broken_result (commands.Capsules mult) input end = absurd (no_exchanges (capsules input) end)
