@@ -1,5 +1,5 @@
 -- What was read step by step is the text of what it tells.
-use Rattle.std.proofs.Common.{◌≡◌, ℕ, zero, suc, ◌+◌, ◌≤◌, Bool, true, false, List, [], ◌∷◌, ◌++◌, length, map, take, drop, codes, decimal, Option, Some, None, Result, Ok, Err, refl, sym, ap, ◌∙◌, subst, append_assoc, append-nil, length-append, arith}
+use Rattle.std.proofs.Common.{◌≡◌, ℕ, zero, suc, ◌+◌, ◌≤◌, Bool, List, [], ◌∷◌, ◌++◌, length, map, take, drop, codes, decimal, Option, Some, None, Result, Ok, Err, refl, sym, ap, ◌∙◌, subst, append_assoc, append-nil, length-append, arith}
 use Rattle.std.specs.Prelude.{sum_by}
 use Rattle.std.specs.List.{concat}
 use Rattle.std.proofs.lemmas.List.{map-append, take_at, drop_at, length-drop, take-append-le, drop-append-le}
@@ -16,16 +16,16 @@ use Rattle.batch_plans.specs.declared.replies.KeyReply.{KeyReply}
 use Rattle.batch_plans.specs.declared.replies.ContextReply.{ContextReply}
 use Rattle.batch_plans.specs.declared.replies.CallRefusal.{CallRefusal}
 use Rattle.reply_texts.specs.Lines.{key_line, context_line}
-use Rattle.reply_texts.specs.ReplyText.{guess_line, all_lines, numbered, lane_lines, mark_line, journal_lines, setup_lines, version_line, reply_lines, has_stamps}
+use Rattle.reply_texts.specs.ReplyText.{guess_line, all_lines, numbered, lane_lines, mark_line, journal_lines, version_line, reply_lines, has_stamps}
 use Rattle.due_replies.specs.Standing.{call_refusal}
 use Rattle.result_lines.specs.declared.told.GuessLine.{GuessLine}
 use Rattle.result_lines.specs.Forms.{guess_of_line, mark_of_line}
 use Rattle.result_lines.specs.Places.{◌>>=◌, LinesView, MarksFound, next_line, line_due, guess_from, mark_before, marks_from, marks_of, ended, with_feed}
 use Rattle.result_lines.specs.Places as places
-use Rattle.result_lines.specs.Told.{ReplyView, ToldView, nothing_yet, with_line, with_lines, with_reply, with_replies, with_guess, with_served, with_call_unless, with_call, with_calls, lane_ended, with_lane, with_lanes, journal_ended, with_journal, with_journals, with_setup, with_end, told_by}
-use Rattle.result_lines.specs.Printed.{served_replies, served_guesses, replies_unless, guesses_unless, call_replies, call_guesses, lane_replies, lane_guesses, told_calls, told_lanes, told_text, lines_told, guesses_told, AreComplete, IsTextOf}
+use Rattle.result_lines.specs.Told.{ReplyView, ToldView, nothing_yet, with_line, with_lines, with_reply, with_replies, with_guess, with_served, with_call_unless, with_call, with_calls, with_lane, with_lanes, journal_ended, with_journal, with_journals, with_setup, with_end, told_by}
+use Rattle.result_lines.specs.Printed.{served_replies, served_guesses, replies_unless, guesses_unless, call_replies, call_guesses, lane_replies, lane_guesses, told_calls, told_lanes, told_text, lines_told, guesses_told, IsTextOf}
 use Rattle.result_lines.proofs.FirstLines.{step_ok, ok_is, IsLeft, line_read, due_read, end_read}
-use Rattle.result_lines.proofs.Growing.{concat-append, batches, Grew, moved, stayed, grew_more, Took, took_more, GrewLanes, lanes_stayed, lanes_more, lane_grew, GrewJournals, journals_stayed, journals_more, journal_grew}
+use Rattle.result_lines.proofs.Growing.{concat-append, batches, Grew, moved, stayed, Took, took_more, GrewLanes, lanes_stayed, lanes_more, lane_grew, GrewJournals, journals_stayed, journals_more, journal_grew}
 use Rattle.result_lines.proofs.NumberLines.{guess_read, mark_read}
 
 -- ---- lines as they are printed

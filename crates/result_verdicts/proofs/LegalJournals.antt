@@ -1,21 +1,21 @@
 -- The tests of journals pass exactly where the journals are legal, by themselves or as one history.
-use Rattle.std.proofs.Common.{◌≡◌, ℕ, zero, suc, ◌+◌, ◌≤◌, ◌<◌, ◌&&◌, ◌||◌, not, Bool, true, false, cond, List, [], ◌∷◌, ◌++◌, ◌⊎◌, length, map, Option, Some, None, refl, sym, ap, ◌∙◌, subst, inl, inr, arith}
+use Rattle.std.proofs.Common.{◌≡◌, ℕ, zero, suc, ◌+◌, ◌≤◌, ◌<◌, Bool, true, false, cond, List, [], ◌∷◌, ◌⊎◌, length, map, Option, Some, None, refl, sym, ap, ◌∙◌, subst, inl, inr, arith}
 use Rattle.std.specs.Prelude.{nat_lt, slice_get, slice_index_or}
 use Rattle.std.specs.List.{All, AllPairs}
 use Rattle.std.specs.Option.{option_map}
 use Rattle.std.proofs.lemmas.Bool.{cases_lt}
 use Rattle.std.proofs.lemmas.List.{get_or_past, length-map}
 use Rattle.std.proofs.lemmas.List.Elements.{All-nil, All-cons}
-use Rattle.std.proofs.lemmas.Option.{slice_get-map, slice_get_within}
+use Rattle.std.proofs.lemmas.Option.{slice_get-map}
 use Rattle.call_places.specs.declared.entries.Place.{Place}
 use Rattle.call_places.specs.declared.entries.Mark.{Mark}
 use Rattle.call_places.specs.Messages.{SealedMessage, sealed_messages}
 use Rattle.hpke_context.specs.Answers.{Item}
 use Rattle.hpke_context.specs.Contexts.{ContextView}
-use Rattle.legal_journals.specs.Batches.{Ask, Nothing, ToSeal, ToOpen, ToOpenAll, Batch, unseal, items_in, context_in, with_context, item_in, item_in_call, item_of, lane_of, place, block, IsServed}
-use Rattle.legal_journals.specs.Checks.{is_legal, is_legal_history}
-use Rattle.legal_journals.specs.Histories.{mark, marks_at, places, HasLowerStamp, LegalHistory}
-use Rattle.legal_journals.specs.Legal.{Legal, OpensOn}
+use Rattle.legal_journals.specs.Batches.{Ask, ToOpenAll, Batch, unseal, items_in, with_context, item_in, item_in_call, lane_of, place, IsServed}
+use Rattle.legal_journals.specs.Checks.{is_legal}
+use Rattle.legal_journals.specs.Histories.{mark, marks_at, places, HasLowerStamp}
+use Rattle.legal_journals.specs.Legal.{Legal}
 use Rattle.legal_journals.proofs.Checking.{legal_iff}
 use Rattle.legal_journals.proofs.CheckingHistory.{legal_history_iff}
 use Rattle.legal_journals.proofs.Marks.{legal_alone}
@@ -31,7 +31,7 @@ use Rattle.due_replies.specs.Standing.{standing_at, call_refusal}
 use Rattle.due_replies.specs.Asks.{asked_by, ask_unless, ask_of, batch_of}
 use Rattle.due_replies.specs.Runs.{LegalFor}
 use Rattle.due_replies.proofs.Done.{lane_asks}
-use Rattle.result_lines.specs.Printed.{IsStampWithin, IsMarkWithin}
+use Rattle.result_lines.specs.Printed.{IsMarkWithin}
 use Rattle.result_verdicts.specs.Journals.{stamps_rise, is_journal, broken_journal, is_one_history}
 use Rattle.result_verdicts.proofs.Counting.{served_low, stamp_low}
 use Rattle.result_verdicts.proofs.DueReplies.{stands_for}

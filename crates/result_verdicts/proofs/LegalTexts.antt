@@ -1,18 +1,16 @@
 -- A text is legal exactly where it is that of an allowed run.
-use Rattle.std.proofs.Common.{◌≡◌, ℕ, zero, suc, ◌+◌, ◌≤◌, ◌<◌, ◌^◌, ◌⊎◌, ◌↔◌, nat_le, Bool, true, false, cond, if◌then◌else◌, List, [], ◌∷◌, ◌++◌, length, map, take, drop, codes, decimal, Option, Some, None, Result, Ok, Err, refl, sym, ap, ◌∙◌, subst, inl, inr, arith}
-use Rattle.std.specs.Prelude.{sum_by, slice_get, slice_index, slice_index_or}
+use Rattle.std.proofs.Common.{◌≡◌, ℕ, zero, suc, ◌+◌, ◌≤◌, ◌<◌, ◌⊎◌, nat_le, Bool, true, false, cond, List, [], ◌∷◌, ◌++◌, length, map, drop, codes, decimal, Option, Some, None, Result, Ok, Err, refl, sym, ap, ◌∙◌, subst, inl, inr, arith}
+use Rattle.std.specs.Prelude.{slice_get, slice_index_or}
 use Rattle.std.specs.List.{All, concat}
 use Rattle.std.proofs.lemmas.List.{length-map}
 use Rattle.std.proofs.lemmas.List.Elements.{All-nil, All-cons}
 use Rattle.std.proofs.lemmas.Option.{slice_get_within}
-use Rattle.call_places.specs.declared.entries.Place.{Place}
 use Rattle.call_places.specs.declared.entries.Mark.{Mark}
 use Rattle.call_places.specs.Messages.{SealedMessage}
 use Rattle.hpke_context.specs.Contexts.{ContextView}
 use Rattle.legal_journals.specs.Batches.{Ask, Nothing, ToSeal, ToOpen, ToOpenAll, lane_of, block, place}
-use Rattle.legal_journals.specs.Checks.{is_guessed}
-use Rattle.legal_journals.specs.Guesses.{AllGuessed, guess_of, guess_count, guess_at, is_in_window, missed, missed_in, least_guess, greatest_guess}
-use Rattle.legal_journals.specs.Histories.{mark, marks_at, places}
+use Rattle.legal_journals.specs.Guesses.{AllGuessed, guess_count, guess_at, is_in_window, missed, least_guess, greatest_guess}
+use Rattle.legal_journals.specs.Histories.{mark}
 use Rattle.legal_journals.specs.Legal.{Legal, number_of}
 use Rattle.legal_journals.proofs.Checking.{guessed_iff}
 use Rattle.legal_journals.proofs.Members.{got, value_at}
@@ -26,7 +24,7 @@ use Rattle.batch_plans.specs.declared.replies.ContextReply.{ContextReply}
 use Rattle.reply_texts.specs.ReplyText.{all_lines, numbered, has_stamps, lane_lines, mark_line, journal_lines, version_line}
 use Rattle.reply_texts.specs.Lines.{key_line, context_line}
 use Rattle.due_replies.specs.Asks.{ask_of, batch_of, cipher_at}
-use Rattle.due_replies.specs.Runs.{Run, asks_of, journal_of, guesses_of, IsAllowed, LegalFor, run_text}
+use Rattle.due_replies.specs.Runs.{Run, asks_of, journal_of, guesses_of, IsAllowed, run_text}
 use Rattle.due_replies.proofs.Done.{lane_asks}
 use Rattle.result_lines.specs.declared.told.GuessLine.{GuessLine}
 use Rattle.result_lines.specs.Told.{ToldView, told_by}
@@ -44,7 +42,7 @@ use Rattle.result_verdicts.specs.Replies.{all_replies, wrong_reply}
 use Rattle.result_verdicts.specs.Verdicts.{run_of, run_told, by_guess, by_reply, by_stamps, by_journal, verdict_on, by_form}
 use Rattle.result_verdicts.proofs.Counting.{journal_few, number_low}
 use Rattle.result_verdicts.proofs.DueReplies.{due_told, told_due, replies_are_lines}
-use Rattle.result_verdicts.proofs.LegalJournals.{each_legal, legal_none, legal_one, opening_size, passed_legal, AsPrinted, as_printed}
+use Rattle.result_verdicts.proofs.LegalJournals.{each_legal, legal_none, legal_one, opening_size, passed_legal, as_printed}
 use Rattle.result_verdicts.proofs.RightGuesses.{numbers_told, MayGuess, AllRight, skip_right, next_right, opened_numbers, all_right, none_wrong}
 use Rattle.result_verdicts.proofs.RunTexts.{length-block, all_kept, own_opened, all_opened, AreCounted, drop_step, run_complete, run_text_is, all_counted}
 use Rattle.result_verdicts.proofs.SameJournals.{other, replies_same, all_opened_same, guessed_same}
@@ -254,8 +252,7 @@ module _ (plan : Plan) (keys : List KeyReply) (replies : List ContextReply) (con
       ∙ ap guess_count (sym (asks_at run within each lane calls.0 calls.1))) in
       let right = all_right run told.lanes refl sizes parts.3 in
       let lines : lines_told told ≡ all_replies run =
-      due_told told.replies (all_replies run) (sym (length-map told.replies _) ∙ of.complete.count ∙ sym (all_counted run within counted)) parts.2 in
-      (
+      due_told told.replies (all_replies run) (sym (length-map told.replies _) ∙ of.complete.count ∙ sym (all_counted run within counted)) parts.2 in (
         told.journals,
         run.guesses,
         record {

@@ -7,9 +7,8 @@ use Rattle.std.proofs.lemmas.List.Elements.{All-head, All-tail}
 use Rattle.std.proofs.lemmas.List.Sums.{sum_by-cons}
 use Rattle.std.proofs.lemmas.Option.{slice_get_within}
 use Rattle.call_places.specs.Messages.{sealed_messages}
-use Rattle.call_places.specs.Spans.{span_bytes}
 use Rattle.hpke_context.specs.Contexts.{ContextView}
-use Rattle.legal_journals.specs.Batches.{Ask, Nothing, ToSeal, ToOpen, ToOpenAll, Batch, lane_of, block, place, unseal}
+use Rattle.legal_journals.specs.Batches.{Ask, lane_of, block, unseal}
 use Rattle.legal_journals.specs.Guesses.{missed_in, guess_of, guess_count, guess_at}
 use Rattle.legal_journals.proofs.Members.{value_at}
 use Rattle.batch_plans.specs.declared.plan.Plan.{Plan}
@@ -46,9 +45,6 @@ pub messages_size : (plan : Plan) (context first count : ℕ) → IsLine plan (c
 messages_size plan context first count within =
     let messages = sealed_messages plan.pool (items_from plan.items first count) in
     sym (length-map messages unseal) ∙ length-messages plan.items plan.pool first count within.3
-
-
-
 
 -- a call that keeps no guess
 pub keeps_on : (run : Run) (lane number : ℕ) (ask : Ask) (asks : List Ask) (guesses : List ℕ) → length (guess_of ask 0) ≡ 0
