@@ -17,3 +17,6 @@ mod verdicts;
 pub use laws::legal_texts_are_those_of_allowed_runs;
 pub use printing::print_verdict;
 pub use verdicts::Verdict;
+
+#[cfg(test)]
+mod tests;
