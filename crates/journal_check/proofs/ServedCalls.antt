@@ -14,7 +14,7 @@ use Rattle.batch_plans.specs.declared.replies.CallRefusal.{CallRefusal}
 use Rattle.due_replies.specs.Standing.{standing_at, refusal_on, call_refusal}
 use Rattle.due_replies.specs.Runs.{Run, place_line}
 use Rattle.journal_check.specs.declared.runs.JournalRun.{JournalRun}
-use Rattle.journal_check.specs.Asks.{items_asked, asked_unless, asked_in, places_asked, places_from}
+use Rattle.told_journals.specs.Asks.{items_asked, asked_unless, asked_in, places_asked, places_from}
 use Rattle.journal_check.specs.Walks.{Points, AreRepliesOf}
 
 pub length-block : (lane call i n : ℕ) → length (block lane call i n) ≡ n

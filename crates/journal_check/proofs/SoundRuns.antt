@@ -32,7 +32,7 @@ use Rattle.journal_check.specs.Runs.{items_at, AreRuns, AreFor}
 use Rattle.journal_check.specs.Walks.{AreRepliesOf, AreLong, HaveLanes}
 use Rattle.result_verdicts.proofs.Limited.{IsLine, lines_of_limits}
 use Rattle.result_verdicts.proofs.LegalJournals.{none_broken}
-use Rattle.journal_check.proofs.Asking.{from_asked, asks_of_lane}
+use Rattle.told_journals.proofs.Asking.{from_asked, asks_of_lane}
 use Rattle.journal_check.proofs.ServedPlaces.{asked_served, items_same}
 use Rattle.journal_check.proofs.LegalRuns.{all_served, lines_of_run, numbers_of_run}
 

@@ -1,6 +1,6 @@
 use Rattle.std.proofs.Common.{ℕ, ◌+◌, ◌-◌, sym, ap, ◌∙◌, arith}
 use Rattle.legal_journals.specs.Batches.{block}
-use Rattle.journal_check.specs.Asks.{items_asked, places_from}
+use Rattle.told_journals.specs.Asks.{items_asked, places_from}
 use Rattle.result_verdicts.specs.Guesses.{is_right}
 use Rattle.due_replies.specs.Standing.{call_refusal}
 use Rattle.journal_check.proofs.ServedCalls.{length-block, there_for, own_here, points_on, on_ok}
