@@ -283,13 +283,11 @@ calls_only contexts (call ∷ calls) lines more guesses count =
     ∙ ap (λ (ls : List (List ℕ)). take n lines ++ (map guess_line (take m guesses) ++ ls)) (calls_only contexts calls (drop n lines) more (drop m guesses) rest)
 
 -- the lines of one lane more
-pub lanes_split : (contexts : List (Option ContextView)) (number : ℕ) (calls : List CallLine) (lanes : List (List CallLine)) (r1 r2 : List (List ℕ)) (own : List Batch) (guesses : List (List Batch))
+pub lanes_split : (contexts : List (Option ContextView)) (calls : List CallLine) (lanes : List (List CallLine)) (r1 r2 : List (List ℕ)) (own : List Batch) (guesses : List (List Batch))
     → length r1 ≡ lane_replies contexts calls
-    → numbered lane_lines number (told_lanes contexts (calls ∷ lanes) (r1 ++ r2) (own ∷ guesses))
-    ≡ lane_lines number (told_calls contexts calls r1 own) ∷ numbered lane_lines (number + 1) (told_lanes contexts lanes r2 guesses)
-lanes_split contexts number calls lanes r1 r2 own guesses count =
-    (λ i. lane_lines number (calls_only contexts calls r1 r2 own count i)
-    ∷ numbered lane_lines (number + 1) (told_lanes contexts lanes (drop_at r1 r2 (lane_replies contexts calls) count i) guesses))
+    → told_lanes contexts (calls ∷ lanes) (r1 ++ r2) (own ∷ guesses) ≡ told_calls contexts calls r1 own ∷ told_lanes contexts lanes r2 guesses
+lanes_split contexts calls lanes r1 r2 own guesses count =
+    (λ i. calls_only contexts calls r1 r2 own count i ∷ told_lanes contexts lanes (drop_at r1 r2 (lane_replies contexts calls) count i) guesses)
 
 lanes_took : (contexts : List (Option ContextView)) (number : ℕ) (lanes : List (List CallLine)) (told new : ToldView) (text : List ℕ) → IsLeft told.lines text → told.guesses ≡ []
     → with_lanes contexts number lanes told ≡ Ok new → TookLanes told new text contexts number lanes
@@ -312,7 +310,7 @@ lanes_took contexts number (calls ∷ lanes) told new text left none e =
     let here = lane_lines number (told_calls contexts calls a.lines a.guesses) in
     let rest = all_lines (numbered lane_lines (number + 1) (told_lanes contexts lanes b.lines b.guesses)) in
     let piece : concat (all_lines (numbered lane_lines number (told_lanes contexts (calls ∷ lanes) (a.lines ++ b.lines) (a.guesses ∷ b.guesses)))) ≡ concat here ++ concat rest =
-    ap (λ (parts : List (List (List ℕ))). concat (all_lines parts)) (lanes_split contexts number calls lanes a.lines b.lines a.guesses b.guesses a.count)
+    ap (λ (parts : List (List (List ℕ))). concat (all_lines (numbered lane_lines number parts))) (lanes_split contexts calls lanes a.lines b.lines a.guesses b.guesses a.count)
     ∙ concat-append here rest in
     record {
       lines = a.lines ++ b.lines;

@@ -148,7 +148,7 @@ module _ (plan : Plan) (contexts : List (Option ContextView)) (within : IsWithin
   abbrev batch : Batch
   batch = batch_of plan contexts
 
-  asks_are : (lane : ℕ) → lane_of batch lane ≡ map (ask_of plan contexts) (slice_index_or plan.lanes lane [])
+  pub asks_are : (lane : ℕ) → lane_of batch lane ≡ map (ask_of plan contexts) (slice_index_or plan.lanes lane [])
   asks_are lane = lane_asks (record { plan = plan; contexts = contexts; journals = []; guesses = [] }) lane
 
   no_asks : (lane : ℕ) → length plan.lanes ≤ lane → lane_of batch lane ≡ []

@@ -2,7 +2,7 @@
 use Rattle.std.proofs.Common.{◌≡◌, ℕ, zero, suc, ◌+◌, ◌<◌, List, [], ◌∷◌, ◌++◌, length, map, take, drop, Option, Some, None, refl, sym, ap, ◌∙◌, subst, append_assoc, append-nil, length-append, arith}
 use Rattle.std.specs.Prelude.{sum_by, slice_get, slice_index, slice_index_or}
 use Rattle.std.specs.List.{All, concat}
-use Rattle.std.proofs.lemmas.List.{length-map, drop_at}
+use Rattle.std.proofs.lemmas.List.{length-map}
 use Rattle.std.proofs.lemmas.List.Elements.{All-head, All-tail}
 use Rattle.std.proofs.lemmas.List.Sums.{sum_by-cons}
 use Rattle.std.proofs.lemmas.Option.{slice_get_within}
@@ -28,7 +28,7 @@ use Rattle.due_replies.specs.Runs.{Run, asks_of, journal_of, guesses_of, place_l
 use Rattle.due_replies.proofs.Done.{lane_asks, length-messages}
 use Rattle.result_lines.specs.Printed.{replies_unless, guesses_unless, call_replies, call_guesses, told_calls, told_lanes, told_text, AreComplete}
 use Rattle.result_lines.specs.Printed as printed
-use Rattle.result_lines.proofs.Took.{calls_split, calls_only}
+use Rattle.result_lines.proofs.Took.{calls_split, lanes_split}
 use Rattle.result_verdicts.specs.Opened.{opened_with, opened, Keeps}
 use Rattle.result_verdicts.specs.Replies.{item_lines, reply_lines, lane_replies, all_replies}
 use Rattle.result_verdicts.proofs.Limited.{IsLine, lines_of_limits}
@@ -216,13 +216,6 @@ drop_step (y ∷ all) xs (suc i) x is =
     let t = drop_step all xs i x is in
     (t.0, ap (λ (n : ℕ). drop n (y ∷ all)) (let z : suc i + 1 ≡ suc (i + 1) = omega arith in z) ∙ t.1)
 
--- the lines of one lane more
-told_lanes_split : (contexts : List (Option ContextView)) (calls : List CallLine) (lanes : List (List CallLine)) (r1 r2 : List (List ℕ)) (own : List Told) (guesses : List (List Told))
-    → length r1 ≡ printed.lane_replies contexts calls
-    → told_lanes contexts (calls ∷ lanes) (r1 ++ r2) (own ∷ guesses) ≡ told_calls contexts calls r1 own ∷ told_lanes contexts lanes r2 guesses
-told_lanes_split contexts calls lanes r1 r2 own guesses count =
-    (λ i. calls_only contexts calls r1 r2 own count i ∷ told_lanes contexts lanes (drop_at r1 r2 (printed.lane_replies contexts calls) count i) guesses)
-
 module _ (run : Run) (within : IsWithinLimits run.plan) (counted : AreCounted run) where
   -- what is known of a lane
   record Lane (lane : ℕ) (calls : List CallLine) : Type 0 where
@@ -251,7 +244,7 @@ module _ (run : Run) (within : IsWithinLimits run.plan) (counted : AreCounted ru
       let r1 = lane_replies run k calls in
       let r2 = all_lines (numbered (lane_replies run) (k + 1) lanes) in
       (λ i. lane_lines_are run k 0 calls (guesses_of run k) l.lines l.size l.keeps i ∷ lanes_are (k + 1) lanes s.1 i)
-      ∙ sym (told_lanes_split run.contexts calls lanes r1 r2 (own_opened run k calls) (numbered (own_opened run) (k + 1) lanes) (replies_size run k 0 calls))
+      ∙ sym (lanes_split run.contexts calls lanes r1 r2 (own_opened run k calls) (numbered (own_opened run) (k + 1) lanes) (replies_size run k 0 calls))
 
   lines_count : (k : ℕ) (lanes : List (List CallLine))
       → length (all_lines (numbered (lane_replies run) k lanes)) ≡ sum_by (printed.lane_replies run.contexts) lanes
