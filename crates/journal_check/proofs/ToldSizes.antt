@@ -31,6 +31,6 @@ pub has_of : (plan : Plan) (keys : List KeyReply) (replies : List ContextReply) 
 has_of plan keys replies contexts text found is =
     let complete = (told_took plan keys replies contexts text found is).complete in (
       sym (length-map found.lanes batches) ∙ sym (length-map (guesses_told found) (length {A = Batch})) ∙ ap length complete.kept
-      ∙ length-map plan.lanes (lane_guesses contexts),
+          ∙ length-map plan.lanes (lane_guesses contexts),
       complete.size,
     )

@@ -7,6 +7,8 @@ use Rattle.std.proofs.lemmas.List.Sums.{sum_by-cons}
 use Rattle.call_places.specs.declared.entries.Mark.{Mark}
 use Rattle.hpke_context.specs.Contexts.{ContextView}
 use Rattle.field_text.specs.declared.reasons.Reason.{Reason}
+use Rattle.batch_plans.specs.Limits.{items_of}
+use Rattle.batch_plans.specs.Room.{served_batches, served_or}
 use Rattle.batch_plans.specs.declared.plan.Plan.{Plan}
 use Rattle.batch_plans.specs.declared.plan.ContextLine.{ContextLine}
 use Rattle.batch_plans.specs.declared.plan.CallLine.{CallLine}
@@ -23,7 +25,7 @@ use Rattle.result_lines.specs.Forms.{guess_of_line, mark_of_line}
 use Rattle.result_lines.specs.Places.{◌>>=◌, LinesView, MarksFound, next_line, line_due, guess_from, mark_before, marks_from, marks_of, ended, with_feed}
 use Rattle.result_lines.specs.Places as places
 use Rattle.result_lines.specs.Told.{ReplyView, ToldView, nothing_yet, with_line, with_lines, with_reply, with_replies, with_guess, with_served, with_call_unless, with_call, with_calls, with_lane, with_lanes, journal_ended, with_journal, with_journals, with_setup, with_end, told_by}
-use Rattle.result_lines.specs.Printed.{served_replies, served_guesses, replies_unless, guesses_unless, call_replies, call_guesses, lane_replies, lane_guesses, told_calls, told_lanes, told_text, lines_told, guesses_told, IsTextOf}
+use Rattle.result_lines.specs.Printed.{call_replies, call_guesses, lane_replies, lane_guesses, told_calls, told_lanes, told_text, lines_told, guesses_told, IsTextOf}
 use Rattle.result_lines.proofs.FirstLines.{step_ok, ok_is, IsLeft, line_read, due_read, end_read}
 use Rattle.result_lines.proofs.Growing.{concat-append, batches, Grew, moved, stayed, Took, took_more, GrewLanes, lanes_stayed, lanes_more, lane_grew, GrewJournals, journals_stayed, journals_more, journal_grew}
 use Rattle.result_lines.proofs.NumberLines.{guess_read, mark_read}
@@ -155,7 +157,7 @@ one_took told new text left e =
     }
 
 served_took : (call : CallLine) (told new : ToldView) (text : List ℕ) → IsLeft told.lines text → with_served call told ≡ Ok new
-    → TookCalls told new text (served_replies call) (served_guesses call) one_call
+    → TookCalls told new text (items_of call) (served_batches call) one_call
 served_took (calls.Seal context item) told new text left e = one_took told new text left e
 served_took (calls.Unseal context item) told new text left e = one_took told new text left e
 served_took (calls.UnsealAll context first count) told new text left e =
@@ -180,7 +182,7 @@ served_took (calls.UnsealAll context first count) told new text left e =
 served_took (calls.Export context exporter size) told new text left e = one_took told new text left e
 
 call_took : (refusal : Option CallRefusal) (call : CallLine) (told new : ToldView) (text : List ℕ) → IsLeft told.lines text → with_call_unless refusal call told ≡ Ok new
-    → TookCalls told new text (replies_unless refusal call) (guesses_unless refusal call) one_call
+    → TookCalls told new text (served_or refusal (items_of call) 1) (served_or refusal (served_batches call) 0) one_call
 call_took None call told new text left e = served_took call told new text left e
 call_took (Some refusal) call told new text left e = one_took told new text left e
 

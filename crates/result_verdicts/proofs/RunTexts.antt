@@ -18,7 +18,8 @@ use Rattle.batch_plans.specs.declared.replies.Batch.{Batch as Told}
 use Rattle.batch_plans.specs.declared.replies.KeyReply.{KeyReply}
 use Rattle.batch_plans.specs.declared.replies.ContextReply.{ContextReply}
 use Rattle.batch_plans.specs.declared.replies.CallRefusal.{CallRefusal}
-use Rattle.batch_plans.specs.Limits.{items_from, IsWithinLimits}
+use Rattle.batch_plans.specs.Room.{served_batches, served_or}
+use Rattle.batch_plans.specs.Limits.{items_from, IsWithinLimits, items_of}
 use Rattle.reply_texts.specs.Lines.{batch_line}
 use Rattle.reply_texts.specs.ReplyText as texts
 use Rattle.reply_texts.specs.ReplyText.{all_lines, numbered, guess_line}
@@ -26,7 +27,7 @@ use Rattle.due_replies.specs.Standing.{call_refusal}
 use Rattle.due_replies.specs.Asks.{asked_by, ask_unless, ask_of, cipher_at}
 use Rattle.due_replies.specs.Runs.{Run, asks_of, journal_of, guesses_of, place_line, served_lines, lines_unless, call_lines, lane_call_lines, run_text}
 use Rattle.due_replies.proofs.Done.{lane_asks, length-messages}
-use Rattle.result_lines.specs.Printed.{replies_unless, guesses_unless, call_replies, call_guesses, told_calls, told_lanes, told_text, AreComplete}
+use Rattle.result_lines.specs.Printed.{call_replies, call_guesses, told_calls, told_lanes, told_text, AreComplete}
 use Rattle.result_lines.specs.Printed as printed
 use Rattle.result_lines.proofs.Took.{calls_split, lanes_split}
 use Rattle.result_verdicts.specs.Opened.{opened_with, opened, Keeps}
@@ -81,14 +82,14 @@ keeps_now run lane number ask asks guess guesses keeps =
 record Part (run : Run) (lane number : ℕ) (refusal : Option CallRefusal) (call : CallLine) (asks : List Ask) (guesses : List ℕ) : Type 0 where
   own : List Told
   later : List ℕ
-  kept : length own ≡ guesses_unless refusal call
+  kept : length own ≡ served_or refusal (served_batches call) 0
   lines : lines_unless refusal (served_lines run lane number call) ≡ lines_unless refusal (item_lines run lane number call) ++ map guess_line own
   opens : opened run lane number (ask_unless refusal (asked_by run.plan call) ∷ asks) guesses ≡ own ++ opened run lane (number + 1) asks later
   size : length later ≡ guess_count asks
   keeps : Keeps run lane (number + 1) asks later
 
 plain : (run : Run) (lane number : ℕ) (refusal : Option CallRefusal) (call : CallLine) (asks : List Ask) (guesses : List ℕ)
-    → lines_unless refusal (served_lines run lane number call) ≡ lines_unless refusal (item_lines run lane number call) → 0 ≡ guesses_unless refusal call
+    → lines_unless refusal (served_lines run lane number call) ≡ lines_unless refusal (item_lines run lane number call) → 0 ≡ served_or refusal (served_batches call) 0
     → opened run lane number (ask_unless refusal (asked_by run.plan call) ∷ asks) guesses ≡ opened run lane (number + 1) asks guesses
     → length (guess_of (ask_unless refusal (asked_by run.plan call)) 0) ≡ 0 → length guesses ≡ guess_count (ask_unless refusal (asked_by run.plan call) ∷ asks)
     → Keeps run lane number (ask_unless refusal (asked_by run.plan call) ∷ asks) guesses → Part run lane number refusal call asks guesses
@@ -131,7 +132,7 @@ part run lane number None (calls.UnsealAll context first count) asks (guess ∷ 
     }
 
 replies_count : (run : Run) (lane number : ℕ) (refusal : Option CallRefusal) (call : CallLine)
-    → length (lines_unless refusal (item_lines run lane number call)) ≡ replies_unless refusal call
+    → length (lines_unless refusal (item_lines run lane number call)) ≡ served_or refusal (items_of call) 1
 replies_count run lane number (Some refusal) call = refl
 replies_count run lane number None (calls.Seal context item) = refl
 replies_count run lane number None (calls.Unseal context item) = refl
@@ -181,7 +182,7 @@ module _ (run : Run) (lane : ℕ) where
       ∙ sym (sum_by-cons (call_guesses run.contexts) call more)
 
 -- how many guesses the calls of a lane keep, by its asks and by its calls
-one_kept : (plan : Plan) (refusal : Option CallRefusal) (call : CallLine) → length (guess_of (ask_unless refusal (asked_by plan call)) 0) ≡ guesses_unless refusal call
+one_kept : (plan : Plan) (refusal : Option CallRefusal) (call : CallLine) → length (guess_of (ask_unless refusal (asked_by plan call)) 0) ≡ served_or refusal (served_batches call) 0
 one_kept plan (Some refusal) call = refl
 one_kept plan None (calls.Seal context item) = refl
 one_kept plan None (calls.Unseal context item) = refl

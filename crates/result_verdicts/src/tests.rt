@@ -13,7 +13,10 @@ const LINES: [(Verdict, &str); 7] = [
     (Verdict::Journal { context: 255 }, "broken journal 255\n"),
     (Verdict::Stamps, "broken stamps\n"),
     (Verdict::Reply { line: 5 }, "broken reply 5\n"),
-    (Verdict::Guess { line: u32::MAX }, "broken guess 4294967295\n"),
+    (
+        Verdict::Guess { line: u32::MAX },
+        "broken guess 4294967295\n",
+    ),
 ];
 
 #[test]
