@@ -1,6 +1,6 @@
 -- The text that tells given replies, guesses and journals as a result of a plan. Of the lines of its
 -- calls each reply line is given, with its line feed.
-use Rattle.std.specs.Prelude.{ℕ, ◌≡◌, ◌<◌, ◌≤◌, ◌^◌, ◌==◌, List, [], ◌∷◌, ◌++◌, Bool, true, false, length, map, take, drop, sum_by, Option, Some, None, Ok}
+use Rattle.std.specs.Prelude.{ℕ, ◌≡◌, ◌<◌, ◌≤◌, ◌^◌, ◌==◌, List, [], ◌∷◌, ◌++◌, Bool, true, false, length, map, take, drop, sum_by, Option, Ok}
 use Rattle.std.specs.List.{All, concat}
 use Rattle.call_places.specs.declared.entries.Mark.{Mark}
 use Rattle.hpke_context.specs.Contexts.{ContextView}
