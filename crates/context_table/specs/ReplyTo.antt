@@ -5,7 +5,7 @@ use Rattle.hpke_context.specs.Contexts.{ContextView}
 use Rattle.batch_plans.specs.declared.plan.Plan.{Plan}
 use Rattle.batch_plans.specs.declared.replies.KeyReply.{KeyReply}
 use Rattle.batch_plans.specs.declared.replies.ContextReply.{ContextReply}
-use Rattle.due_replies.specs.Runs.{Run, IsAllowed, run_text}
+use Rattle.due_replies.specs.Runs.{IsAllowed, run_text}
 use Rattle.context_table.specs.SetUp.{IsSetUp}
 
 -- the text replies to the plan's set-up, and to its calls along journals and guesses, which it

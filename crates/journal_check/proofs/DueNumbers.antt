@@ -11,7 +11,7 @@ use Rattle.legal_journals.proofs.Members.{In, got, value_at}
 use Rattle.legal_journals.proofs.OneLane.{taken_more}
 use Rattle.legal_journals.proofs.Places.{own_lane}
 use Rattle.journal_check.specs.Passing.{Reaches}
-use Rattle.journal_check.proofs.Walks.{drop_next}
+use Rattle.told_journals.proofs.Walks.{drop_next}
 use Rattle.journal_check.proofs.Pulling.{no_place}
 
 -- ---- up to a place of the lane

@@ -1,11 +1,8 @@
 -- The verdict is Legal exactly for the replies that a plan may have.
-use Rattle.std.proofs.Common.{◌≡◌, ◌↔◌, ℕ, List, Option, refl, sym, ap, ◌∙◌, subst}
-use Rattle.call_places.specs.declared.entries.Mark.{Mark}
+use Rattle.std.proofs.Common.{◌≡◌, ◌↔◌, ℕ, List, Option, sym, ◌∙◌, subst}
 use Rattle.hpke_context.specs.Contexts.{ContextView}
 use Rattle.batch_plans.specs.Limits.{IsWithinLimits}
 use Rattle.batch_plans.specs.declared.plan.Plan.{Plan}
-use Rattle.batch_plans.specs.declared.replies.ContextReply.{ContextReply}
-use Rattle.batch_plans.specs.declared.replies.KeyReply.{KeyReply}
 use Rattle.due_replies.specs.Runs.{IsAllowed, run_text}
 use Rattle.context_table.specs.ReplyTo.{IsReply}
 use Rattle.context_table.proofs.OneSetUp.{one_set_up_lem}

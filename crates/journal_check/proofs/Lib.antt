@@ -1,8 +1,3 @@
-pub mod Walks
-pub mod Asking
-pub mod Blocks
-pub mod Putting
-pub mod OneHistory
 pub mod AskedItems
 pub mod Slots
 pub mod Pulling

@@ -23,11 +23,13 @@ use Rattle.due_replies.specs.Standing.{standing_at, call_refusal}
 use Rattle.due_replies.specs.Asks.{cipher_at}
 use Rattle.due_replies.specs.Runs.{Run, asks_of}
 use Rattle.journal_check.specs.declared.runs.JournalRun.{JournalRun}
-use Rattle.journal_check.specs.Asks.{items_asked, asked_unless, places_from}
+use Rattle.told_journals.specs.Asks.{items_asked, asked_unless, places_from}
 use Rattle.result_verdicts.specs.Guesses.{is_right}
 use Rattle.journal_check.specs.Walks.{Points}
 use Rattle.journal_check.specs.Passing.{is_right_by, Reaches, AllReach, AreNumbersOf, AreLegal, AreNumbered}
-use Rattle.journal_check.proofs.ServedCalls.{length-block, stands_for, there_for, own_here}
+use Rattle.result_verdicts.proofs.RunTexts.{length-block}
+use Rattle.result_verdicts.proofs.DueReplies.{stands_for}
+use Rattle.journal_check.proofs.ServedCalls.{there_for, own_here}
 
 -- ---- the first place of a lane
 

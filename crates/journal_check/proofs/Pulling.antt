@@ -12,7 +12,7 @@ use Rattle.journal_check.specs.declared.halts.Halt.{Halt}
 use Rattle.journal_check.specs.declared.halts.Halt.TheVariants.{OutOfMemory, Ended, Wrong}
 use Rattle.result_verdicts.specs.Replies.{wrong_reply}
 use Rattle.journal_check.specs.Walks.{Holds}
-use Rattle.journal_check.proofs.Walks.{drop_next}
+use Rattle.told_journals.proofs.Walks.{drop_next}
 
 -- ---- the next place
 

@@ -14,21 +14,9 @@ use Rattle.batch_plans.specs.declared.replies.CallRefusal.{CallRefusal}
 use Rattle.due_replies.specs.Standing.{standing_at, refusal_on, call_refusal}
 use Rattle.due_replies.specs.Runs.{Run, place_line}
 use Rattle.journal_check.specs.declared.runs.JournalRun.{JournalRun}
-use Rattle.journal_check.specs.Asks.{items_asked, asked_unless, asked_in, places_asked, places_from}
+use Rattle.result_verdicts.proofs.DueReplies.{stands_for}
+use Rattle.told_journals.specs.Asks.{items_asked, asked_unless, asked_in, places_asked, places_from}
 use Rattle.journal_check.specs.Walks.{Points, AreRepliesOf}
-
-pub length-block : (lane call i n : ℕ) → length (block lane call i n) ≡ n
-length-block lane call i zero = refl
-length-block lane call i (suc n) = ap suc (length-block lane call (i + 1) n)
-
--- the context of a call that is served stands
-pub stands_for : (contexts : List (Option ContextView)) (call : CallLine) → call_refusal contexts call ≡ None
-    → (context : ContextView) × (standing_at contexts (context_of call) ≡ Some context)
-stands_for contexts call free = go (standing_at contexts (context_of call)) refl free
-  where
-    go : (o : Option ContextView) → standing_at contexts (context_of call) ≡ o → refusal_on o call ≡ None → (context : ContextView) × (standing_at contexts (context_of call) ≡ Some context)
-    go None is free = absurd cc
-    go (Some context) is free = (context, is)
 
 module _ (contexts : List (Option ContextView)) (journals : List (List Mark)) (lane number : ℕ) (call : CallLine) (more : List CallLine) (cursors : List ℕ)
     (points : Points contexts journals lane number (call ∷ more) cursors) (c n : ℕ) (asks : items_asked call ≡ Some (c, n)) (free : call_refusal contexts call ≡ None)

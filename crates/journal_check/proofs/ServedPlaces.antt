@@ -25,7 +25,7 @@ use Rattle.due_replies.specs.Asks.{asked_by, ask_unless, ask_of, batch_of}
 use Rattle.journal_check.specs.declared.items.Asked.{Asked}
 use Rattle.journal_check.specs.declared.items.Asked.TheVariants.{Seal, Open}
 use Rattle.journal_check.specs.Runs.{asked_in_call, asked_at, item_view, asked_and, items_at, CanDo}
-use Rattle.journal_check.proofs.Asking.{asks_of_lane}
+use Rattle.told_journals.proofs.Asking.{asks_of_lane}
 
 -- ---- what a context can do that refuses nothing
 

@@ -1,5 +1,5 @@
 -- What follows where no journal is broken.
-use Rattle.std.proofs.Common.{◌≡◌, ℕ, zero, suc, ◌+◌, ◌<◌, Bool, true, false, cond, List, [], ◌∷◌, length, map, Option, Some, None, Result, Ok, Err, refl, sym, ap, ◌∙◌, subst, inl, inr, arith}
+use Rattle.std.proofs.Common.{◌≡◌, ℕ, ◌<◌, Bool, List, [], ◌∷◌, length, map, Option, Some, None, Result, Ok, Err, sym, ap, ◌∙◌, subst, inl, inr, arith}
 use Rattle.std.specs.Prelude.{slice_index_or, IfOk}
 use Rattle.std.specs.List.{All}
 use Rattle.std.proofs.lemmas.Bool.{cases_lt}
@@ -7,15 +7,13 @@ use Rattle.std.proofs.lemmas.List.{get_or_past, length-map}
 use Rattle.call_places.specs.declared.entries.Mark.{Mark}
 use Rattle.hpke_context.specs.Answers.{Item, run as run_items}
 use Rattle.hpke_context.specs.Contexts.{ContextView, cipher_of}
-use Rattle.legal_journals.specs.Batches.{Batch, Ask, on, all_asked, items_of}
-use Rattle.legal_journals.specs.Checks.{is_legal}
+use Rattle.legal_journals.specs.Batches.{Ask, on, all_asked, items_of}
 use Rattle.legal_journals.specs.Entries.{numbers_from}
 use Rattle.legal_journals.specs.Histories.{marks_at, places}
 use Rattle.legal_journals.specs.Legal.{Legal}
 use Rattle.legal_journals.proofs.Checking.{legal_iff}
 use Rattle.legal_journals.proofs.Legals.{lane_is}
 use Rattle.legal_journals.proofs.Members.{In}
-use Rattle.legal_journals.proofs.Truths.{and_left}
 use Rattle.batch_plans.specs.declared.plan.Plan.{Plan}
 use Rattle.batch_plans.specs.Limits.{IsWithinLimits}
 use Rattle.due_replies.specs.Standing.{standing_at}
@@ -26,7 +24,7 @@ use Rattle.reply_texts.specs.ReplyText.{has_stamps}
 use Rattle.result_lines.specs.Told.{ToldView}
 use Rattle.result_verdicts.specs.declared.verdicts.Verdict.{Verdict}
 use Rattle.result_verdicts.specs.Guesses.{wrong_guesses}
-use Rattle.result_verdicts.specs.Journals.{is_journal, broken_journal, is_one_history}
+use Rattle.result_verdicts.specs.Journals.{broken_journal, is_one_history}
 use Rattle.result_verdicts.specs.Replies.{all_replies, wrong_reply}
 use Rattle.result_verdicts.specs.Verdicts.{run_told, by_journal, by_stamps, by_reply, by_guess, or_later, verdict_on}
 use Rattle.journal_check.specs.Passing.{AreNumbersOf, AreLegal, HaveNumbers}
@@ -34,7 +32,7 @@ use Rattle.journal_check.specs.Runs.{items_at, AreRuns, AreFor}
 use Rattle.journal_check.specs.Walks.{AreRepliesOf, AreLong, HaveLanes}
 use Rattle.result_verdicts.proofs.Limited.{IsLine, lines_of_limits}
 use Rattle.result_verdicts.proofs.LegalJournals.{none_broken}
-use Rattle.journal_check.proofs.Asking.{from_asked, asks_of_lane}
+use Rattle.told_journals.proofs.Asking.{from_asked, asks_of_lane}
 use Rattle.journal_check.proofs.ServedPlaces.{asked_served, items_same}
 use Rattle.journal_check.proofs.LegalRuns.{all_served, lines_of_run, numbers_of_run}
 

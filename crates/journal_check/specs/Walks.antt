@@ -12,7 +12,7 @@ use Rattle.result_lines.specs.Told.{ReplyView}
 use Rattle.journal_check.specs.declared.halts.Halt.{Halt}
 use Rattle.journal_check.specs.declared.halts.Halt.TheVariants.{OutOfMemory, Ended, Wrong}
 use Rattle.journal_check.specs.declared.runs.JournalRun.{JournalRun}
-use Rattle.journal_check.specs.Asks.{places_from}
+use Rattle.told_journals.specs.Asks.{places_from}
 use Rattle.result_verdicts.specs.Replies.{wrong_reply}
 
 -- replies were held against the lines that are due: they are those, or the first that isn't was found

@@ -19,8 +19,6 @@ ghost use Rattle.journal_check.specs.Passing.{AreNumbersOf, AreLegal, HaveNumber
 ghost use Rattle.journal_check.specs.Walks.{AreRepliesOf, AreLong, HaveLanes};
 
 use crate::guesses::wrong_guesses;
-use crate::histories::is_one_history;
-use crate::journals::broken_journal;
 use crate::replies::wrong_reply;
 use crate::runs::{JournalRun, run_journals};
 use batch_plans::{PlainList, Plan};
@@ -32,6 +30,7 @@ use result_verdicts::Verdict;
 use ring_core::Multiplier;
 use std::alloc::{AllocError, Global};
 use std::thread::Threads;
+use told_journals::{broken_journal, is_one_history};
 
 // A journal that isn't legal, or stamps that make no history.
 fn wrong_journal(

@@ -17,12 +17,11 @@ ghost use Rattle.result_verdicts.specs.Guesses.{is_right as is_right_of};
 ghost use Rattle.result_verdicts.specs.Guesses.{wrong_guess as wrong_guess_of};
 ghost use Rattle.result_verdicts.specs.Guesses.{wrong_guesses as wrong_guesses_of};
 ghost use Rattle.batch_plans.specs.Limits.{IsCallWithin, IsWithinLimits};
-ghost use Rattle.journal_check.specs.Asks.{places_from};
+ghost use Rattle.told_journals.specs.Asks.{places_from};
 ghost use Rattle.journal_check.specs.Passing.{is_right_by, Reaches, AllReach, AreNumbersOf};
 ghost use Rattle.journal_check.specs.Passing.{AreLegal, AreNumbered, HaveNumbers, is_opening as is_opening_of};
 ghost use Rattle.journal_check.specs.Walks.{Points, HaveLanes};
 
-use crate::asks::asked_of;
 use crate::lane_walks::next_own;
 use crate::runs::JournalRun;
 use batch_plans::{Batch, CallLine, PlainList, Plan};
@@ -30,6 +29,7 @@ use call_places::Mark;
 use hpke_context::Context;
 use result_lines::{GuessLine, refusal_of};
 use std::alloc::{AllocError, Global};
+use told_journals::asked_of;
 
 // Whether a number lies in the window of an item: `guess` + i - k for k from 0 to min(i, 3).
 fn is_in_window(guess: u64, i: u64, number: u64) -> bool

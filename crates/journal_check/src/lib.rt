@@ -11,17 +11,13 @@
 //! each lane; stamps are put in order by their numbers.
 #![tactic(auto)]
 
-mod asks;
 mod checking;
 mod guesses;
 mod halts;
-mod histories;
 mod items;
-mod journals;
 mod lane_walks;
 mod replies;
 mod runs;
-mod spots;
 
 pub use checking::check_result;
 pub use result_verdicts::Verdict;

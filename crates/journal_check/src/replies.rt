@@ -13,7 +13,7 @@ ghost use Rattle.reply_texts.specs.Lines.{exported_line, refused_line};
 ghost use Rattle.due_replies.specs.Standing.{standing_at, call_refusal};
 ghost use Rattle.due_replies.specs.Runs.{Run, export_line as export_line_of};
 ghost use Rattle.journal_check.specs.declared.runs.JournalRun.{JournalRun};
-ghost use Rattle.journal_check.specs.Asks.{places_from};
+ghost use Rattle.told_journals.specs.Asks.{places_from};
 ghost use Rattle.result_verdicts.specs.Replies.{item_lines, reply_lines, lane_replies, all_replies};
 ghost use Rattle.result_verdicts.specs.Replies.{wrong_reply as wrong_reply_of};
 ghost use Rattle.journal_check.specs.Walks.{Holds, Points, AreRepliesOf, AreSized};

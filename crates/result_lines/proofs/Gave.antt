@@ -1,5 +1,5 @@
 -- The text of what may be told is read back, step by step.
-use Rattle.std.proofs.Common.{◌≡◌, ℕ, zero, suc, ◌+◌, ◌≤◌, Bool, true, false, List, [], ◌∷◌, ◌++◌, length, map, take, drop, codes, decimal, Option, Some, None, Result, Ok, Err, refl, sym, ap, ◌∙◌, subst, append_assoc, append-nil, length-append, arith}
+use Rattle.std.proofs.Common.{◌≡◌, ℕ, zero, suc, ◌+◌, Bool, List, [], ◌∷◌, ◌++◌, length, map, take, drop, codes, decimal, Option, Some, None, Result, Ok, Err, refl, sym, ap, ◌∙◌, subst, append_assoc, append-nil, arith}
 use Rattle.std.specs.Prelude.{sum_by}
 use Rattle.std.specs.List.{concat, All}
 use Rattle.std.proofs.lemmas.List.{map-append, length-drop, length-take-le, take-append-drop}
@@ -8,9 +8,10 @@ use Rattle.std.proofs.lemmas.List.Sums.{sum_by-cons}
 use Rattle.call_places.specs.declared.entries.Mark.{Mark}
 use Rattle.hpke_context.specs.Contexts.{ContextView}
 use Rattle.field_text.specs.declared.reasons.Reason.{Reason}
-use Rattle.field_text.specs.declared.reasons.Reason.TheVariants.{Number}
 use Rattle.field_text.specs.Cuts.{lines_of, pieces_of}
 use Rattle.field_text.specs.Fields.{number}
+use Rattle.batch_plans.specs.Limits.{items_of}
+use Rattle.batch_plans.specs.Room.{served_batches, served_or}
 use Rattle.batch_plans.specs.declared.plan.Plan.{Plan}
 use Rattle.batch_plans.specs.declared.plan.ContextLine.{ContextLine}
 use Rattle.batch_plans.specs.declared.plan.CallLine.{CallLine}
@@ -20,14 +21,14 @@ use Rattle.batch_plans.specs.declared.replies.KeyReply.{KeyReply}
 use Rattle.batch_plans.specs.declared.replies.ContextReply.{ContextReply}
 use Rattle.batch_plans.specs.declared.replies.CallRefusal.{CallRefusal}
 use Rattle.reply_texts.specs.Lines.{key_line, context_line}
-use Rattle.reply_texts.specs.ReplyText.{guess_line, all_lines, numbered, lane_lines, mark_line, journal_lines, version_line, reply_lines, has_stamps}
+use Rattle.reply_texts.specs.ReplyText.{guess_line, all_lines, numbered, lane_lines, mark_line, journal_lines, version_line, has_stamps}
 use Rattle.due_replies.specs.Standing.{call_refusal}
 use Rattle.result_lines.specs.declared.told.GuessLine.{GuessLine}
-use Rattle.result_lines.specs.Forms.{guess_of_line, mark_of_line}
+use Rattle.result_lines.specs.Forms.{mark_of_line}
 use Rattle.result_lines.specs.Places.{◌>>=◌, LinesView, MarksFound, next_line, line_due, guess_from, marks_of, ended, with_feed}
 use Rattle.result_lines.specs.Places as places
 use Rattle.result_lines.specs.Told.{ReplyView, ToldView, nothing_yet, with_line, with_lines, with_reply, with_replies, with_guess, with_served, with_call_unless, with_call, with_calls, with_lane, with_lanes, journal_ended, with_journal, with_journals, with_setup, with_end, told_by}
-use Rattle.result_lines.specs.Printed.{served_replies, served_guesses, replies_unless, guesses_unless, call_replies, call_guesses, lane_replies, lane_guesses, told_calls, told_lanes, told_text, lines_told, guesses_told, AreComplete, IsLine, IsGuessWithin, IsMarkWithin, IsReadBack}
+use Rattle.result_lines.specs.Printed.{call_replies, call_guesses, lane_replies, lane_guesses, told_calls, told_lanes, told_text, lines_told, AreComplete, IsLine, IsGuessWithin, IsMarkWithin, IsReadBack}
 use Rattle.result_lines.proofs.Cursors.{mark_taken, mark_left, prepended, journal_ends, journal_goes_on}
 use Rattle.result_lines.proofs.FirstLines.{HasNoFeed, step_gives, IsLeft, behind_line, cut_line, line_given, due_given, end_given}
 use Rattle.result_lines.proofs.Growing.{concat-append, batches, Grew, moved, stayed, grew_more, Gave, gave_more, GrewLanes, lanes_stayed, lanes_more, lane_grew, GrewJournals, journals_stayed, journals_more, journal_grew}
@@ -133,16 +134,16 @@ opening_gave n lines (g ∷ []) told after count kept all within left =
     (replies_gave n lines told (guess_line g ++ after) count all (other_left text left))
     (λ mid here. guess_gave g mid after (All-head IsGuessWithin g [] within) here))
 
-served_gave : (call : CallLine) (lines : List (List ℕ)) (guesses : List Batch) (told : ToldView) (after : List ℕ) → length lines ≡ served_replies call
-    → length guesses ≡ served_guesses call → All IsLine lines → All IsGuessWithin guesses → IsLeft told.lines (concat (one_call lines guesses) ++ after)
+served_gave : (call : CallLine) (lines : List (List ℕ)) (guesses : List Batch) (told : ToldView) (after : List ℕ) → length lines ≡ items_of call
+    → length guesses ≡ served_batches call → All IsLine lines → All IsGuessWithin guesses → IsLeft told.lines (concat (one_call lines guesses) ++ after)
     → Gave (with_served call told) told after lines guesses
 served_gave (calls.Seal context item) lines guesses told after count kept all within left = one_gave lines guesses told after count kept all left
 served_gave (calls.Unseal context item) lines guesses told after count kept all within left = one_gave lines guesses told after count kept all left
 served_gave (calls.UnsealAll context first n) lines guesses told after count kept all within left = opening_gave n lines guesses told after count kept all within left
 served_gave (calls.Export context exporter size) lines guesses told after count kept all within left = one_gave lines guesses told after count kept all left
 
-call_gave : (refusal : Option CallRefusal) (call : CallLine) (lines : List (List ℕ)) (guesses : List Batch) (told : ToldView) (after : List ℕ) → length lines ≡ replies_unless refusal call
-    → length guesses ≡ guesses_unless refusal call → All IsLine lines → All IsGuessWithin guesses → IsLeft told.lines (concat (one_call lines guesses) ++ after)
+call_gave : (refusal : Option CallRefusal) (call : CallLine) (lines : List (List ℕ)) (guesses : List Batch) (told : ToldView) (after : List ℕ) → length lines ≡ served_or refusal (items_of call) 1
+    → length guesses ≡ served_or refusal (served_batches call) 0 → All IsLine lines → All IsGuessWithin guesses → IsLeft told.lines (concat (one_call lines guesses) ++ after)
     → Gave (with_call_unless refusal call told) told after lines guesses
 call_gave None call lines guesses told after count kept all within left = served_gave call lines guesses told after count kept all within left
 call_gave (Some refusal) call lines guesses told after count kept all within left = one_gave lines guesses told after count kept all left

@@ -1,9 +1,9 @@
 -- Lines of numbers: what a line was read as, it prints, and what is printed is read back.
-use Rattle.std.proofs.Common.{◌≡◌, ℕ, ◌+◌, ◌<◌, ◌≤◌, ◌^◌, ◌==◌, ◌&&◌, not, nat_le, Bool, true, false, cond, List, [], ◌∷◌, ◌++◌, length, get_or, codes, decimal, Result, Ok, Err, refl, sym, ap, ◌∙◌, subst, append_assoc, append-nil, inl, inr, arith}
-use Rattle.std.specs.List.{list_all, All, join_with_byte, slice_split}
+use Rattle.std.proofs.Common.{◌≡◌, ℕ, ◌<◌, ◌≤◌, ◌^◌, ◌==◌, ◌&&◌, not, Bool, true, false, cond, List, [], ◌∷◌, ◌++◌, length, get_or, codes, decimal, Result, Ok, Err, refl, sym, ap, ◌∙◌, append_assoc, append-nil, inl, inr, arith}
+use Rattle.std.specs.List.{list_all, All, join_with_byte}
 use Rattle.std.specs.Str.{bytes_eq}
 use Rattle.std.specs.Str.Parse.{AllDigits, digits_value}
-use Rattle.std.specs.Char.{is_ascii_digit, digit_value}
+use Rattle.std.specs.Char.{is_ascii_digit}
 use Rattle.std.proofs.lemmas.Bool.{cases_lt}
 use Rattle.std.proofs.lemmas.Bool.Decides.{nat_tests}
 use Rattle.std.proofs.lemmas.Fmt.{digits_decimal, digits_value-decimal, decimal_nonempty, decimal_digit, first_decimal}
@@ -15,19 +15,18 @@ use Rattle.call_places.specs.declared.entries.Mark.{Mark}
 use Rattle.decimal_text.specs.Decimals.{is_decimal, is_from_to}
 use Rattle.field_text.specs.declared.reasons.Reason.{Reason}
 use Rattle.field_text.specs.declared.reasons.Reason.TheVariants.{Word, Fields, Number, Range}
-use Rattle.field_text.specs.Cuts.{pieces_of, space}
+use Rattle.field_text.specs.Cuts.{pieces_of}
 use Rattle.field_text.specs.Fields as fields
 use Rattle.field_text.specs.Fields.{number, next, exactly}
-use Rattle.field_text.proofs.Spellings.{joined, step_ok, choice_ok, next_ok, exactly_ok, number_ok, ok_same}
+use Rattle.field_text.proofs.Spellings.{joined, step_ok, next_ok, exactly_ok, number_ok, ok_same}
 use Rattle.batch_plans.specs.Limits.{most_opening}
 use Rattle.batch_plans.specs.declared.replies.Batch.{Batch}
 use Rattle.legal_journals.specs.Batches.{place}
 use Rattle.legal_journals.specs.Histories.{mark}
-use Rattle.reply_texts.specs.Lines.{batch_line}
 use Rattle.reply_texts.specs.ReplyText.{guess_line, mark_line, stamp_words}
-use Rattle.result_lines.specs.Forms.{word_of, behind, batch_word, guess_in, coordinate, stamp_in, mark_size, mark_in, guess_of_line, mark_of_line}
+use Rattle.result_lines.specs.Forms.{word_of, behind, batch_word, guess_in, coordinate, mark_size, mark_in, guess_of_line, mark_of_line}
 use Rattle.result_lines.specs.Places.{with_feed}
-use Rattle.result_lines.specs.Printed.{IsLine, IsGuessWithin, IsStampWithin, IsMarkWithin}
+use Rattle.result_lines.specs.Printed.{IsLine, IsGuessWithin, IsMarkWithin}
 use Rattle.result_lines.proofs.FirstLines.{HasNoFeed}
 use Rattle.result_lines.proofs.PlainLines.{tested}
 

@@ -1,16 +1,14 @@
 -- What is printed as a line has one line feed, at its end.
-use Rattle.std.proofs.Common.{◌≡◌, ℕ, zero, suc, ◌+◌, ◌/◌, ◌%◌, ◌<◌, ◌==◌, not, nat_lt, Bool, true, false, cond, List, [], ◌∷◌, ◌++◌, length, codes, decimal, refl, sym, ap, ◌∙◌, inl, inr, arith}
+use Rattle.std.proofs.Common.{◌≡◌, ℕ, zero, suc, ◌/◌, ◌%◌, ◌==◌, not, Bool, true, false, cond, List, [], ◌∷◌, ◌++◌, codes, decimal, refl, ap, inl, inr, arith}
 use Rattle.std.specs.Fmt.{digits, digits_onto, digit_glyph}
-use Rattle.std.specs.List.{list_all, All}
-use Rattle.std.specs.Prelude.{slice_index, Option, Some, None}
+use Rattle.std.specs.List.{list_all}
+use Rattle.std.specs.Prelude.{slice_index}
 use Rattle.std.proofs.lemmas.Bool.{agree_below_at, and_parts, cases_lt}
 use Rattle.std.proofs.lemmas.Bool.Decides.{nat_tests}
 use Rattle.std.proofs.lemmas.List.{get_or_past}
 use Rattle.std.proofs.lemmas.List.Elements.{All-cons, All-nil, All-append}
 use Rattle.hex.specs.Hex.{encode_with, encode_lower, lower_digits}
-use Rattle.call_places.specs.Spans.{span_bytes}
 use Rattle.hpke_context.specs.Answers.{Answer, Sealed_at, Opened_at, Failed_at, At_limit}
-use Rattle.hpke_context.specs.Contexts.{ContextView, exported_by}
 use Rattle.field_text.specs.Printing.{hex_text}
 use Rattle.batch_plans.specs.declared.replies.KeyReply.{KeyReply}
 use Rattle.batch_plans.specs.declared.replies.KeyReply.TheVariants as keys
@@ -23,10 +21,8 @@ use Rattle.batch_plans.specs.declared.replies.ContextRefusal.TheVariants.{NoKey,
 use Rattle.batch_plans.specs.declared.replies.CallRefusal.{CallRefusal}
 use Rattle.batch_plans.specs.declared.replies.CallRefusal.TheVariants as calls
 use Rattle.reply_texts.specs.Words.{key_refusal_word, context_refusal_word, call_refusal_word}
-use Rattle.reply_texts.specs.Lines.{key_words, key_line, context_words, context_line, served_line, failed_line, limit_line, exported_line, refused_line}
-use Rattle.reply_texts.specs.ReplyText.{version_line}
-use Rattle.due_replies.specs.Runs.{answer_line, export_line}
-use Rattle.result_lines.specs.Places.{with_feed}
+use Rattle.reply_texts.specs.Lines.{key_words, key_line, context_words, context_line, exported_line, refused_line}
+use Rattle.due_replies.specs.Runs.{answer_line}
 use Rattle.result_lines.specs.Printed.{IsLine}
 use Rattle.result_lines.proofs.FirstLines.{HasNoFeed}
 

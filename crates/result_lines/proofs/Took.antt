@@ -1,5 +1,5 @@
 -- What was read step by step is the text of what it tells.
-use Rattle.std.proofs.Common.{◌≡◌, ℕ, zero, suc, ◌+◌, ◌≤◌, Bool, true, false, List, [], ◌∷◌, ◌++◌, length, map, take, drop, codes, decimal, Option, Some, None, Result, Ok, Err, refl, sym, ap, ◌∙◌, subst, append_assoc, append-nil, length-append, arith}
+use Rattle.std.proofs.Common.{◌≡◌, ℕ, zero, suc, ◌+◌, ◌≤◌, Bool, List, [], ◌∷◌, ◌++◌, length, map, take, drop, codes, decimal, Option, Some, None, Result, Ok, Err, refl, sym, ap, ◌∙◌, subst, append_assoc, append-nil, length-append, arith}
 use Rattle.std.specs.Prelude.{sum_by}
 use Rattle.std.specs.List.{concat}
 use Rattle.std.proofs.lemmas.List.{map-append, take_at, drop_at, length-drop, take-append-le, drop-append-le}
@@ -7,6 +7,8 @@ use Rattle.std.proofs.lemmas.List.Sums.{sum_by-cons}
 use Rattle.call_places.specs.declared.entries.Mark.{Mark}
 use Rattle.hpke_context.specs.Contexts.{ContextView}
 use Rattle.field_text.specs.declared.reasons.Reason.{Reason}
+use Rattle.batch_plans.specs.Limits.{items_of}
+use Rattle.batch_plans.specs.Room.{served_batches, served_or}
 use Rattle.batch_plans.specs.declared.plan.Plan.{Plan}
 use Rattle.batch_plans.specs.declared.plan.ContextLine.{ContextLine}
 use Rattle.batch_plans.specs.declared.plan.CallLine.{CallLine}
@@ -16,16 +18,16 @@ use Rattle.batch_plans.specs.declared.replies.KeyReply.{KeyReply}
 use Rattle.batch_plans.specs.declared.replies.ContextReply.{ContextReply}
 use Rattle.batch_plans.specs.declared.replies.CallRefusal.{CallRefusal}
 use Rattle.reply_texts.specs.Lines.{key_line, context_line}
-use Rattle.reply_texts.specs.ReplyText.{guess_line, all_lines, numbered, lane_lines, mark_line, journal_lines, setup_lines, version_line, reply_lines, has_stamps}
+use Rattle.reply_texts.specs.ReplyText.{guess_line, all_lines, numbered, lane_lines, mark_line, journal_lines, version_line, reply_lines, has_stamps}
 use Rattle.due_replies.specs.Standing.{call_refusal}
 use Rattle.result_lines.specs.declared.told.GuessLine.{GuessLine}
 use Rattle.result_lines.specs.Forms.{guess_of_line, mark_of_line}
 use Rattle.result_lines.specs.Places.{◌>>=◌, LinesView, MarksFound, next_line, line_due, guess_from, mark_before, marks_from, marks_of, ended, with_feed}
 use Rattle.result_lines.specs.Places as places
-use Rattle.result_lines.specs.Told.{ReplyView, ToldView, nothing_yet, with_line, with_lines, with_reply, with_replies, with_guess, with_served, with_call_unless, with_call, with_calls, lane_ended, with_lane, with_lanes, journal_ended, with_journal, with_journals, with_setup, with_end, told_by}
-use Rattle.result_lines.specs.Printed.{served_replies, served_guesses, replies_unless, guesses_unless, call_replies, call_guesses, lane_replies, lane_guesses, told_calls, told_lanes, told_text, lines_told, guesses_told, AreComplete, IsTextOf}
+use Rattle.result_lines.specs.Told.{ReplyView, ToldView, nothing_yet, with_line, with_lines, with_reply, with_replies, with_guess, with_served, with_call_unless, with_call, with_calls, with_lane, with_lanes, journal_ended, with_journal, with_journals, with_setup, with_end, told_by}
+use Rattle.result_lines.specs.Printed.{call_replies, call_guesses, lane_replies, lane_guesses, told_calls, told_lanes, told_text, lines_told, guesses_told, IsTextOf}
 use Rattle.result_lines.proofs.FirstLines.{step_ok, ok_is, IsLeft, line_read, due_read, end_read}
-use Rattle.result_lines.proofs.Growing.{concat-append, batches, Grew, moved, stayed, grew_more, Took, took_more, GrewLanes, lanes_stayed, lanes_more, lane_grew, GrewJournals, journals_stayed, journals_more, journal_grew}
+use Rattle.result_lines.proofs.Growing.{concat-append, batches, Grew, moved, stayed, Took, took_more, GrewLanes, lanes_stayed, lanes_more, lane_grew, GrewJournals, journals_stayed, journals_more, journal_grew}
 use Rattle.result_lines.proofs.NumberLines.{guess_read, mark_read}
 
 -- ---- lines as they are printed
@@ -155,7 +157,7 @@ one_took told new text left e =
     }
 
 served_took : (call : CallLine) (told new : ToldView) (text : List ℕ) → IsLeft told.lines text → with_served call told ≡ Ok new
-    → TookCalls told new text (served_replies call) (served_guesses call) one_call
+    → TookCalls told new text (items_of call) (served_batches call) one_call
 served_took (calls.Seal context item) told new text left e = one_took told new text left e
 served_took (calls.Unseal context item) told new text left e = one_took told new text left e
 served_took (calls.UnsealAll context first count) told new text left e =
@@ -180,7 +182,7 @@ served_took (calls.UnsealAll context first count) told new text left e =
 served_took (calls.Export context exporter size) told new text left e = one_took told new text left e
 
 call_took : (refusal : Option CallRefusal) (call : CallLine) (told new : ToldView) (text : List ℕ) → IsLeft told.lines text → with_call_unless refusal call told ≡ Ok new
-    → TookCalls told new text (replies_unless refusal call) (guesses_unless refusal call) one_call
+    → TookCalls told new text (served_or refusal (items_of call) 1) (served_or refusal (served_batches call) 0) one_call
 call_took None call told new text left e = served_took call told new text left e
 call_took (Some refusal) call told new text left e = one_took told new text left e
 
@@ -283,13 +285,11 @@ calls_only contexts (call ∷ calls) lines more guesses count =
     ∙ ap (λ (ls : List (List ℕ)). take n lines ++ (map guess_line (take m guesses) ++ ls)) (calls_only contexts calls (drop n lines) more (drop m guesses) rest)
 
 -- the lines of one lane more
-pub lanes_split : (contexts : List (Option ContextView)) (number : ℕ) (calls : List CallLine) (lanes : List (List CallLine)) (r1 r2 : List (List ℕ)) (own : List Batch) (guesses : List (List Batch))
+pub lanes_split : (contexts : List (Option ContextView)) (calls : List CallLine) (lanes : List (List CallLine)) (r1 r2 : List (List ℕ)) (own : List Batch) (guesses : List (List Batch))
     → length r1 ≡ lane_replies contexts calls
-    → numbered lane_lines number (told_lanes contexts (calls ∷ lanes) (r1 ++ r2) (own ∷ guesses))
-    ≡ lane_lines number (told_calls contexts calls r1 own) ∷ numbered lane_lines (number + 1) (told_lanes contexts lanes r2 guesses)
-lanes_split contexts number calls lanes r1 r2 own guesses count =
-    (λ i. lane_lines number (calls_only contexts calls r1 r2 own count i)
-    ∷ numbered lane_lines (number + 1) (told_lanes contexts lanes (drop_at r1 r2 (lane_replies contexts calls) count i) guesses))
+    → told_lanes contexts (calls ∷ lanes) (r1 ++ r2) (own ∷ guesses) ≡ told_calls contexts calls r1 own ∷ told_lanes contexts lanes r2 guesses
+lanes_split contexts calls lanes r1 r2 own guesses count =
+    (λ i. calls_only contexts calls r1 r2 own count i ∷ told_lanes contexts lanes (drop_at r1 r2 (lane_replies contexts calls) count i) guesses)
 
 lanes_took : (contexts : List (Option ContextView)) (number : ℕ) (lanes : List (List CallLine)) (told new : ToldView) (text : List ℕ) → IsLeft told.lines text → told.guesses ≡ []
     → with_lanes contexts number lanes told ≡ Ok new → TookLanes told new text contexts number lanes
@@ -312,7 +312,7 @@ lanes_took contexts number (calls ∷ lanes) told new text left none e =
     let here = lane_lines number (told_calls contexts calls a.lines a.guesses) in
     let rest = all_lines (numbered lane_lines (number + 1) (told_lanes contexts lanes b.lines b.guesses)) in
     let piece : concat (all_lines (numbered lane_lines number (told_lanes contexts (calls ∷ lanes) (a.lines ++ b.lines) (a.guesses ∷ b.guesses)))) ≡ concat here ++ concat rest =
-    ap (λ (parts : List (List (List ℕ))). concat (all_lines parts)) (lanes_split contexts number calls lanes a.lines b.lines a.guesses b.guesses a.count)
+    ap (λ (parts : List (List (List ℕ))). concat (all_lines (numbered lane_lines number parts))) (lanes_split contexts calls lanes a.lines b.lines a.guesses b.guesses a.count)
     ∙ concat-append here rest in
     record {
       lines = a.lines ++ b.lines;

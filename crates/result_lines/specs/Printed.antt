@@ -1,18 +1,17 @@
 -- The text that tells given replies, guesses and journals as a result of a plan. Of the lines of its
 -- calls each reply line is given, with its line feed.
-use Rattle.std.specs.Prelude.{ℕ, ◌≡◌, ◌<◌, ◌≤◌, ◌^◌, ◌==◌, List, [], ◌∷◌, ◌++◌, Bool, true, false, length, map, take, drop, sum_by, Option, Some, None, Result, Ok, codes}
+use Rattle.std.specs.Prelude.{ℕ, ◌≡◌, ◌<◌, ◌≤◌, ◌^◌, ◌==◌, List, [], ◌∷◌, ◌++◌, Bool, true, false, length, map, take, drop, sum_by, Option, Ok}
 use Rattle.std.specs.List.{All, concat}
 use Rattle.call_places.specs.declared.entries.Mark.{Mark}
 use Rattle.hpke_context.specs.Contexts.{ContextView}
-use Rattle.batch_plans.specs.Limits.{most_opening}
+use Rattle.batch_plans.specs.Limits.{most_opening, items_of}
+use Rattle.batch_plans.specs.Room.{served_batches, served_or}
 use Rattle.batch_plans.specs.declared.plan.Plan.{Plan}
 use Rattle.batch_plans.specs.declared.plan.CallLine.{CallLine}
-use Rattle.batch_plans.specs.declared.plan.CallLine.TheVariants as calls
 use Rattle.batch_plans.specs.declared.replies.Batch.{Batch}
 use Rattle.batch_plans.specs.declared.replies.KeyReply.{KeyReply}
 use Rattle.batch_plans.specs.declared.replies.ContextReply.{ContextReply}
-use Rattle.batch_plans.specs.declared.replies.CallRefusal.{CallRefusal}
-use Rattle.reply_texts.specs.ReplyText.{guess_line, reply_lines, has_stamps}
+use Rattle.reply_texts.specs.ReplyText.{guess_line, reply_lines}
 use Rattle.due_replies.specs.Standing.{call_refusal}
 use Rattle.result_lines.specs.declared.told.GuessLine.{GuessLine}
 use Rattle.result_lines.specs.Places.{with_feed}
@@ -20,34 +19,15 @@ use Rattle.result_lines.specs.Told.{ReplyView, ToldView, told_by}
 
 -- ---- how many lines a call has
 
--- one for each item of an opening of several messages, and else one
-abbrev pub served_replies : CallLine → ℕ
-served_replies (calls.Seal context item) = 1
-served_replies (calls.Unseal context item) = 1
-served_replies (calls.UnsealAll context first count) = count
-served_replies (calls.Export context exporter size) = 1
-
--- an opening of several messages has a guess
-abbrev pub served_guesses : CallLine → ℕ
-served_guesses (calls.Seal context item) = 0
-served_guesses (calls.Unseal context item) = 0
-served_guesses (calls.UnsealAll context first count) = 1
-served_guesses (calls.Export context exporter size) = 0
-
--- a call that is refused has one reply
-abbrev pub replies_unless : Option CallRefusal → CallLine → ℕ
-replies_unless None call = served_replies call
-replies_unless (Some refusal) call = 1
-
-abbrev pub guesses_unless : Option CallRefusal → CallLine → ℕ
-guesses_unless None call = served_guesses call
-guesses_unless (Some refusal) call = 0
-
+-- where it is served, one for each item of an opening of several messages, and else one; a call that is
+-- refused has one reply
 abbrev pub call_replies : List (Option ContextView) → CallLine → ℕ
-call_replies contexts call = replies_unless (call_refusal contexts call) call
+call_replies contexts call = served_or (call_refusal contexts call) (items_of call) 1
 
+-- an opening of several messages that is served has a guess
 abbrev pub call_guesses : List (Option ContextView) → CallLine → ℕ
-call_guesses contexts call = guesses_unless (call_refusal contexts call) call
+call_guesses contexts call =
+    served_or (call_refusal contexts call) (served_batches call) 0
 
 -- the calls of a lane
 abbrev pub lane_replies : List (Option ContextView) → List CallLine → ℕ

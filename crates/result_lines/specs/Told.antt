@@ -2,7 +2,7 @@
 -- replies to its set-up and the contexts that stand: those of the set-up just as they are printed, a
 -- line of any bytes for each reply to a call, `batch G M` behind those of an opening of several
 -- messages that is served, and journals.
-use Rattle.std.specs.Prelude.{ℕ, zero, suc, ◌+◌, Bool, true, false, List, [], ◌∷◌, ◌++◌, codes, decimal, Option, Some, None, Result, Ok, Err}
+use Rattle.std.specs.Prelude.{ℕ, zero, suc, ◌+◌, Bool, List, [], ◌∷◌, ◌++◌, codes, decimal, Option, Some, None, Result, Ok}
 use Rattle.call_places.specs.declared.entries.Mark.{Mark}
 use Rattle.hpke_context.specs.Contexts.{ContextView}
 use Rattle.batch_plans.specs.declared.plan.Plan.{Plan}

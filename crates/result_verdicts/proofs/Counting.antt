@@ -1,26 +1,23 @@
 -- Legal journals have no more places than a plan has items, and their numbers fit their fields.
-use Rattle.std.proofs.Common.{◌≡◌, ℕ, zero, suc, ◌+◌, ◌≤◌, ◌<◌, ◌^◌, ◌==◌, not, Bool, true, false, cond, List, [], ◌∷◌, ◌++◌, length, map, Option, Some, None, refl, sym, ap, ◌∙◌, subst, inl, inr, length-append, eq-eqb, arith}
+use Rattle.std.proofs.Common.{◌≡◌, ℕ, suc, ◌+◌, ◌≤◌, ◌<◌, ◌==◌, not, Bool, true, false, cond, List, [], ◌∷◌, length, map, Option, Some, None, refl, sym, ap, ◌∙◌, subst, inl, inr, length-append, eq-eqb, arith}
 use Rattle.std.specs.Prelude.{sum_by, slice_get, slice_index_or, filter}
 use Rattle.std.specs.List.{All}
 use Rattle.std.specs.Option.{option_map}
-use Rattle.std.proofs.lemmas.Bool.{cases_lt, cases_eq}
-use Rattle.std.proofs.lemmas.Bool.Decides.{nat_tests}
-use Rattle.std.proofs.lemmas.List.{get_or_past, length-map}
+use Rattle.std.proofs.lemmas.Bool.{cases_lt}
+use Rattle.std.proofs.lemmas.List.{get_or_past}
 use Rattle.std.proofs.lemmas.List.Elements.{All-head, All-tail}
 use Rattle.std.proofs.lemmas.List.Filters.{length-filter_both}
 use Rattle.std.proofs.lemmas.List.Sums.{sum_by-cons, get_or-le-sum_by}
 use Rattle.std.proofs.lemmas.Option.{slice_get-map, slice_get_within}
 use Rattle.call_places.specs.declared.entries.Place.{Place}
 use Rattle.call_places.specs.declared.entries.Mark.{Mark}
-use Rattle.call_places.specs.Messages.{SealedMessage, sealed_messages}
 use Rattle.hpke_context.specs.Answers.{Item, Answer, Cipher, due, next, answer, advances}
 use Rattle.hpke_context.specs.Contexts.{ContextView}
-use Rattle.legal_journals.specs.Batches.{Ask, Nothing, ToSeal, ToOpen, ToOpenAll, Batch, Spot, spots, unseal, items_in, context_in, with_context, item_in_call, item_of, items_of, item_or_none, lane_of, block, asked, all_asked, on, own_places, lane_places, IsServed}
-use Rattle.legal_journals.specs.Histories.{marks_at, places, all_stamps, own_spots, LegalHistory}
+use Rattle.legal_journals.specs.Batches.{Ask, Batch, Spot, spots, items_in, context_in, with_context, item_in_call, item_of, items_of, item_or_none, lane_of, block, asked, all_asked, on, own_places, IsServed}
+use Rattle.legal_journals.specs.Histories.{marks_at, own_spots, LegalHistory}
 use Rattle.legal_journals.specs.Legal.{Legal, due_after, before, is_same_place}
 use Rattle.legal_journals.proofs.Legals.{lane_is}
-use Rattle.legal_journals.proofs.Marks.{legal_alone}
-use Rattle.legal_journals.proofs.Members.{In, filter_in, in_filter, value_at}
+use Rattle.legal_journals.proofs.Members.{In, filter_in, value_at}
 use Rattle.legal_journals.proofs.OneHistory.{all, below_total, one_history}
 use Rattle.legal_journals.proofs.Places.{in_own}
 use Rattle.legal_journals.proofs.Spots.{spot_own}
@@ -30,7 +27,6 @@ use Rattle.batch_plans.specs.declared.plan.CallLine.TheVariants as calls
 use Rattle.batch_plans.specs.declared.replies.CallRefusal.{CallRefusal}
 use Rattle.batch_plans.specs.Limits as limits
 use Rattle.batch_plans.specs.Limits.{items_from, IsWithinLimits, most_opening}
-use Rattle.batch_plans.proofs.Rooms.{has_item}
 use Rattle.due_replies.specs.Standing.{call_refusal}
 use Rattle.due_replies.specs.Asks.{asked_by, ask_unless, ask_of, batch_of}
 use Rattle.due_replies.proofs.Done.{lane_asks, length-messages}
@@ -131,8 +127,14 @@ asked_few plan contexts lane number (call ∷ more) fits =
     let ask = ask_of plan contexts call in
     let first = one_size plan (call_refusal contexts call) call (All-head (IsLine plan) call more fits) in
     let rest = asked_few plan contexts lane (number + 1) more (All-tail (IsLine plan) call more fits) in
-    omega (arith, first, rest, length-asked lane number ask, length-append (asked lane number ask) (all_asked lane (number + 1) (map (ask_of plan contexts) more)),
-    sum_by-cons limits.items_of call more)
+    omega (
+      arith,
+      first,
+      rest,
+      length-asked lane number ask,
+      length-append (asked lane number ask) (all_asked lane (number + 1) (map (ask_of plan contexts) more)),
+      sum_by-cons limits.items_of call more,
+    )
 
 on_few : (context : ℕ) (ss : List Spot) → length (on context ss) ≤ length ss
 on_few context [] = omega arith
@@ -146,7 +148,7 @@ module _ (plan : Plan) (contexts : List (Option ContextView)) (within : IsWithin
   abbrev batch : Batch
   batch = batch_of plan contexts
 
-  asks_are : (lane : ℕ) → lane_of batch lane ≡ map (ask_of plan contexts) (slice_index_or plan.lanes lane [])
+  pub asks_are : (lane : ℕ) → lane_of batch lane ≡ map (ask_of plan contexts) (slice_index_or plan.lanes lane [])
   asks_are lane = lane_asks (record { plan = plan; contexts = contexts; journals = []; guesses = [] }) lane
 
   no_asks : (lane : ℕ) → length plan.lanes ≤ lane → lane_of batch lane ≡ []
@@ -241,8 +243,7 @@ module _ (plan : Plan) (contexts : List (Option ContextView)) (within : IsWithin
           let sum = get_or-le-sum_by limits.items_of (slice_index_or plan.lanes lane []) call line index in
           let value : slice_index_or (slice_index_or plan.lanes lane []) call line ≡ line = value_at (slice_index_or plan.lanes lane []) call line line is in
           let lanes = get_or-le-sum_by (sum_by limits.items_of) plan.lanes lane [] low in
-          let items = within.items in
-          (
+          let items = within.items in (
             omega arith,
             omega arith,
             omega (arith, size, sum, lanes, items, ap limits.items_of value, ap (λ (a : Ask). length (items_in a)) same),

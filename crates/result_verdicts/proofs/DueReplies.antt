@@ -1,5 +1,5 @@
 -- The replies of a run, which are lines.
-use Rattle.std.proofs.Common.{◌≡◌, ℕ, zero, suc, ◌+◌, ◌≤◌, ◌<◌, Bool, true, false, cond, List, [], ◌∷◌, ◌++◌, length, map, drop, Option, Some, None, refl, sym, ap, ◌∙◌, subst, arith}
+use Rattle.std.proofs.Common.{◌≡◌, ℕ, zero, suc, ◌+◌, ◌≤◌, ◌<◌, Bool, true, false, cond, List, [], ◌∷◌, length, map, drop, Option, Some, None, refl, sym, ap, ◌∙◌, subst, arith}
 use Rattle.std.specs.Prelude.{slice_get, slice_index_or}
 use Rattle.std.specs.List.{All}
 use Rattle.std.specs.Str.{bytes_eq}
@@ -10,9 +10,9 @@ use Rattle.std.proofs.lemmas.Slice.Eq.{bytes_eq-Decides}
 use Rattle.call_places.specs.declared.entries.Place.{Place}
 use Rattle.call_places.specs.Messages.{SealedMessage, sealed_messages}
 use Rattle.call_places.specs.Spans.{span_bytes}
-use Rattle.hpke_context.specs.Answers.{Item, Answer}
+use Rattle.hpke_context.specs.Answers.{Item}
 use Rattle.hpke_context.specs.Contexts.{ContextView, exported_by}
-use Rattle.legal_journals.specs.Batches.{Ask, ToSeal, ToOpen, ToOpenAll, unseal, with_context, item_of, item_in_call, lane_of, block, place}
+use Rattle.legal_journals.specs.Batches.{Ask, ToOpenAll, unseal, with_context, item_of, item_in_call, lane_of, block, place}
 use Rattle.legal_journals.specs.Legal.{Legal}
 use Rattle.legal_journals.proofs.Members.{got, value_at}
 use Rattle.legal_journals.proofs.Replies.{served_reply}

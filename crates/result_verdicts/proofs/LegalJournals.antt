@@ -1,21 +1,21 @@
 -- The tests of journals pass exactly where the journals are legal, by themselves or as one history.
-use Rattle.std.proofs.Common.{◌≡◌, ℕ, zero, suc, ◌+◌, ◌≤◌, ◌<◌, ◌&&◌, ◌||◌, not, Bool, true, false, cond, List, [], ◌∷◌, ◌++◌, ◌⊎◌, length, map, Option, Some, None, refl, sym, ap, ◌∙◌, subst, inl, inr, arith}
+use Rattle.std.proofs.Common.{◌≡◌, ℕ, zero, suc, ◌+◌, ◌≤◌, ◌<◌, Bool, true, false, cond, List, [], ◌∷◌, ◌⊎◌, length, map, Option, Some, None, refl, sym, ap, ◌∙◌, subst, inl, inr, arith}
 use Rattle.std.specs.Prelude.{nat_lt, slice_get, slice_index_or}
 use Rattle.std.specs.List.{All, AllPairs}
 use Rattle.std.specs.Option.{option_map}
 use Rattle.std.proofs.lemmas.Bool.{cases_lt}
 use Rattle.std.proofs.lemmas.List.{get_or_past, length-map}
 use Rattle.std.proofs.lemmas.List.Elements.{All-nil, All-cons}
-use Rattle.std.proofs.lemmas.Option.{slice_get-map, slice_get_within}
+use Rattle.std.proofs.lemmas.Option.{slice_get-map}
 use Rattle.call_places.specs.declared.entries.Place.{Place}
 use Rattle.call_places.specs.declared.entries.Mark.{Mark}
 use Rattle.call_places.specs.Messages.{SealedMessage, sealed_messages}
 use Rattle.hpke_context.specs.Answers.{Item}
 use Rattle.hpke_context.specs.Contexts.{ContextView}
-use Rattle.legal_journals.specs.Batches.{Ask, Nothing, ToSeal, ToOpen, ToOpenAll, Batch, unseal, items_in, context_in, with_context, item_in, item_in_call, item_of, lane_of, place, block, IsServed}
-use Rattle.legal_journals.specs.Checks.{is_legal, is_legal_history}
-use Rattle.legal_journals.specs.Histories.{mark, marks_at, places, HasLowerStamp, LegalHistory}
-use Rattle.legal_journals.specs.Legal.{Legal, OpensOn}
+use Rattle.legal_journals.specs.Batches.{Ask, ToOpenAll, Batch, unseal, items_in, with_context, item_in, item_in_call, lane_of, place, IsServed}
+use Rattle.legal_journals.specs.Checks.{is_legal}
+use Rattle.legal_journals.specs.Histories.{mark, marks_at, places, HasLowerStamp}
+use Rattle.legal_journals.specs.Legal.{Legal}
 use Rattle.legal_journals.proofs.Checking.{legal_iff}
 use Rattle.legal_journals.proofs.CheckingHistory.{legal_history_iff}
 use Rattle.legal_journals.proofs.Marks.{legal_alone}
@@ -30,10 +30,9 @@ use Rattle.batch_plans.specs.declared.replies.CallRefusal.{CallRefusal}
 use Rattle.due_replies.specs.Standing.{standing_at, call_refusal}
 use Rattle.due_replies.specs.Asks.{asked_by, ask_unless, ask_of, batch_of}
 use Rattle.due_replies.specs.Runs.{LegalFor}
-use Rattle.due_replies.proofs.Done.{lane_asks}
-use Rattle.result_lines.specs.Printed.{IsStampWithin, IsMarkWithin}
+use Rattle.result_lines.specs.Printed.{IsMarkWithin}
 use Rattle.result_verdicts.specs.Journals.{stamps_rise, is_journal, broken_journal, is_one_history}
-use Rattle.result_verdicts.proofs.Counting.{served_low, stamp_low}
+use Rattle.result_verdicts.proofs.Counting.{asks_are, served_low, stamp_low}
 use Rattle.result_verdicts.proofs.DueReplies.{stands_for}
 use Rattle.result_verdicts.proofs.Limited.{IsLine, line_of_limits}
 use Rattle.result_verdicts.proofs.RunTexts.{messages_size}
@@ -106,12 +105,13 @@ legal_one false batch journals legal = refl
 some_pair : (a b : ℕ × Item) → Some a ≡ Some b → a ≡ b
 some_pair a b e = cc
 
+in_context : (c context : ℕ) (x : Item) (o : Option Item) → with_context c o ≡ Some (context, x) → c ≡ context
+in_context c context x None e = absurd cc
+in_context c context x (Some y) e = ap (λ (p : ℕ × Item). p.0) (some_pair (c, y) (context, x) e)
+
 module _ (plan : Plan) (contexts : List (Option ContextView)) (within : IsWithinLimits plan) where
   abbrev batch : Batch
   batch = batch_of plan contexts
-
-  asks_are : (lane : ℕ) → lane_of batch lane ≡ map (ask_of plan contexts) (slice_index_or plan.lanes lane [])
-  asks_are lane = lane_asks (record { plan = plan; contexts = contexts; journals = []; guesses = [] }) lane
 
   -- what is asked is asked by a call
   by_line : (lane call : ℕ) (ask : Ask) → slice_get (lane_of batch lane) call ≡ Some ask
@@ -121,7 +121,7 @@ module _ (plan : Plan) (contexts : List (Option ContextView)) (within : IsWithin
       mapped : option_map (ask_of plan contexts) (slice_get (slice_index_or plan.lanes lane []) call) ≡ Some ask
       mapped =
           sym (slice_get-map (ask_of plan contexts) (slice_index_or plan.lanes lane []) call)
-          ∙ ap (λ (asks : List Ask). slice_get asks call) (sym (asks_are lane)) ∙ at
+          ∙ ap (λ (asks : List Ask). slice_get asks call) (sym (asks_are plan contexts within lane)) ∙ at
 
       go : (o : Option CallLine) → slice_get (slice_index_or plan.lanes lane []) call ≡ o
           → (line : CallLine) × (slice_get (slice_index_or plan.lanes lane []) call ≡ Some line) × (ask_of plan contexts line ≡ ask)
@@ -151,21 +151,9 @@ module _ (plan : Plan) (contexts : List (Option ContextView)) (within : IsWithin
   context_asked : (refusal : Option CallRefusal) (line : CallLine) (i context : ℕ) (x : Item) → item_in (ask_unless refusal (asked_by plan line)) i ≡ Some (context, x)
       → (refusal ≡ None) × (context_of line ≡ context)
   context_asked (Some refusal) line i context x is = absurd cc
-  context_asked None (calls.Seal c item) i context x is = (refl, in_context c (slice_get (items_in (asked_by plan (calls.Seal c item))) i) is)
-    where
-      in_context : (c : ℕ) (o : Option Item) → with_context c o ≡ Some (context, x) → c ≡ context
-      in_context c None e = absurd cc
-      in_context c (Some y) e = ap (λ (p : ℕ × Item). p.0) (some_pair (c, y) (context, x) e)
-  context_asked None (calls.Unseal c item) i context x is = (refl, in_context c (slice_get (items_in (asked_by plan (calls.Unseal c item))) i) is)
-    where
-      in_context : (c : ℕ) (o : Option Item) → with_context c o ≡ Some (context, x) → c ≡ context
-      in_context c None e = absurd cc
-      in_context c (Some y) e = ap (λ (p : ℕ × Item). p.0) (some_pair (c, y) (context, x) e)
-  context_asked None (calls.UnsealAll c first count) i context x is = (refl, in_context c (slice_get (items_in (asked_by plan (calls.UnsealAll c first count))) i) is)
-    where
-      in_context : (c : ℕ) (o : Option Item) → with_context c o ≡ Some (context, x) → c ≡ context
-      in_context c None e = absurd cc
-      in_context c (Some y) e = ap (λ (p : ℕ × Item). p.0) (some_pair (c, y) (context, x) e)
+  context_asked None (calls.Seal c item) i context x is = (refl, in_context c context x (slice_get (items_in (asked_by plan (calls.Seal c item))) i) is)
+  context_asked None (calls.Unseal c item) i context x is = (refl, in_context c context x (slice_get (items_in (asked_by plan (calls.Unseal c item))) i) is)
+  context_asked None (calls.UnsealAll c first count) i context x is = (refl, in_context c context x (slice_get (items_in (asked_by plan (calls.UnsealAll c first count))) i) is)
   context_asked None (calls.Export c exporter size) i context x is = absurd cc
 
   -- a context that isn't there serves nothing

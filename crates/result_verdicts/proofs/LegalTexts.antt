@@ -1,17 +1,15 @@
 -- A text is legal exactly where it is that of an allowed run.
-use Rattle.std.proofs.Common.{◌≡◌, ℕ, zero, suc, ◌+◌, ◌≤◌, ◌<◌, ◌^◌, ◌⊎◌, ◌↔◌, nat_le, Bool, true, false, cond, if◌then◌else◌, List, [], ◌∷◌, ◌++◌, length, map, take, drop, codes, decimal, Option, Some, None, Result, Ok, Err, refl, sym, ap, ◌∙◌, subst, inl, inr, arith}
-use Rattle.std.specs.Prelude.{sum_by, slice_get, slice_index, slice_index_or}
+use Rattle.std.proofs.Common.{◌≡◌, ℕ, zero, suc, ◌+◌, ◌≤◌, ◌<◌, ◌⊎◌, nat_le, Bool, true, false, cond, List, [], ◌∷◌, ◌++◌, length, map, drop, codes, decimal, Option, Some, None, Result, Ok, Err, refl, sym, ap, ◌∙◌, subst, inl, inr, arith}
+use Rattle.std.specs.Prelude.{slice_get, slice_index_or}
 use Rattle.std.specs.List.{All, concat}
 use Rattle.std.proofs.lemmas.List.{length-map}
 use Rattle.std.proofs.lemmas.List.Elements.{All-nil, All-cons}
 use Rattle.std.proofs.lemmas.Option.{slice_get_within}
-use Rattle.call_places.specs.declared.entries.Place.{Place}
 use Rattle.call_places.specs.declared.entries.Mark.{Mark}
 use Rattle.call_places.specs.Messages.{SealedMessage}
 use Rattle.hpke_context.specs.Contexts.{ContextView}
 use Rattle.legal_journals.specs.Batches.{Ask, Nothing, ToSeal, ToOpen, ToOpenAll, lane_of, block, place}
-use Rattle.legal_journals.specs.Checks.{is_guessed}
-use Rattle.legal_journals.specs.Guesses.{AllGuessed, guess_of, guess_count, guess_at, is_in_window, missed, missed_in, least_guess, greatest_guess}
+use Rattle.legal_journals.specs.Guesses.{AllGuessed, guess_count, guess_at, is_in_window, missed, least_guess, greatest_guess}
 use Rattle.legal_journals.specs.Histories.{mark, marks_at, places}
 use Rattle.legal_journals.specs.Legal.{Legal, number_of}
 use Rattle.legal_journals.proofs.Checking.{guessed_iff}
@@ -26,25 +24,27 @@ use Rattle.batch_plans.specs.declared.replies.ContextReply.{ContextReply}
 use Rattle.reply_texts.specs.ReplyText.{all_lines, numbered, has_stamps, lane_lines, mark_line, journal_lines, version_line}
 use Rattle.reply_texts.specs.Lines.{key_line, context_line}
 use Rattle.due_replies.specs.Asks.{ask_of, batch_of, cipher_at}
-use Rattle.due_replies.specs.Runs.{Run, asks_of, journal_of, guesses_of, IsAllowed, LegalFor, run_text}
+use Rattle.due_replies.specs.Runs.{Run, asks_of, journal_of, guesses_of, IsAllowed, run_text}
 use Rattle.due_replies.proofs.Done.{lane_asks}
 use Rattle.result_lines.specs.declared.told.GuessLine.{GuessLine}
 use Rattle.result_lines.specs.Told.{ToldView, told_by}
 use Rattle.result_lines.specs.Printed.{told_lanes, told_text, lines_told, guesses_told, AreComplete, IsGuessWithin, IsMarkWithin, IsTextOf, IsReadBack}
 use Rattle.result_lines.specs.Printed as printed
 use Rattle.result_lines.proofs.Growing.{batches}
+use Rattle.result_lines.proofs.FirstLines.{ok_is}
 use Rattle.result_lines.proofs.Took.{told_took, text_parts}
 use Rattle.result_lines.proofs.Gave.{told_back}
 use Rattle.result_verdicts.specs.declared.verdicts.Verdict.{Verdict}
 use Rattle.result_verdicts.specs.declared.verdicts.Verdict.TheVariants as verdicts
 use Rattle.result_verdicts.specs.Guesses.{wrong_guesses}
 use Rattle.result_verdicts.specs.Journals.{broken_journal, is_one_history}
+use Rattle.result_verdicts.specs.OneRun.{PrintTheSame}
 use Rattle.result_verdicts.specs.Opened.{opened_with, opened}
 use Rattle.result_verdicts.specs.Replies.{all_replies, wrong_reply}
 use Rattle.result_verdicts.specs.Verdicts.{run_of, run_told, by_guess, by_reply, by_stamps, by_journal, verdict_on, by_form}
 use Rattle.result_verdicts.proofs.Counting.{journal_few, number_low}
 use Rattle.result_verdicts.proofs.DueReplies.{due_told, told_due, replies_are_lines}
-use Rattle.result_verdicts.proofs.LegalJournals.{each_legal, legal_none, legal_one, opening_size, passed_legal, AsPrinted, as_printed}
+use Rattle.result_verdicts.proofs.LegalJournals.{each_legal, legal_none, legal_one, opening_size, passed_legal, as_printed}
 use Rattle.result_verdicts.proofs.RightGuesses.{numbers_told, MayGuess, AllRight, skip_right, next_right, opened_numbers, all_right, none_wrong}
 use Rattle.result_verdicts.proofs.RunTexts.{length-block, all_kept, own_opened, all_opened, AreCounted, drop_step, run_complete, run_text_is, all_counted}
 use Rattle.result_verdicts.proofs.SameJournals.{other, replies_same, all_opened_same, guessed_same}
@@ -254,8 +254,7 @@ module _ (plan : Plan) (keys : List KeyReply) (replies : List ContextReply) (con
       ∙ ap guess_count (sym (asks_at run within each lane calls.0 calls.1))) in
       let right = all_right run told.lanes refl sizes parts.3 in
       let lines : lines_told told ≡ all_replies run =
-      due_told told.replies (all_replies run) (sym (length-map told.replies _) ∙ of.complete.count ∙ sym (all_counted run within counted)) parts.2 in
-      (
+      due_told told.replies (all_replies run) (sym (length-map told.replies _) ∙ of.complete.count ∙ sym (all_counted run within counted)) parts.2 in (
         told.journals,
         run.guesses,
         record {
@@ -284,8 +283,18 @@ module _ (plan : Plan) (keys : List KeyReply) (replies : List ContextReply) (con
       ∙ sym (text_parts plan.version keys replies lanes bared)
       ∙ ap (told_text plan keys replies contexts lines guesses) (sym bare.1)
 
-  pub complete : Replies → by_form plan contexts (told_by plan keys replies contexts text) ≡ verdicts.Legal
-  complete (journals, guesses, allowed, is) =
+  -- what the text of an allowed run is read as
+  record Back (journals : List (List Mark)) (guesses : List (List ℕ)) : Type 0 where
+    told : ToldView
+    read : told_by plan keys replies contexts text ≡ Ok told
+    numbers : map numbers_told told.lanes ≡ guesses
+    places_are : (context : ℕ) → places (marks_at told.journals context) ≡ places (marks_at journals context)
+    stamps_are : has_stamps plan.version ≡ true → told.journals ≡ journals
+    legal : verdict_on plan contexts told ≡ verdicts.Legal
+
+  back : (journals : List (List Mark)) (guesses : List (List ℕ)) → IsAllowed (run_of plan contexts journals guesses)
+      → text ≡ run_text keys replies (run_of plan contexts journals guesses) → Back journals guesses
+  back journals guesses allowed is =
       let start = run_of plan contexts journals guesses in
       let stamps = has_stamps plan.version in
       let batch = batch_of plan contexts in
@@ -295,21 +304,51 @@ module _ (plan : Plan) (keys : List KeyReply) (replies : List ContextReply) (con
       let counted : AreCounted run = (λ lane low. (allowed.guessed lane low).count) in
       let right : (lane : ℕ) → lane < length plan.lanes → AllRight run lane 0 (lane_of (asks_of run) lane) (guesses_of run lane) =
       (λ lane low. right_of run within each lane (guessed_same start p.own p.same lane (guesses_of run lane) (allowed.guessed lane low))) in
-      let back = told_back plan keys replies contexts (all_replies run) (all_opened run) p.own (run_complete run within counted (p.size ∙ allowed.journals))
+      let again = told_back plan keys replies contexts (all_replies run) (all_opened run) p.own (run_complete run within counted (p.size ∙ allowed.journals))
       (replies_are_lines run within each) (guesses_fit run within each right) p.fits in
-      let told : ToldView = back.told in
+      let told : ToldView = again.told in
       let text_is : text ≡ told_text plan keys replies contexts (all_replies run) (all_opened run) p.own =
       is ∙ run_text_is start within counted keys replies
       ∙ (λ i. told_text plan keys replies contexts (sym (replies_same start p.own p.same) i) (sym (all_opened_same start p.own p.same) i) journals)
       ∙ same_text stamps (all_replies run) (all_opened run) journals p.own refl p.text in
-      let read : told_by plan keys replies contexts text ≡ Ok told = ap (told_by plan keys replies contexts) text_is ∙ back.is in
+      let read : told_by plan keys replies contexts text ≡ Ok told = ap (told_by plan keys replies contexts) text_is ∙ again.is in
       let guesses_are : map numbers_told told.lanes ≡ guesses =
-      numbers_of told.lanes ∙ ap (map (map (λ (b : Batch). b.guess))) back.guesses_are ∙ opened_guesses run counted 0 plan.lanes guesses refl refl (sym allowed.lanes) in
-      let run_is : run_told plan contexts told ≡ run = (λ i. run_of plan contexts (back.journals_are i) (guesses_are i)) in
-      ap (by_form plan contexts) read
-      ∙ parts_legal (broken_journal stamps batch 0 told.journals) (is_one_history stamps batch told.journals) (wrong_reply told.replies (all_replies (run_told plan contexts told)))
-      (wrong_guesses (run_told plan contexts told) 0 told.lanes)
-      (ap (broken_journal stamps batch 0) back.journals_are ∙ legal_none stamps batch p.own p.legal)
-      (ap (is_one_history stamps batch) back.journals_are ∙ legal_one stamps batch p.own p.legal)
-      (ap (λ (r : Run). wrong_reply told.replies (all_replies r)) run_is ∙ told_due told.replies (all_replies run) back.lines_are)
-      (ap (λ (r : Run). wrong_guesses r 0 told.lanes) run_is ∙ none_wrong run 0 plan.lanes told.lanes refl back.guesses_are counted right)
+      numbers_of told.lanes ∙ ap (map (map (λ (b : Batch). b.guess))) again.guesses_are ∙ opened_guesses run counted 0 plan.lanes guesses refl refl (sym allowed.lanes) in
+      let run_is : run_told plan contexts told ≡ run = (λ i. run_of plan contexts (again.journals_are i) (guesses_are i)) in
+      record {
+        told = told;
+        read = read;
+        numbers = guesses_are;
+        places_are = λ context. ap (λ (js : List (List Mark)). places (marks_at js context)) again.journals_are ∙ p.same context;
+        stamps_are = λ stamped. again.journals_are ∙ elim p.text [
+          | inl same ↦ same
+          | inr bare ↦ absurd (let clash : true ≡ false = sym stamped ∙ bare.0 in cc)
+        ];
+        legal =
+            parts_legal (broken_journal stamps batch 0 told.journals) (is_one_history stamps batch told.journals) (wrong_reply told.replies (all_replies (run_told plan contexts told)))
+            (wrong_guesses (run_told plan contexts told) 0 told.lanes)
+            (ap (broken_journal stamps batch 0) again.journals_are ∙ legal_none stamps batch p.own p.legal)
+            (ap (is_one_history stamps batch) again.journals_are ∙ legal_one stamps batch p.own p.legal)
+            (ap (λ (r : Run). wrong_reply told.replies (all_replies r)) run_is ∙ told_due told.replies (all_replies run) again.lines_are)
+            (ap (λ (r : Run). wrong_guesses r 0 told.lanes) run_is ∙ none_wrong run 0 plan.lanes told.lanes refl again.guesses_are counted right);
+      }
+
+  pub complete : Replies → by_form plan contexts (told_by plan keys replies contexts text) ≡ verdicts.Legal
+  complete (journals, guesses, allowed, is) =
+      let b = back journals guesses allowed is in
+      ap (by_form plan contexts) b.read ∙ b.legal
+
+  -- ---- a text is that of one run
+
+  pub one_run : (journals others : List (List Mark)) (guesses further : List (List ℕ)) → IsAllowed (run_of plan contexts journals guesses)
+      → IsAllowed (run_of plan contexts others further) → text ≡ run_text keys replies (run_of plan contexts journals guesses)
+      → text ≡ run_text keys replies (run_of plan contexts others further) → PrintTheSame (run_of plan contexts journals guesses) (run_of plan contexts others further)
+  one_run journals others guesses further first second is also =
+      let a = back journals guesses first is in
+      let b = back others further second also in
+      let same : b.told ≡ a.told = ok_is b.told a.told (sym b.read ∙ a.read) in
+      record {
+        guesses_are = sym b.numbers ∙ ap (λ (t : ToldView). map numbers_told t.lanes) same ∙ a.numbers;
+        places_are = λ context. sym (b.places_are context) ∙ ap (λ (t : ToldView). places (marks_at t.journals context)) same ∙ a.places_are context;
+        stamps_are = λ stamped. sym (b.stamps_are stamped) ∙ ap (λ (t : ToldView). t.journals) same ∙ a.stamps_are stamped;
+      }

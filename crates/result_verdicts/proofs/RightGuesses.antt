@@ -1,10 +1,9 @@
 -- The guesses of a result are right exactly where they may have been made and the run prints them.
-use Rattle.std.proofs.Common.{◌≡◌, ℕ, zero, suc, ◌+◌, ◌<◌, ◌==◌, ◌&&◌, Bool, true, false, cond, List, [], ◌∷◌, ◌++◌, length, map, take, drop, Option, Some, None, refl, sym, ap, ◌∙◌, subst, eq-eqb, eqb-true, arith}
-use Rattle.std.specs.Prelude.{slice_get, slice_index, slice_index_or}
+use Rattle.std.proofs.Common.{◌≡◌, ℕ, zero, suc, ◌+◌, ◌<◌, ◌==◌, Bool, true, false, cond, List, [], ◌∷◌, length, map, take, drop, Option, Some, None, refl, sym, ap, ◌∙◌, subst, eq-eqb, eqb-true, arith}
+use Rattle.std.specs.Prelude.{slice_get, slice_index}
 use Rattle.std.proofs.lemmas.List.Sums.{sum_by-cons}
 use Rattle.std.proofs.lemmas.Option.{slice_get_within}
 use Rattle.call_places.specs.Messages.{SealedMessage}
-use Rattle.hpke_context.specs.Contexts.{ContextView}
 use Rattle.legal_journals.specs.Batches.{Ask, Nothing, ToSeal, ToOpen, ToOpenAll, lane_of}
 use Rattle.legal_journals.specs.Guesses.{missed_in, guess_of, guess_count}
 use Rattle.legal_journals.specs.Checks.{is_guessed}

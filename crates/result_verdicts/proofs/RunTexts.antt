@@ -2,14 +2,13 @@
 use Rattle.std.proofs.Common.{◌≡◌, ℕ, zero, suc, ◌+◌, ◌<◌, List, [], ◌∷◌, ◌++◌, length, map, take, drop, Option, Some, None, refl, sym, ap, ◌∙◌, subst, append_assoc, append-nil, length-append, arith}
 use Rattle.std.specs.Prelude.{sum_by, slice_get, slice_index, slice_index_or}
 use Rattle.std.specs.List.{All, concat}
-use Rattle.std.proofs.lemmas.List.{length-map, drop_at}
+use Rattle.std.proofs.lemmas.List.{length-map}
 use Rattle.std.proofs.lemmas.List.Elements.{All-head, All-tail}
 use Rattle.std.proofs.lemmas.List.Sums.{sum_by-cons}
 use Rattle.std.proofs.lemmas.Option.{slice_get_within}
 use Rattle.call_places.specs.Messages.{sealed_messages}
-use Rattle.call_places.specs.Spans.{span_bytes}
 use Rattle.hpke_context.specs.Contexts.{ContextView}
-use Rattle.legal_journals.specs.Batches.{Ask, Nothing, ToSeal, ToOpen, ToOpenAll, Batch, lane_of, block, place, unseal}
+use Rattle.legal_journals.specs.Batches.{Ask, lane_of, block, unseal}
 use Rattle.legal_journals.specs.Guesses.{missed_in, guess_of, guess_count, guess_at}
 use Rattle.legal_journals.proofs.Members.{value_at}
 use Rattle.batch_plans.specs.declared.plan.Plan.{Plan}
@@ -19,7 +18,8 @@ use Rattle.batch_plans.specs.declared.replies.Batch.{Batch as Told}
 use Rattle.batch_plans.specs.declared.replies.KeyReply.{KeyReply}
 use Rattle.batch_plans.specs.declared.replies.ContextReply.{ContextReply}
 use Rattle.batch_plans.specs.declared.replies.CallRefusal.{CallRefusal}
-use Rattle.batch_plans.specs.Limits.{items_from, IsWithinLimits}
+use Rattle.batch_plans.specs.Room.{served_batches, served_or}
+use Rattle.batch_plans.specs.Limits.{items_from, IsWithinLimits, items_of}
 use Rattle.reply_texts.specs.Lines.{batch_line}
 use Rattle.reply_texts.specs.ReplyText as texts
 use Rattle.reply_texts.specs.ReplyText.{all_lines, numbered, guess_line}
@@ -27,9 +27,9 @@ use Rattle.due_replies.specs.Standing.{call_refusal}
 use Rattle.due_replies.specs.Asks.{asked_by, ask_unless, ask_of, cipher_at}
 use Rattle.due_replies.specs.Runs.{Run, asks_of, journal_of, guesses_of, place_line, served_lines, lines_unless, call_lines, lane_call_lines, run_text}
 use Rattle.due_replies.proofs.Done.{lane_asks, length-messages}
-use Rattle.result_lines.specs.Printed.{replies_unless, guesses_unless, call_replies, call_guesses, told_calls, told_lanes, told_text, AreComplete}
+use Rattle.result_lines.specs.Printed.{call_replies, call_guesses, told_calls, told_lanes, told_text, AreComplete}
 use Rattle.result_lines.specs.Printed as printed
-use Rattle.result_lines.proofs.Took.{calls_split, calls_only}
+use Rattle.result_lines.proofs.Took.{calls_split, lanes_split}
 use Rattle.result_verdicts.specs.Opened.{opened_with, opened, Keeps}
 use Rattle.result_verdicts.specs.Replies.{item_lines, reply_lines, lane_replies, all_replies}
 use Rattle.result_verdicts.proofs.Limited.{IsLine, lines_of_limits}
@@ -46,9 +46,6 @@ pub messages_size : (plan : Plan) (context first count : ℕ) → IsLine plan (c
 messages_size plan context first count within =
     let messages = sealed_messages plan.pool (items_from plan.items first count) in
     sym (length-map messages unseal) ∙ length-messages plan.items plan.pool first count within.3
-
-
-
 
 -- a call that keeps no guess
 pub keeps_on : (run : Run) (lane number : ℕ) (ask : Ask) (asks : List Ask) (guesses : List ℕ) → length (guess_of ask 0) ≡ 0
@@ -85,14 +82,14 @@ keeps_now run lane number ask asks guess guesses keeps =
 record Part (run : Run) (lane number : ℕ) (refusal : Option CallRefusal) (call : CallLine) (asks : List Ask) (guesses : List ℕ) : Type 0 where
   own : List Told
   later : List ℕ
-  kept : length own ≡ guesses_unless refusal call
+  kept : length own ≡ served_or refusal (served_batches call) 0
   lines : lines_unless refusal (served_lines run lane number call) ≡ lines_unless refusal (item_lines run lane number call) ++ map guess_line own
   opens : opened run lane number (ask_unless refusal (asked_by run.plan call) ∷ asks) guesses ≡ own ++ opened run lane (number + 1) asks later
   size : length later ≡ guess_count asks
   keeps : Keeps run lane (number + 1) asks later
 
 plain : (run : Run) (lane number : ℕ) (refusal : Option CallRefusal) (call : CallLine) (asks : List Ask) (guesses : List ℕ)
-    → lines_unless refusal (served_lines run lane number call) ≡ lines_unless refusal (item_lines run lane number call) → 0 ≡ guesses_unless refusal call
+    → lines_unless refusal (served_lines run lane number call) ≡ lines_unless refusal (item_lines run lane number call) → 0 ≡ served_or refusal (served_batches call) 0
     → opened run lane number (ask_unless refusal (asked_by run.plan call) ∷ asks) guesses ≡ opened run lane (number + 1) asks guesses
     → length (guess_of (ask_unless refusal (asked_by run.plan call)) 0) ≡ 0 → length guesses ≡ guess_count (ask_unless refusal (asked_by run.plan call) ∷ asks)
     → Keeps run lane number (ask_unless refusal (asked_by run.plan call) ∷ asks) guesses → Part run lane number refusal call asks guesses
@@ -135,7 +132,7 @@ part run lane number None (calls.UnsealAll context first count) asks (guess ∷ 
     }
 
 replies_count : (run : Run) (lane number : ℕ) (refusal : Option CallRefusal) (call : CallLine)
-    → length (lines_unless refusal (item_lines run lane number call)) ≡ replies_unless refusal call
+    → length (lines_unless refusal (item_lines run lane number call)) ≡ served_or refusal (items_of call) 1
 replies_count run lane number (Some refusal) call = refl
 replies_count run lane number None (calls.Seal context item) = refl
 replies_count run lane number None (calls.Unseal context item) = refl
@@ -185,7 +182,7 @@ module _ (run : Run) (lane : ℕ) where
       ∙ sym (sum_by-cons (call_guesses run.contexts) call more)
 
 -- how many guesses the calls of a lane keep, by its asks and by its calls
-one_kept : (plan : Plan) (refusal : Option CallRefusal) (call : CallLine) → length (guess_of (ask_unless refusal (asked_by plan call)) 0) ≡ guesses_unless refusal call
+one_kept : (plan : Plan) (refusal : Option CallRefusal) (call : CallLine) → length (guess_of (ask_unless refusal (asked_by plan call)) 0) ≡ served_or refusal (served_batches call) 0
 one_kept plan (Some refusal) call = refl
 one_kept plan None (calls.Seal context item) = refl
 one_kept plan None (calls.Unseal context item) = refl
@@ -220,13 +217,6 @@ drop_step (y ∷ all) xs (suc i) x is =
     let t = drop_step all xs i x is in
     (t.0, ap (λ (n : ℕ). drop n (y ∷ all)) (let z : suc i + 1 ≡ suc (i + 1) = omega arith in z) ∙ t.1)
 
--- the lines of one lane more
-told_lanes_split : (contexts : List (Option ContextView)) (calls : List CallLine) (lanes : List (List CallLine)) (r1 r2 : List (List ℕ)) (own : List Told) (guesses : List (List Told))
-    → length r1 ≡ printed.lane_replies contexts calls
-    → told_lanes contexts (calls ∷ lanes) (r1 ++ r2) (own ∷ guesses) ≡ told_calls contexts calls r1 own ∷ told_lanes contexts lanes r2 guesses
-told_lanes_split contexts calls lanes r1 r2 own guesses count =
-    (λ i. calls_only contexts calls r1 r2 own count i ∷ told_lanes contexts lanes (drop_at r1 r2 (printed.lane_replies contexts calls) count i) guesses)
-
 module _ (run : Run) (within : IsWithinLimits run.plan) (counted : AreCounted run) where
   -- what is known of a lane
   record Lane (lane : ℕ) (calls : List CallLine) : Type 0 where
@@ -255,7 +245,7 @@ module _ (run : Run) (within : IsWithinLimits run.plan) (counted : AreCounted ru
       let r1 = lane_replies run k calls in
       let r2 = all_lines (numbered (lane_replies run) (k + 1) lanes) in
       (λ i. lane_lines_are run k 0 calls (guesses_of run k) l.lines l.size l.keeps i ∷ lanes_are (k + 1) lanes s.1 i)
-      ∙ sym (told_lanes_split run.contexts calls lanes r1 r2 (own_opened run k calls) (numbered (own_opened run) (k + 1) lanes) (replies_size run k 0 calls))
+      ∙ sym (lanes_split run.contexts calls lanes r1 r2 (own_opened run k calls) (numbered (own_opened run) (k + 1) lanes) (replies_size run k 0 calls))
 
   lines_count : (k : ℕ) (lanes : List (List CallLine))
       → length (all_lines (numbered (lane_replies run) k lanes)) ≡ sum_by (printed.lane_replies run.contexts) lanes

@@ -1,5 +1,5 @@
 -- Only the places of its journals tell what a run replies.
-use Rattle.std.proofs.Common.{◌≡◌, ℕ, ◌+◌, List, [], ◌∷◌, length, map, refl, sym, ap, ◌∙◌, subst}
+use Rattle.std.proofs.Common.{◌≡◌, ℕ, ◌+◌, List, [], ◌∷◌, length, map, refl, sym, ap, subst}
 use Rattle.call_places.specs.declared.entries.Place.{Place}
 use Rattle.call_places.specs.declared.entries.Mark.{Mark}
 use Rattle.legal_journals.specs.Batches.{Ask, Nothing, ToSeal, ToOpen, ToOpenAll, block, place}
@@ -12,7 +12,6 @@ use Rattle.reply_texts.specs.ReplyText.{all_lines, numbered}
 use Rattle.due_replies.specs.Standing.{call_refusal}
 use Rattle.due_replies.specs.Asks.{ask_of, cipher_at}
 use Rattle.due_replies.specs.Runs.{Run, asks_of, journal_of, guesses_of, answer_line_of, place_line, lines_unless}
-use Rattle.result_lines.specs.Printed.{told_text}
 use Rattle.result_verdicts.specs.Opened.{opened}
 use Rattle.result_verdicts.specs.Replies.{item_lines, reply_lines, all_replies}
 use Rattle.result_verdicts.proofs.RunTexts.{all_opened}

@@ -2,5 +2,6 @@ pub mod Journals
 pub mod Replies
 pub mod Guesses
 pub mod Verdicts
+pub mod OneRun
 pub mod VerdictText
 pub mod Opened

@@ -1,15 +1,13 @@
 -- The verdict on a result: the first thing that is wrong with it, or that it is one that the plan may
 -- be answered with.
-use Rattle.std.specs.Prelude.{◌≡◌, ℕ, Bool, true, false, List, map, Option, Some, None, Result, Ok, Err}
+use Rattle.std.specs.Prelude.{ℕ, Bool, true, false, List, map, Option, Some, None, Result, Ok, Err}
 use Rattle.call_places.specs.declared.entries.Mark.{Mark}
 use Rattle.hpke_context.specs.Contexts.{ContextView}
 use Rattle.batch_plans.specs.declared.plan.Plan.{Plan}
-use Rattle.batch_plans.specs.declared.replies.KeyReply.{KeyReply}
-use Rattle.batch_plans.specs.declared.replies.ContextReply.{ContextReply}
 use Rattle.reply_texts.specs.ReplyText.{has_stamps}
 use Rattle.due_replies.specs.Runs.{Run, asks_of}
 use Rattle.result_lines.specs.declared.told.GuessLine.{GuessLine}
-use Rattle.result_lines.specs.Told.{ToldView, told_by}
+use Rattle.result_lines.specs.Told.{ToldView}
 use Rattle.result_verdicts.specs.declared.verdicts.Verdict.{Verdict}
 use Rattle.result_verdicts.specs.declared.verdicts.Verdict.TheVariants as verdicts
 use Rattle.result_verdicts.specs.Journals.{broken_journal, is_one_history}

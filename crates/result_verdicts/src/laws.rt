@@ -10,6 +10,7 @@ ghost use Rattle.batch_plans.specs.Limits.{IsWithinLimits};
 ghost use Rattle.due_replies.specs.Runs.{IsAllowed, run_text};
 ghost use Rattle.result_lines.specs.Told.{told_by};
 ghost use Rattle.result_verdicts.specs.declared.verdicts.Verdict.{Verdict};
+ghost use Rattle.result_verdicts.specs.OneRun.{PrintTheSame};
 ghost use Rattle.result_verdicts.specs.Verdicts.{by_form, run_of};
 
 /// Over given replies to the set-up and given contexts a text is legal exactly where there are
@@ -22,4 +23,19 @@ pub fn legal_texts_are_those_of_allowed_runs()
         ↔ ((journals : List (List Mark)) × (guesses : List (List ℕ))
         × IsAllowed (run_of plan contexts journals guesses)
         × (text ≡ run_text keys replies (run_of plan contexts journals guesses))) }
+{}
+
+/// A text is that of one run alone: two runs that are allowed and have one text have the same
+/// guesses and the same places in their journals, and in version 2 the same stamps.
+pub fn a_text_tells_one_run()
+    ensures { (plan : Plan) (keys : List KeyReply) (replies : List ContextReply)
+        (contexts : List (Option ContextView)) (journals others : List (List Mark))
+        (guesses further : List (List ℕ)) → IsWithinLimits plan
+        → length contexts ≡ length plan.contexts
+        → IsAllowed (run_of plan contexts journals guesses)
+        → IsAllowed (run_of plan contexts others further)
+        → run_text keys replies (run_of plan contexts journals guesses)
+        ≡ run_text keys replies (run_of plan contexts others further)
+        → PrintTheSame (run_of plan contexts journals guesses)
+        (run_of plan contexts others further) }
 {}

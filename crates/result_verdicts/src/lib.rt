@@ -14,6 +14,9 @@ mod laws;
 mod printing;
 mod verdicts;
 
-pub use laws::legal_texts_are_those_of_allowed_runs;
+pub use laws::{a_text_tells_one_run, legal_texts_are_those_of_allowed_runs};
 pub use printing::print_verdict;
 pub use verdicts::Verdict;
+
+#[cfg(test)]
+mod tests;

@@ -3,7 +3,7 @@ use Rattle.due_replies.specs.Asks.{ask_of}
 use Rattle.result_lines.specs.declared.told.GuessLine.{GuessLine}
 use Rattle.result_verdicts.specs.Guesses.{wrong_guess}
 use Rattle.journal_check.specs.Passing.{is_right_by}
-use Rattle.journal_check.proofs.Walks.{drop_next}
+use Rattle.told_journals.proofs.Walks.{drop_next}
 use Rattle.journal_check.proofs.ServedCalls.{points_at}
 use Rattle.journal_check.proofs.GuessSteps.{no_guess, go_past, at_opening}
 use Rattle.journal_check.proofs.guesses.judge_calls.Goals.{then-is_opening+else-next-guesses+else-not-is_right, else-is_opening}

@@ -1,9 +1,10 @@
 use Rattle.std.proofs.Common.{ℕ, ◌+◌, ◌-◌, sym, ap, ◌∙◌, arith}
 use Rattle.legal_journals.specs.Batches.{block}
-use Rattle.journal_check.specs.Asks.{items_asked, places_from}
+use Rattle.told_journals.specs.Asks.{items_asked, places_from}
 use Rattle.result_verdicts.specs.Guesses.{is_right}
 use Rattle.due_replies.specs.Standing.{call_refusal}
-use Rattle.journal_check.proofs.ServedCalls.{length-block, there_for, own_here, points_on, on_ok}
+use Rattle.result_verdicts.proofs.RunTexts.{length-block}
+use Rattle.journal_check.proofs.ServedCalls.{there_for, own_here, points_on, on_ok}
 use Rattle.journal_check.proofs.Openings.{judged, asked_some, context_asked, same_opening, if_ok_both}
 use Rattle.journal_check.proofs.guesses.pass_call.Goals as goal
 

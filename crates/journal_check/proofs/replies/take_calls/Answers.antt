@@ -1,7 +1,7 @@
 use Rattle.std.proofs.Common.{◌+◌, drop, arith}
 use Rattle.std.proofs.lemmas.Result.{err_from_is_err_and}
 use Rattle.result_verdicts.specs.Replies.{reply_lines, lane_replies}
-use Rattle.journal_check.proofs.Walks.{drop_next}
+use Rattle.told_journals.proofs.Walks.{drop_next}
 use Rattle.journal_check.proofs.Lanes.{go_on_lines, halt_lines}
 use Rattle.journal_check.proofs.ServedCalls.{points_at}
 use Rattle.journal_check.proofs.replies.take_calls.Goals as goal

@@ -2,7 +2,7 @@ use Rattle.std.proofs.Common.{◌≡◌, ◌+◌, List, ◌∷◌, ◌<◌, leng
 use Rattle.std.proofs.lemmas.Result.{err_from_is_err_and}
 use Rattle.batch_plans.specs.declared.plan.CallLine.{CallLine}
 use Rattle.result_verdicts.specs.Replies.{lane_replies, all_replies}
-use Rattle.journal_check.proofs.Walks.{drop_next}
+use Rattle.told_journals.proofs.Walks.{drop_next}
 use Rattle.journal_check.proofs.Lanes.{halt_lines}
 use Rattle.journal_check.proofs.replies.take_lanes.Goals as goal
 

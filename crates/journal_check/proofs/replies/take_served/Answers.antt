@@ -3,10 +3,11 @@ use Rattle.legal_journals.specs.Batches.{block}
 use Rattle.batch_plans.specs.Calls.{context_of}
 use Rattle.batch_plans.specs.declared.plan.CallLine.{CallLine}
 use Rattle.due_replies.specs.Runs.{place_line}
-use Rattle.journal_check.specs.Asks.{items_asked, places_from}
+use Rattle.told_journals.specs.Asks.{items_asked, places_from}
 use Rattle.result_verdicts.specs.Replies.{item_lines}
 use Rattle.journal_check.specs.Walks.{Holds}
-use Rattle.journal_check.proofs.ServedCalls.{length-block, there_for, own_here, points_on, run_lines_are, on_ok}
+use Rattle.result_verdicts.proofs.RunTexts.{length-block}
+use Rattle.journal_check.proofs.ServedCalls.{there_for, own_here, points_on, run_lines_are, on_ok}
 use Rattle.journal_check.proofs.replies.take_served.Goals as goal
 
 pub returns-in-Seal-clause-lines : goal.returns-in-Seal-clause-lines

@@ -1,4 +1,4 @@
-use Rattle.result_lines.proofs.Cursors.{mark_taken, mark_left}
+use Rattle.result_lines.proofs.Cursors.{mark_taken}
 use Rattle.std.proofs.Common.{sym, ap, ◌∙◌}
 use Rattle.result_lines.specs.Places.{mark_at}
 use Rattle.result_lines.proofs.lines.Lines.mark.Goals as goal

@@ -1,0 +1,34 @@
+//! The line of each verdict.
+
+use crate::{Verdict, print_verdict};
+use batch_io::MemorySink;
+use field_text::Printed;
+use std::test::Fail;
+
+// Own, by hand: each form of the line once, with the least and the greatest numbers.
+const LINES: [(Verdict, &str); 7] = [
+    (Verdict::Legal, "legal\n"),
+    (Verdict::Form { line: 1 }, "broken form 1\n"),
+    (Verdict::Journal { context: 0 }, "broken journal 0\n"),
+    (Verdict::Journal { context: 255 }, "broken journal 255\n"),
+    (Verdict::Stamps, "broken stamps\n"),
+    (Verdict::Reply { line: 5 }, "broken reply 5\n"),
+    (
+        Verdict::Guess { line: u32::MAX },
+        "broken guess 4294967295\n",
+    ),
+];
+
+#[test]
+fn each_verdict_is_printed(rt: HostRuntime) -> Result<(), Fail> {
+    let alloc = rt.alloc();
+    for (verdict, text) in &LINES {
+        let mut sink = MemorySink::new(vec![in alloc; 0; 40]?, 40, Vec::new(alloc));
+        assert_eq!(rt; print_verdict(*verdict, &mut sink), Printed::Whole);
+        assert_eq!(rt; sink.bytes(), text.as_bytes());
+        let mut failing = MemorySink::new(vec![in alloc; 0; 40]?, 40, Vec::from_array(alloc, [1])?);
+        assert_eq!(rt; print_verdict(*verdict, &mut failing), Printed::Failed);
+        assert_eq!(rt; failing.bytes().len(), 0);
+    }
+    Ok(())
+}

@@ -1,0 +1,225 @@
+//! All journals as one history.
+
+ghost use Rattle.std.specs.Prelude.{◌≡◌, ◌<◌, ◌^◌, ◌+◌, length, map, IfOk, OnOk};
+ghost use Rattle.std.specs.List.{list_all, range_with_len};
+ghost use Rattle.legal_journals.specs.Histories.{all_stamps, own_spots, stamped_on, journals_of};
+ghost use Rattle.legal_journals.specs.Checks.{are_same, is_same_spot, is_same_mark};
+ghost use Rattle.legal_journals.specs.Checks.{is_history as is_history_of, is_legal_history};
+ghost use Rattle.legal_journals.specs.Checks.{has_lane_spots};
+ghost use Rattle.batch_plans.specs.Limits.{IsWithinLimits};
+ghost use Rattle.due_replies.specs.Asks.{batch_of};
+ghost use Rattle.told_journals.specs.Histories.{Puts, PutsAll, is_within};
+
+use crate::journals::{is_same, is_unbroken};
+use crate::spots::{Spot, spots_on};
+use batch_plans::{PlainList, Plan};
+use call_places::{Mark, Place};
+use hpke_context::Context;
+use std::alloc::{AllocError, Global};
+
+// So many spots more, whatever they are.
+fn push_some(spots: &mut Vec<Spot>, count: usize) -> Result<(), AllocError>
+    ensures { OnOk result (length spots.new.items ≡ length spots.old.items + count) }
+{
+    'spots: for _spot in 0..count {
+        let place = Place {
+            lane: 0,
+            call: 0,
+            item: 0,
+        };
+        spots.push(Spot::new(0, place))?;
+    }
+    Ok(())
+}
+
+// A spot for each place of the journals, whatever it is.
+fn one_each(alloc: Global, journals: &[PlainList<Mark>]) -> Result<Vec<Spot>, AllocError>
+    ensures { IfOk result (λ spots. length spots.items ≡ length (all_stamps journals.now)) }
+{
+    let mut spots = Vec::new(alloc);
+    'journals: for marks in journals {
+        push_some(&mut spots, marks.as_slice().len())?;
+    }
+    Ok(spots)
+}
+
+// Puts the places of a journal where their stamps say.
+fn put_journal(history: &mut [Spot], context: u32, marks: &[Mark])
+    ensures { Puts history.old history.new context marks.now }
+{
+    'marks: for mark in marks {
+        let at = mark.stamp as usize;
+        if at < history.len() {
+            history[at] = Spot::new(context, mark.place);
+        }
+    }
+}
+
+// Puts those of all journals.
+fn put_journals(history: &mut [Spot], journals: &[PlainList<Mark>])
+    requires { length journals.now < 2 ^ 32 }
+    ensures { PutsAll history.old history.new 0 journals.now }
+{
+    'journals: for (context, marks) in journals.iter().enumerate() {
+        put_journal(history, context as u32, marks.as_slice());
+    }
+}
+
+fn is_same_spot_as(s: &Spot, t: &Spot) -> bool
+    ensures { result ≡ is_same_spot s.now t.now }
+{
+    s.context() == t.context() && is_same(s.place(), t.place())
+}
+
+// Whether the places of a lane are these, in order.
+fn has_lane(history: &[Spot], lane: u32, expected: &[Spot]) -> bool
+    ensures { result ≡ are_same is_same_spot (own_spots lane history.now) expected.now }
+{
+    let mut next = 0;
+    'history: for spot in history {
+        if spot.place().lane == lane {
+            if next == expected.len() || !is_same_spot_as(spot, &expected[next]) {
+                return false;
+            }
+            next += 1;
+        }
+    }
+    next == expected.len()
+}
+
+// Whether a journal has the places of its context, each with its index as its stamp.
+fn has_journal(history: &[Spot], context: u32, marks: &[Mark]) -> bool
+    ensures { result ≡ are_same is_same_mark marks.now (stamped_on context 0 history.now) }
+{
+    let mut next = 0;
+    'history: for (stamp, spot) in history.iter().enumerate() {
+        if spot.context() == context {
+            if next == marks.len() {
+                return false;
+            }
+            if !is_same(marks[next].place, spot.place()) || marks[next].stamp != stamp as u64 {
+                return false;
+            }
+            next += 1;
+        }
+    }
+    next == marks.len()
+}
+
+// Whether each journal has the places of its context.
+fn has_journals(history: &[Spot], journals: &[PlainList<Mark>]) -> bool
+    requires { length journals.now < 2 ^ 32 }
+    ensures { result ≡ are_same (are_same is_same_mark) journals.now
+        (journals_of (length journals.now) history.now) }
+{
+    'journals: for (context, marks) in journals.iter().enumerate() {
+        if !has_journal(history, context as u32, marks.as_slice()) {
+            return false;
+        }
+    }
+    true
+}
+
+// Whether each lane has the places that it asks for, in order.
+fn has_lanes(
+    alloc: Global,
+    plan: &Plan,
+    contexts: &[Option<Context>],
+    history: &[Spot],
+) -> Result<bool, AllocError>
+    requires { IsWithinLimits plan.now }
+    ensures { IfOk result (λ good. good
+        ≡ list_all (has_lane_spots (batch_of plan.now contexts.now) history.now)
+        (range_with_len 0 (length plan.now.lanes))) }
+{
+    let lanes = plan.lanes.as_slice();
+    'lanes: for lane in 0..lanes.len() {
+        let expected = spots_on(alloc, contexts, lane as u32, lanes[lane].as_slice())?;
+        if !has_lane(history, lane as u32, &expected) {
+            return Ok(false);
+        }
+    }
+    Ok(true)
+}
+
+// Whether each place is on one of so many contexts, and of one of so many lanes.
+fn are_within(history: &[Spot], contexts: usize, lanes: usize) -> bool
+    ensures { result ≡ list_all (is_within contexts lanes) history.now }
+{
+    'history: for spot in history {
+        if spot.context() as usize >= contexts || spot.place().lane as usize >= lanes {
+            return false;
+        }
+    }
+    true
+}
+
+fn places_of(alloc: Global, history: &[Spot]) -> Result<Vec<Place>, AllocError>
+    ensures { IfOk result (λ places. places.items ≡ map (λ s. s.place) history.now) }
+{
+    let mut places = Vec::new(alloc);
+    'history: for spot in history {
+        places.push(spot.place())?;
+    }
+    Ok(places)
+}
+
+// Whether a list of places of so many contexts is a history of the batch.
+fn is_history(
+    alloc: Global,
+    plan: &Plan,
+    contexts: &[Option<Context>],
+    count: usize,
+    history: &[Spot],
+) -> Result<bool, AllocError>
+    requires { IsWithinLimits plan.now }
+    ensures { IfOk result (λ good. good
+        ≡ is_history_of (batch_of plan.now contexts.now) count history.now) }
+{
+    if !are_within(history, count, plan.lanes.as_slice().len()) {
+        return Ok(false);
+    }
+    if !has_lanes(alloc, plan, contexts, history)? {
+        return Ok(false);
+    }
+    let places = places_of(alloc, history)?;
+    Ok(is_unbroken(plan, contexts, &places))
+}
+
+// Whether the stamps make one history of all journals. The spots, one for each place, are written
+// over.
+fn judge(
+    alloc: Global,
+    plan: &Plan,
+    contexts: &[Option<Context>],
+    journals: &[PlainList<Mark>],
+    history: &mut [Spot],
+) -> Result<bool, AllocError>
+    requires within { IsWithinLimits plan.now }
+    requires few { length journals.now < 2 ^ 32 }
+    requires size { length history.old ≡ length (all_stamps journals.now) }
+    ensures { IfOk result (λ good. good
+        ≡ is_legal_history (batch_of plan.now contexts.now) journals.now) }
+{
+    put_journals(history, journals);
+    if !has_journals(history, journals) {
+        return Ok(false);
+    }
+    is_history(alloc, plan, contexts, journals.len(), history)
+}
+
+/// Whether the stamps make one history of all journals.
+pub fn is_one_history(
+    alloc: Global,
+    plan: &Plan,
+    contexts: &[Option<Context>],
+    journals: &[PlainList<Mark>],
+) -> Result<bool, AllocError>
+    requires within { IsWithinLimits plan.now }
+    requires few { length journals.now < 2 ^ 32 }
+    ensures { IfOk result (λ good. good
+        ≡ is_legal_history (batch_of plan.now contexts.now) journals.now) }
+{
+    let mut history = one_each(alloc, journals)?;
+    judge(alloc, plan, contexts, journals, &mut history)
+}
