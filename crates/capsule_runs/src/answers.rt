@@ -104,9 +104,7 @@ impl<M: Multiplier> Gateway<'_, M> {
             }
         }
     }
-}
 
-impl<M: Multiplier> Gateway<'_, M> {
     // What becomes of the answer at this index, in its slot.
     fn fill_slot<R: Threads + Sync>(
         &self,

@@ -17,8 +17,7 @@ pub record IsSetUp (plan : Plan) (keys : List KeyReply) (contexts : List Context
   pub key_replies : AreKeyReplies plan keys
   pub outcomes : AreOutcomes plan keys contexts standing
 
--- the replies to the key lines alone. There are such replies for each plan, and no others, as the law
--- `one_key_set_up` says
+-- the replies to the key lines alone. No plan has two lists of them, as the law `one_key_set_up` says
 pub record IsKeySetUp (plan : Plan) (keys : List KeyReply) : Type 0 where
   pub key_count : length keys ≡ length plan.keys
   pub key_replies : AreKeyReplies plan keys
