@@ -28,4 +28,6 @@ def is_command(words):
     if words[:1] == [b"run"]:
         names = options_of(words[1:])
         return names is not None and len(names) == len(set(names))
+    if words[:1] == [b"capsules"]:
+        return options_of(words[1:]) in ([], [b"--mult"])
     return len(words) == 2 and words[0] == b"rehearse" and re.fullmatch(SCHEDULE, words[1]) is not None

@@ -1,9 +1,8 @@
 -- A whole exchange gives each end the other's text.
-use Rattle.std.proofs.Common.{◌≡◌, ◌<◌, ℕ, List, [], ◌∷◌, length, take, get_or, Option, Some, None, Result, Ok, Err, refl, sym, ap, subst, ◌∙◌, arith, zero-add}
-use Rattle.std.specs.Prelude.{slice_get, IsTrue, ◌≢◌, All}
+use Rattle.std.proofs.Common.{◌≡◌, ℕ, List, length, take, get_or, Option, Some, Result, Ok, refl, sym, ap, subst, ◌∙◌, arith, zero-add}
+use Rattle.std.specs.Prelude.{slice_get, IsTrue, ◌≢◌}
 use Rattle.std.proofs.lemmas.List.Elements.{All-get_or}
 use Rattle.std.proofs.lemmas.Option.{slice_get_within, get_or_from_slice_get}
-use Rattle.ring_core.specs.Sets.{Set, sntrup761, sntrup857}
 use Rattle.sntrup_kem.specs.Kem.{IsGenerated, drawn_r}
 use Rattle.sntrup_kem.specs.Laws.{DrawsShort}
 use Rattle.call_places.specs.declared.spans.Span.{Span}
@@ -11,8 +10,8 @@ use Rattle.call_places.specs.Spans.{span_bytes}
 use Rattle.hkdf_labelled.specs.declared.suites.Aead.{Aead}
 use Rattle.hkdf_labelled.specs.declared.suites.Aead.TheVariants.{Aes128, Aes256, ExportOnly}
 use Rattle.hpke_context.specs.Contexts.{encrypts}
-use Rattle.ohttp_capsule.specs.Laws.{Asks, Exchanges, WholeExchange}
-use Rattle.ohttp_capsule.specs.Replies.{answered, taken}
+use Rattle.ohttp_capsule.specs.Laws.{Asks, WholeExchange}
+use Rattle.ohttp_capsule.specs.Replies.{taken}
 use Rattle.batch_plans.specs.declared.plan.Plan.{Plan}
 use Rattle.batch_plans.specs.declared.plan.KeyLine.{KeyLine}
 use Rattle.batch_plans.specs.declared.plan.KeyLine.TheVariants as lines
@@ -29,12 +28,12 @@ use Rattle.capsule_frames.specs.declared.lines.CapsuleLine.TheVariants.{Ask, Ans
 use Rattle.capsule_frames.specs.declared.lines.CapsulePlan.{CapsulePlan}
 use Rattle.capsule_frames.specs.declared.replies.CapsuleRefusal.{CapsuleRefusal}
 use Rattle.capsule_frames.specs.declared.replies.CapsuleReply.{CapsuleReply}
-use Rattle.capsule_frames.specs.declared.replies.CapsuleReply.TheVariants.{Answered, Took}
+use Rattle.capsule_frames.specs.declared.replies.CapsuleReply.TheVariants.{Took}
 use Rattle.capsule_frames.specs.Within.{IsLineWithin, IsWithin}
 use Rattle.capsule_runs.specs.Results.{SentView, GivenView}
 use Rattle.capsule_runs.specs.Lines.{sent_to, sent_by, sent, left_in, left_by, request_of, given_of, given_with, given_by, given, response_of, took_of, took_by, took}
-use Rattle.capsule_runs.specs.Replies.{Done, nothing_done, answered_reply, took_reply, replies_after, due_replies, AreReplies}
-use Rattle.capsule_runs.specs.Laws.{number_at, IsExchange, TakesAnswer, IsCarried, WholeExchanges}
+use Rattle.capsule_runs.specs.Replies.{nothing_done, answered_reply, took_reply, replies_after, due_replies}
+use Rattle.capsule_runs.specs.Laws.{number_at, IsExchange, TakesAnswer, WholeExchanges}
 use Rattle.capsule_runs.proofs.Placing.{done_from, reply_at, ask_at, answer_at}
 
 -- what is known of both KEMs

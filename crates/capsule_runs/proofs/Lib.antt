@@ -4,3 +4,6 @@ pub mod Placing
 pub mod Filling
 pub mod OneReply
 pub mod Exchanging
+pub mod Earlier
+pub mod Answering
+pub mod Causes

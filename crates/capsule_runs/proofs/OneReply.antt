@@ -1,5 +1,5 @@
 -- A plan has one list of replies, and one text.
-use Rattle.std.proofs.Common.{◌≡◌, ℕ, List, sym, ap, ◌∙◌}
+use Rattle.std.proofs.Common.{◌≡◌, List, sym, ap, ◌∙◌}
 use Rattle.batch_plans.specs.declared.replies.KeyReply.{KeyReply}
 use Rattle.context_table.specs.Laws.{OneKeySetUp}
 use Rattle.capsule_frames.specs.declared.replies.CapsuleReply.{CapsuleReply}

@@ -1,5 +1,5 @@
 -- All asks, then all answers, then all takes give what the lines give in their order.
-use Rattle.std.proofs.Common.{◌≡◌, ℕ, ◌+◌, List, [], ◌∷◌, ◌++◌, length, take, map, Result, refl, sym, ap, ◌∙◌, arith, append_assoc}
+use Rattle.std.proofs.Common.{◌≡◌, ℕ, ◌+◌, List, [], ◌∷◌, ◌++◌, length, take, map, Result, refl, sym, ap, ◌∙◌, append_assoc}
 use Rattle.std.proofs.lemmas.List.{take_at, length_push}
 use Rattle.call_places.specs.declared.spans.Span.{Span}
 use Rattle.hkdf_labelled.specs.declared.suites.Kdf.{Kdf}

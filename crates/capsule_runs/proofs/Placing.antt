@@ -1,5 +1,5 @@
 -- The replies and what is done, by the places of lines.
-use Rattle.std.proofs.Common.{◌≡◌, ◌<◌, ℕ, zero, suc, ◌+◌, List, [], ◌∷◌, ◌++◌, length, take, Some, None, Result, refl, sym, ap, ◌∙◌, arith}
+use Rattle.std.proofs.Common.{◌≡◌, ◌<◌, ℕ, zero, suc, ◌+◌, List, [], ◌∷◌, length, take, Some, None, refl, sym, ap, ◌∙◌, arith}
 use Rattle.std.specs.Prelude.{slice_get, cond}
 use Rattle.std.proofs.lemmas.List.{length_push}
 use Rattle.std.proofs.lemmas.List.Sums.{sum_by-cons}
@@ -13,9 +13,7 @@ use Rattle.context_table.proofs.Lists.{slice_get-append_low, slice_get-append_en
 use Rattle.capsule_frames.specs.declared.words.CapsuleWord.TheVariants as words
 use Rattle.capsule_frames.specs.declared.lines.CapsuleLine.{CapsuleLine}
 use Rattle.capsule_frames.specs.declared.lines.CapsuleLine.TheVariants.{Ask, Answer, Take}
-use Rattle.capsule_frames.specs.declared.replies.CapsuleRefusal.{CapsuleRefusal}
 use Rattle.capsule_frames.specs.Capsules.{is_of, count_of}
-use Rattle.capsule_runs.specs.Results.{SentView, GivenView}
 use Rattle.capsule_runs.specs.Lines.{sent, given}
 use Rattle.capsule_runs.specs.Replies.{Done, reply_to, done_with, replies_after}
 
@@ -36,7 +34,7 @@ reply_at plan keys (l ∷ lines) d (suc i) line e =
 
 -- ---- what is done stays
 
-asks_stay : (plan : Plan) (keys : List KeyReply) (lines : List CapsuleLine) (d : Done) (k : ℕ)
+pub asks_stay : (plan : Plan) (keys : List KeyReply) (lines : List CapsuleLine) (d : Done) (k : ℕ)
     → k < length d.asks
     → slice_get (done_from plan keys d lines).asks k ≡ slice_get d.asks k
 asks_stay plan keys [] d k h = refl
@@ -49,7 +47,7 @@ asks_stay plan keys (Answer key id request nonce text ∷ lines) d k h =
     asks_stay plan keys lines (done_with plan keys d (Answer key id request nonce text)) k h
 asks_stay plan keys (Take ask response ∷ lines) d k h = asks_stay plan keys lines d k h
 
-answers_stay : (plan : Plan) (keys : List KeyReply) (lines : List CapsuleLine) (d : Done) (k : ℕ)
+pub answers_stay : (plan : Plan) (keys : List KeyReply) (lines : List CapsuleLine) (d : Done) (k : ℕ)
     → k < length d.answers
     → slice_get (done_from plan keys d lines).answers k ≡ slice_get d.answers k
 answers_stay plan keys [] d k h = refl
@@ -64,12 +62,12 @@ answers_stay plan keys (Take ask response ∷ lines) d k h = answers_stay plan k
 
 -- ---- numbers
 
-asks_more : (line : CapsuleLine) (lines : List CapsuleLine)
+pub asks_more : (line : CapsuleLine) (lines : List CapsuleLine)
     → count_of words.Ask (line ∷ lines)
     ≡ cond (is_of words.Ask line) 1 0 + count_of words.Ask lines
 asks_more line lines = sum_by-cons (λ l. cond (is_of words.Ask l) 1 0) line lines
 
-answers_more : (line : CapsuleLine) (lines : List CapsuleLine)
+pub answers_more : (line : CapsuleLine) (lines : List CapsuleLine)
     → count_of words.Answer (line ∷ lines)
     ≡ cond (is_of words.Answer line) 1 0 + count_of words.Answer lines
 answers_more line lines = sum_by-cons (λ l. cond (is_of words.Answer l) 1 0) line lines

@@ -3,3 +3,4 @@ pub mod Lines
 pub mod Replies
 pub mod Orders
 pub mod Laws
+pub mod Refusals

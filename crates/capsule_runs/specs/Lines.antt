@@ -1,6 +1,6 @@
 -- What becomes of one capsule line, after those before it (RFC 9458, 4). A byte string is a list of
 -- numbers below 256; spans name bytes of the plan's pool.
-use Rattle.std.specs.Prelude.{ℕ, List, ◌∷◌, Option, Some, None, Result, Ok, Err, slice_get}
+use Rattle.std.specs.Prelude.{ℕ, List, Option, Some, None, Result, Ok, Err, slice_get}
 use Rattle.hkdf_labelled.specs.declared.suites.Kdf.{Kdf}
 use Rattle.hkdf_labelled.specs.declared.suites.Aead.{Aead}
 use Rattle.hkdf_labelled.specs.declared.suites.Suite.{Suite}

@@ -68,8 +68,8 @@ due_replies p keys = replies_after p.plan keys nothing_done p.lines
 
 -- ---- the whole
 
--- the replies to the key lines and to the capsule lines. There are such replies for each plan, and
--- no others, as the law `one_reply` says
+-- the replies to the key lines and to the capsule lines. No plan has two lists of them, as the law
+-- `one_reply` says
 pub record AreReplies (p : CapsulePlan) (keys : List KeyReply) (replies : List CapsuleReply)
     : Type 0 where
   pub keys_are : IsKeySetUp p.plan keys

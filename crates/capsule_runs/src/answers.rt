@@ -24,11 +24,7 @@ use std::thread::{Threads, for_each_mut};
 const MOST_THREADS: usize = 16;
 
 // The request of an answer: bytes of its line, or what an earlier ask made.
-fn request_at<'a>(
-    pool: &'a [u8],
-    asks: &'a [AskResult],
-    request: EncField,
-) -> Option<&'a [u8]>
+fn request_at<'a>(pool: &'a [u8], asks: &'a [AskResult], request: EncField) -> Option<&'a [u8]>
     requires { IsMessageWithin most_request (length pool.now) request }
     ensures request { option_copied result ≡ request_at pool.now asks.now request }
     ensures size { IfSome result (λ r. length r.now ≤ most_request) }
@@ -108,9 +104,7 @@ impl<M: Multiplier> Gateway<'_, M> {
             }
         }
     }
-}
 
-impl<M: Multiplier> Gateway<'_, M> {
     // What becomes of the answer at this index, in its slot.
     fn fill_slot<R: Threads + Sync>(
         &self,

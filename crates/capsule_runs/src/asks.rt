@@ -92,9 +92,7 @@ fn sent<M: Multiplier>(
     let words = context_stream(plan, number);
     match keys.key(key) {
         None => Ok(Err(CapsuleRefusal::NoKey)),
-        Some(key) => Ok(Ok(sent_by(
-            alloc, words, mult, key, id, kdf, aead, text,
-        )?)),
+        Some(key) => Ok(Ok(sent_by(alloc, words, mult, key, id, kdf, aead, text)?)),
     }
 }
 

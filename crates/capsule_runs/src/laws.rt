@@ -1,6 +1,7 @@
 //! What is said of the replies to capsules, each the contract of a function that does no work.
 
 ghost use Rattle.capsule_runs.specs.Laws.{OneReply, OneText, WholeExchanges};
+ghost use Rattle.capsule_runs.specs.Refusals.{AsksHaveCauses, AnswersHaveCauses, TakesHaveCauses};
 
 use context_table::laws::one_key_set_up;
 use ohttp_capsule::laws::a_whole_exchange;
@@ -26,4 +27,14 @@ pub fn whole_exchanges()
     both_ends_agree::<Sntrup857>();
     a_whole_exchange::<Sntrup761>();
     a_whole_exchange::<Sntrup857>();
+}
+
+/// Each line is refused exactly where the cause stands, the first that applies.
+pub fn refusals_have_causes()
+    ensures asks { AsksHaveCauses }
+    ensures answers { AnswersHaveCauses }
+    ensures takes { TakesHaveCauses }
+{
+    both_ends_agree::<Sntrup761>();
+    both_ends_agree::<Sntrup857>();
 }

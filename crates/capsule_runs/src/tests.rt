@@ -150,8 +150,9 @@ fn a_large_batch(rt: HostRuntime) -> Result<(), Fail> {
     text.extend_from_slice(b"answer 0 7 @0 aaaaaaaaaaaaaaaaaaaaaaaaaaaaaaaa ")?;
     put_large(&mut text)?;
     for number in 1..256 {
-        let line =
-            format!(in rt.alloc(); "answer 0 7 @{number} aaaaaaaaaaaaaaaaaaaaaaaaaaaaaaaa -\n")?;
+        let line = format!(in rt.alloc();
+            "answer 0 7 @{number} aaaaaaaaaaaaaaaaaaaaaaaaaaaaaaaa -\n"
+        )?;
         text.extend_from_slice(line.as_bytes())?;
     }
     for number in 0..256 {
@@ -160,6 +161,9 @@ fn a_large_batch(rt: HostRuntime) -> Result<(), Fail> {
     }
     text.extend_from_slice(b"end\n")?;
     let got = hash_of_reply(&rt, rt.alloc(), &text);
-    assert_eq!(rt; got, <[u8; 32]>::from_hex("7e0f38ef629822b925dfd66c09226ce5be1bc3a1e9e3206bd59c27fecffa6c95")?);
+    assert_eq!(rt;
+        got,
+        <[u8; 32]>::from_hex("7e0f38ef629822b925dfd66c09226ce5be1bc3a1e9e3206bd59c27fecffa6c95")?
+    );
     Ok(())
 }

@@ -8,12 +8,6 @@ use Rattle.batch_plans.specs.declared.replies.ContextReply.{ContextReply}
 use Rattle.context_table.specs.Keys.{AreKeyReplies}
 use Rattle.context_table.specs.Contexts.{AreOutcomes}
 
--- the replies to the key lines alone. There are such replies for each plan, and no others, as the law
--- `one_key_set_up` says
-pub record IsKeySetUp (plan : Plan) (keys : List KeyReply) : Type 0 where
-  pub key_count : length keys ≡ length plan.keys
-  pub key_replies : AreKeyReplies plan keys
-
 -- there is one for each plan, as the law `one_set_up` says: it is a function of the plan alone
 pub record IsSetUp (plan : Plan) (keys : List KeyReply) (contexts : List ContextReply)
     (standing : List (Option ContextView)) : Type 0 where
@@ -22,3 +16,8 @@ pub record IsSetUp (plan : Plan) (keys : List KeyReply) (contexts : List Context
   pub standing_count : length standing ≡ length plan.contexts
   pub key_replies : AreKeyReplies plan keys
   pub outcomes : AreOutcomes plan keys contexts standing
+
+-- the replies to the key lines alone. No plan has two lists of them, as the law `one_key_set_up` says
+pub record IsKeySetUp (plan : Plan) (keys : List KeyReply) : Type 0 where
+  pub key_count : length keys ≡ length plan.keys
+  pub key_replies : AreKeyReplies plan keys

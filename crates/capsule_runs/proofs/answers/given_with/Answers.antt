@@ -1,4 +1,4 @@
-use Rattle.std.proofs.Common.{Result, Err, ap, refl}
+use Rattle.std.proofs.Common.{Err, ap, refl}
 use Rattle.std.specs.Prelude.{option_copied}
 use Rattle.capsule_runs.proofs.Telling.{given_refused}
 use Rattle.capsule_runs.proofs.answers.given_with.Goals as goal

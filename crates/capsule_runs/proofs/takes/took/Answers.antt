@@ -1,4 +1,4 @@
-use Rattle.std.proofs.Common.{◌≡◌, List, ℕ, Result, Ok, Err, ap, sym, ◌∙◌}
+use Rattle.std.proofs.Common.{List, ℕ, Result, Ok, Err, ap, ◌∙◌}
 use Rattle.ohttp_capsule.specs.declared.faults.CapsuleFault.{CapsuleFault}
 use Rattle.capsule_frames.specs.declared.replies.CapsuleRefusal.{CapsuleRefusal}
 use Rattle.capsule_runs.proofs.Telling.{took_is}
