@@ -1,10 +1,9 @@
 -- A reply line tells its number and its bytes.
-use Rattle.std.proofs.Common.{◌≡◌, ℕ, zero, suc, ◌+◌, ◌*◌, ◌/◌, ◌%◌, ◌^◌, ◌<◌, ◌≤◌, ◌==◌, Bool, true, false, List, [], ◌∷◌, ◌++◌, length, codes, inl, inr, refl, sym, ap, ◌∙◌, append_assoc, arith}
-use Rattle.std.specs.Prelude.{slice_index, unwrap_or, decimal}
+use Rattle.std.proofs.Common.{◌≡◌, ℕ, suc, ◌+◌, ◌/◌, ◌%◌, ◌^◌, ◌<◌, ◌==◌, Bool, false, List, [], ◌∷◌, ◌++◌, codes, inl, inr, refl, sym, ap, ◌∙◌, append_assoc, arith}
+use Rattle.std.specs.Prelude.{slice_index, decimal}
 use Rattle.std.specs.List.{slice_split, All}
-use Rattle.std.specs.Char.{is_ascii_digit}
 use Rattle.std.specs.Str.Parse.{digits_value}
-use Rattle.std.proofs.lemmas.Bool.{agree_below_at, cases_lt, eqb-true}
+use Rattle.std.proofs.lemmas.Bool.{cases_lt}
 use Rattle.std.proofs.lemmas.Bool.Decides.{nat_tests}
 use Rattle.std.proofs.lemmas.List.{get_or_past, append_cancel_right, append_cancel_left}
 use Rattle.std.proofs.lemmas.List.Splits.{slice_split_at}
@@ -91,10 +90,17 @@ texts_same (x ∷ xs) (y ∷ ys) are e = digits_same (x ∷ xs) (y ∷ ys) are e
 
 -- ---- lines
 
+regroup : (a b c d e : List ℕ) → (((a ++ b) ++ c) ++ d) ++ e ≡ a ++ (b ++ (c ++ (d ++ e)))
+regroup a b c d e = simp append_assoc
+
 pub lines_same : (word : List ℕ) (n m : ℕ) (xs ys : List ℕ) → n < 2 ^ 64 → m < 2 ^ 64 → IsBytes xs
     → served_line word n xs ≡ served_line word m ys → (n ≡ m) × (xs ≡ ys)
 lines_same word n m xs ys small few are e =
-    let behind : decimal n ++ (codes " " ++ (hex_text xs ++ codes "\n")) ≡ decimal m ++ (codes " " ++ (hex_text ys ++ codes "\n")) = append_cancel_left word _ _ e in
+    let behind : decimal n ++ (codes " " ++ (hex_text xs ++ codes "\n")) ≡ decimal m ++ (codes " " ++ (hex_text ys ++ codes "\n")) = append_cancel_left word
+    (decimal n ++ (codes " " ++ (hex_text xs ++ codes "\n")))
+    (decimal m ++ (codes " " ++ (hex_text ys ++ codes "\n")))
+    (sym (regroup word (decimal n) (codes " ") (hex_text xs) (codes "\n")) ∙ e
+    ∙ regroup word (decimal m) (codes " ") (hex_text ys) (codes "\n")) in
     let parts = numbers_same n m (hex_text xs ++ codes "\n") (hex_text ys ++ codes "\n") small few behind in
     let texts : hex_text xs ≡ hex_text ys = append_cancel_right (hex_text xs) (hex_text ys) (codes "\n") parts.1 in
     (parts.0, texts_same xs ys are texts)

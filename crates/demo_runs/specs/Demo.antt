@@ -3,7 +3,7 @@
 use Rattle.std.specs.Prelude.{◌≡◌, ℕ, List, [], ◌∷◌, ◌++◌, ◌-◌, codes, decimal, Option, Some}
 use Rattle.std.specs.List.{range_with_len, flat_map}
 use Rattle.sha2.specs.Sha256.{sha256}
-use Rattle.hex.specs.Hex.{encode_lower}
+use Rattle.field_text.specs.Printing.{hex_text}
 use Rattle.hpke_context.specs.Contexts.{ContextView, cipher_of}
 use Rattle.batch_plans.specs.declared.replies.KeyReply.{KeyReply}
 use Rattle.batch_plans.specs.declared.replies.KeyReply.TheVariants.{Generated}
@@ -53,4 +53,4 @@ abbrev pub report_text : DemoReport → List ℕ
 report_text report =
     codes "messages " ++ decimal report.messages ++ codes " opened " ++ decimal report.opened
     ++ codes " refused " ++ decimal (report.messages - report.opened) ++ codes "\n"
-    ++ codes "sha256 " ++ encode_lower report.hash ++ codes "\n"
+    ++ codes "sha256 " ++ hex_text report.hash ++ codes "\n"

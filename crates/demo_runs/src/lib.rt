@@ -1,13 +1,14 @@
-// A library with one function.
+//! A demonstration: a large batch from a number, sealed by lanes on threads and opened again.
 #![tactic(auto)]
 
-ghost use Rattle.std.specs.Prelude.{◌≡◌};
-ghost use Rattle.demo_runs.specs.Echo.{echo_of};
+mod demos;
+mod opening;
+mod reports;
+mod sealing;
+mod serving;
 
-// The `ensures` clause is the contract: what `echo` returns is `echo_of` of its argument, a definition
-// in `specs/Echo.antt`, which a caller's clause can cite too.
-pub fn echo(x: usize) -> usize
-    ensures { result ≡ echo_of x }
-{
-    x
-}
+pub use demos::demo;
+pub use reports::{DemoReport, print_report};
+
+#[cfg(test)]
+mod tests;

@@ -31,7 +31,7 @@ begins seed = record { version = refl; seed_is = refl; keys = refl; contexts = r
 -- ---- the first text
 
 -- each message has its lane
-share_sum : (messages lanes : ℕ) → 0 < lanes
+pub share_sum : (messages lanes : ℕ) → 0 < lanes
     → sum_by (λ lane. length (share_of messages lanes lane)) (range_with_len 0 lanes) ≡ messages
 share_sum messages lanes some =
     count_parts (λ (j : ℕ). j % lanes) lanes (range_with_len 0 messages) (λ j here. omega arith)

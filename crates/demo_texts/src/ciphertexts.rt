@@ -7,8 +7,8 @@ ghost use Rattle.demo_texts.specs.Ciphertexts.{AreCiphertexts};
 /// The bytes of a ciphertext: 64 bytes of text and a tag of 16.
 pub const CIPHERTEXT_SIZE: usize = 80;
 
-// Each of them is below 256.
-fn see_bytes(bytes: &[u8])
+/// Each of them is below 256: what their type says, as a fact for callers.
+pub fn see_bytes(bytes: &[u8])
     ensures { IsBytes bytes.now }
 {
     'bytes: for byte in bytes {

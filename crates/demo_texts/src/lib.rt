@@ -6,4 +6,4 @@ mod ciphertexts;
 mod texts;
 
 pub use batches::{opening_batch, sealing_batch};
-pub use ciphertexts::CIPHERTEXT_SIZE;
+pub use ciphertexts::{CIPHERTEXT_SIZE, see_bytes};
