@@ -1,5 +1,5 @@
 -- What both batches make up.
-use Rattle.std.proofs.Common.{◌≡◌, ℕ, false, List, [], ◌∷◌, length, Option, Some, None, refl, ap, ◌∙◌}
+use Rattle.std.proofs.Common.{◌≡◌, ℕ, false, List, [], ◌∷◌, length, Option, Some, None, refl, sym, ap, subst, ◌∙◌}
 use Rattle.std.specs.List.{concat, range_with_len}
 use Rattle.std.proofs.lemmas.List.{length-map}
 use Rattle.std.proofs.lemmas.List.FromFn.{length-range_with_len}
@@ -9,6 +9,8 @@ use Rattle.sha2.specs.Sha256.{sha256}
 use Rattle.hpke_context.specs.Contexts.{ContextView}
 use Rattle.batch_plans.specs.declared.replies.KeyReply.{KeyReply}
 use Rattle.batch_plans.specs.declared.replies.KeyReply.TheVariants.{Generated, Secret, Peer, Refused}
+use Rattle.context_table.proofs.OneSetUp.{one_set_up_lem}
+use Rattle.demo_texts.specs.Plans.{set_up_plan}
 use Rattle.demo_runs.specs.declared.reports.DemoReport.{DemoReport}
 use Rattle.demo_runs.specs.Demo.{sealed_at, all_sealed, all_opened, none_opened, IsReportOf, IsDemo}
 use Rattle.demo_runs.specs.Steps.{ciphertexts, is_generated, HasCiphertexts, IsSealed}
@@ -95,3 +97,26 @@ count_found messages (Refused refusal ∷ keys) standing cts h = absurd (let f :
 
 pub sealed_count : (seed messages : ℕ) (cts : List (List ℕ)) → IsSealed seed messages (Some cts) → length cts ≡ messages
 sealed_count seed messages cts s = count_found messages s.keys s.standing cts s.found_is
+
+-- ---- one report
+
+one_of : (messages : ℕ) (keys : List KeyReply) (standing : List (Option ContextView)) (a b : DemoReport)
+    → IsReportOf messages keys standing a → IsReportOf messages keys standing b → a ≡ b
+one_of messages [] standing a b first second = first ∙ sym second
+one_of messages (Generated public secret ∷ []) standing a b first second =
+    let same : Some first.0 ≡ Some second.0 = sym first.1 ∙ second.1 in
+    let context : first.0 ≡ second.0 = cc in
+    first.2 ∙ ap (λ (c : ContextView). all_opened c messages) context ∙ sym second.2
+one_of messages (Generated public secret ∷ key ∷ keys) standing a b first second = first ∙ sym second
+one_of messages (Secret public ∷ keys) standing a b first second = first ∙ sym second
+one_of messages (Peer ∷ keys) standing a b first second = first ∙ sym second
+one_of messages (Refused refusal ∷ keys) standing a b first second = first ∙ sym second
+
+pub one_report_lem : (seed messages : ℕ) (a b : DemoReport) → IsDemo seed messages a → IsDemo seed messages b → a ≡ b
+one_report_lem seed messages a b first second =
+    let same = one_set_up_lem (set_up_plan seed) first.keys second.keys first.contexts second.contexts first.standing second.standing
+    first.set_up second.set_up in
+    one_of messages second.keys second.standing a b
+    (subst (λ (ks : List KeyReply). IsReportOf messages ks second.standing a) same.0
+    (subst (λ (ss : List (Option ContextView)). IsReportOf messages first.keys ss a) same.2 first.report_is))
+    second.report_is
