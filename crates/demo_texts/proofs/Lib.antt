@@ -1,0 +1,10 @@
+pub mod HexFields
+pub mod Steps
+pub mod FrontLines
+pub mod SealLines
+pub mod OpenLines
+pub mod Sizes
+pub mod Parts
+pub mod Seen
+pub mod Spelled
+pub mod Answered
