@@ -11,3 +11,4 @@ pub mod OperandWalk
 pub mod OperandReads
 pub mod Steps
 pub mod Within
+pub mod Demos

@@ -7,9 +7,9 @@ use Rattle.std.specs.Str.Parse.{digits_value}
 use Rattle.std.proofs.lemmas.Bool.{leb-true}
 use Rattle.std.proofs.lemmas.List.Elements.{All-cons, All-nil}
 use Rattle.decimal_text.specs.Decimals.{decimal_from_to, is_decimal}
-use Rattle.batch_words.specs.Words.{IsWithin, Setting, are_of, capsules, check, is_comma, lanes, mult, only_mult, options, options_with, rehearse, run, schedule, settings, value_of, workers}
+use Rattle.batch_words.specs.Words.{IsWithin, Setting, are_of, capsules, check, demo, is_comma, lanes, mult, numbers, only_mult, options, options_with, rehearse, run, schedule, settings, value_of, workers}
 use Rattle.batch_words.specs.declared.commands.Command.{Command}
-use Rattle.batch_words.specs.declared.commands.Command.TheVariants.{Capsules, Check, Rehearse, Run}
+use Rattle.batch_words.specs.declared.commands.Command.TheVariants.{Capsules, Check, Demo, Rehearse, Run}
 use Rattle.batch_words.specs.declared.commands.Mult.{Mult}
 use Rattle.batch_words.specs.declared.options.Options.{Options}
 use Rattle.batch_words.proofs.Steps.{before_some}
@@ -112,7 +112,33 @@ run_within words c e = go (options (codes "--workers" ∷ codes "--mult" ∷ [])
         let same : Run given.workers given.mult ≡ c = cc in
         subst IsWithin same (options_within (codes "--workers" ∷ codes "--mult" ∷ []) words given is)
 
+numbers_within : (seed messages lanes : List ℕ) (c : Command) → numbers seed messages lanes ≡ Some c → IsWithin c
+numbers_within seed messages texts c e =
+    go (decimal_from_to 0 18446744073709551615 seed) (decimal_from_to 1 65536 messages) (decimal_from_to 1 16 texts) refl refl e
+  where
+    go : (s m l : Option ℕ) → decimal_from_to 1 65536 messages ≡ m → decimal_from_to 1 16 texts ≡ l
+        → option_and_then (λ a. option_and_then (λ b. option_map (Demo a b) l) m) s ≡ Some c → IsWithin c
+    go None m l is_m is_l e = cc
+    go (Some a) None l is_m is_l e = cc
+    go (Some a) (Some b) None is_m is_l e = cc
+    go (Some a) (Some b) (Some d) is_m is_l e =
+        let same : Demo a b d ≡ c = cc in
+        let some = decimal_within 1 65536 messages b is_m in
+        let few = decimal_within 1 16 texts d is_l in
+        subst IsWithin same (some.0, some.1, few.0, few.1)
+
+demo_within : (words : List (List ℕ)) (c : Command) → demo words ≡ Some c → IsWithin c
+demo_within [] c e = cc
+demo_within (seed ∷ []) c e = cc
+demo_within (seed ∷ messages ∷ []) c e = cc
+demo_within (seed ∷ messages ∷ last ∷ []) c e = numbers_within seed messages last c e
+demo_within (seed ∷ messages ∷ last ∷ next ∷ more) c e = cc
+
 -- ---- what is read
+
+pub demo_read : (words : List (List ℕ)) (o : Option Command) → o ≡ demo words → IfSome o IsWithin
+demo_read words None is = tt
+demo_read words (Some c) is = demo_within words c (sym is)
 
 of_mult : (make : Mult → Command) (o : Option Mult) (c : Command) → ((m : Mult) → IsWithin (make m)) → option_map make o ≡ Some c → IsWithin c
 of_mult make None c each e = cc

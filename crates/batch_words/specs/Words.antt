@@ -1,9 +1,9 @@
 -- The command grammar: the words after the program's name, each the list of its bytes.
-use Rattle.std.specs.Prelude.{ℕ, ◌≤◌, All, ◌==◌, ◌&&◌, not, nat_le, length, find, Bool, true, List, [], ◌∷◌, codes, Option, Some, None, option_map, option_and_then, if◌then◌else◌}
+use Rattle.std.specs.Prelude.{ℕ, ◌≤◌, ◌-◌, ◌^◌, All, ◌==◌, ◌&&◌, not, nat_le, length, find, Bool, true, List, [], ◌∷◌, codes, Option, Some, None, option_map, option_and_then, if◌then◌else◌}
 use Rattle.std.specs.List.{list_any, slice_split, before_first, after_first}
 use Rattle.std.specs.Str.{bytes_eq}
 use Rattle.batch_words.specs.declared.commands.Command.{Command}
-use Rattle.batch_words.specs.declared.commands.Command.TheVariants.{Run, Rehearse, Check, Capsules}
+use Rattle.batch_words.specs.declared.commands.Command.TheVariants.{Run, Rehearse, Demo, Check, Capsules}
 use Rattle.batch_words.specs.declared.commands.Mult.{Mult}
 use Rattle.batch_words.specs.declared.commands.Mult.TheVariants.{Plain, Karatsuba, Lanes}
 use Rattle.batch_words.specs.declared.options.Options.{Options}
@@ -114,6 +114,20 @@ rehearse [] = None
 rehearse (word ∷ []) = option_map Rehearse (schedule word)
 rehearse (word ∷ next ∷ more) = None
 
+-- SEED MESSAGES LANES
+abbrev pub numbers : List ℕ → List ℕ → List ℕ → Option Command
+numbers seed messages lanes =
+    option_and_then (λ s. option_and_then (λ m. option_map (Demo s m) (decimal_from_to 1 16 lanes))
+    (decimal_from_to 1 65536 messages)) (decimal_from_to 0 (2 ^ 64 - 1) seed)
+
+-- after `demo`: SEED, MESSAGES and LANES
+abbrev pub demo : List (List ℕ) → Option Command
+demo [] = None
+demo (seed ∷ []) = None
+demo (seed ∷ messages ∷ []) = None
+demo (seed ∷ messages ∷ lanes ∷ []) = numbers seed messages lanes
+demo (seed ∷ messages ∷ lanes ∷ next ∷ more) = None
+
 -- `--mult M` alone
 abbrev pub only_mult : List (List ℕ) → Option Mult
 only_mult words = option_map (λ given. given.mult) (options (codes "--mult" ∷ []) words)
@@ -132,12 +146,15 @@ command_of [] = None
 command_of (word ∷ more) =
     if bytes_eq word (codes "run") then run more
     else (if bytes_eq word (codes "rehearse") then rehearse more
+    else (if bytes_eq word (codes "demo") then demo more
     else (if bytes_eq word (codes "check") then check more
-    else (if bytes_eq word (codes "capsules") then capsules more else None)))
+    else (if bytes_eq word (codes "capsules") then capsules more else None))))
 
 -- the numbers of a command are within their ranges
 abbrev pub IsWithin : Command → Type 0
 IsWithin (Run workers mult) = (1 ≤ workers) × (workers ≤ 16)
 IsWithin (Rehearse schedule) = (length schedule ≤ 65536) × All (λ lane. lane ≤ 15) schedule
+IsWithin (Demo seed messages lanes) =
+    (1 ≤ messages) × (messages ≤ 65536) × (1 ≤ lanes) × (lanes ≤ 16)
 IsWithin (Check mult) = Unit {0}
 IsWithin (Capsules mult) = Unit {0}

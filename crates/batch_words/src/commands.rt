@@ -9,6 +9,13 @@ pub enum Command {
     Run { workers: u32, mult: Mult },
     /// `rehearse`: read a batch and answer it on one thread, in the order of a schedule.
     Rehearse { schedule: Schedule },
+    /// `demo`: seal so many messages, from 1 to 65,536, in so many lanes, from 1 to 16, by keys of a
+    /// seed, and open them again. Nothing is read.
+    Demo {
+        seed: u64,
+        messages: u32,
+        lanes: u32,
+    },
     /// `check`: read a batch and a result, and judge the result.
     Check { mult: Mult },
     /// `capsules`: read keys and messages of RFC 9458, and answer them.

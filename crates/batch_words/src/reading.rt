@@ -2,19 +2,26 @@
 
 ghost use Rattle.std.specs.Prelude.{◌≡◌, IfOk, IfSome, map};
 ghost use Rattle.std.specs.String.{string_bytes};
-ghost use Rattle.batch_words.specs.Words.{IsWithin, capsules, check, command_of};
+ghost use Rattle.batch_words.specs.Words.{IsWithin, capsules, check, command_of, demo, numbers};
 ghost use Rattle.batch_words.specs.Words.{only_mult, rehearse, run};
 
 use crate::commands::{Command, Mult};
 use crate::options::read_options;
 use crate::parsing::parse_operands;
 use crate::schedules::read_schedule;
+use decimal_text::decimal_from_to;
 use std::alloc::{AllocError as OutOfMemory, Global};
+
+/// The most messages of a demonstration.
+const MOST_MESSAGES: u64 = 65_536;
+
+/// The most lanes.
+const MOST_LANES: u64 = 16;
 
 /// The command that the words spell, or none where they are not in the grammar.
 ///
 /// `words` are those of the command line without the program's name. The first is `run`, `rehearse`,
-/// `check` or `capsules`.
+/// `demo`, `check` or `capsules`.
 ///
 /// After `run` there may stand `--workers W` and `--mult M`, each at most once, in either order, as
 /// two words or as one word with `=`. W is a decimal from 1 to 16 without leading zeros, and 4 where
@@ -23,6 +30,9 @@ use std::alloc::{AllocError as OutOfMemory, Global};
 ///
 /// After `rehearse` there stands one word: `-` for a schedule of no steps, or 1 to 65,536 decimals
 /// from 0 to 15 without leading zeros, with a comma between each two.
+///
+/// After `demo` there stand three decimals without leading zeros: a seed from 0 to 2^64 − 1, a number
+/// of messages from 1 to 65,536, and a number of lanes from 1 to 16.
 ///
 /// After `check` and after `capsules` there may stand `--mult M`, as after `run`.
 ///
@@ -38,6 +48,7 @@ pub fn read_words(alloc: Global, words: &[String]) -> Result<Option<Command>, Ou
     match first.as_str() {
         "run" => read_run(alloc, rest),
         "rehearse" => read_rehearse(alloc, rest),
+        "demo" => read_demo(alloc, rest),
         "check" => read_check(alloc, rest),
         "capsules" => read_capsules(alloc, rest),
         _ => Ok(None),
@@ -64,6 +75,33 @@ fn read_rehearse(alloc: Global, words: &[String]) -> Result<Option<Command>, Out
     };
     let schedule = read_schedule(alloc, matches.get_str("schedule").unwrap())?;
     Ok(schedule.map(|schedule| Command::Rehearse { schedule }))
+}
+
+// SEED, MESSAGES and LANES, or none.
+fn numbers(seed: &str, messages: &str, lanes: &str) -> Option<Command>
+    ensures { result ≡ numbers seed.now messages.now lanes.now }
+{
+    let seed = decimal_from_to(seed.as_bytes(), 0, u64::MAX)?;
+    let messages = decimal_from_to(messages.as_bytes(), 1, MOST_MESSAGES)?;
+    let lanes = decimal_from_to(lanes.as_bytes(), 1, MOST_LANES)?;
+    Some(Command::Demo {
+        seed,
+        messages: messages as u32,
+        lanes: lanes as u32,
+    })
+}
+
+// The words after `demo`.
+fn read_demo(alloc: Global, words: &[String]) -> Result<Option<Command>, OutOfMemory>
+    ensures { IfOk result (λ command. command ≡ demo (map string_bytes words.now)) }
+{
+    let Some(matches) = parse_operands(alloc, &["seed", "messages", "lanes"], words)? else {
+        return Ok(None);
+    };
+    let seed = matches.get_str("seed").unwrap();
+    let messages = matches.get_str("messages").unwrap();
+    let lanes = matches.get_str("lanes").unwrap();
+    Ok(numbers(seed, messages, lanes))
 }
 
 // M of a command that has no other option.

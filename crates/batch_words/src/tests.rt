@@ -42,6 +42,19 @@ const REHEARSALS: [(&[&str], &'static [u8]); 5] = [
     (&["rehearse", "9,10,15,0,7"], &[9, 10, 15, 0, 7]),
 ];
 
+// Own, by hand, from the same rules: words that spell a demonstration, and its three numbers.
+const DEMOS: [(&[&str], u64, u32, u32); 4] = [
+    (&["demo", "0", "1", "1"], 0, 1, 1),
+    (&["demo", "7", "2000", "8"], 7, 2_000, 8),
+    (&["demo", "10", "65536", "16"], 10, 65_536, 16),
+    (
+        &["demo", "18446744073709551615", "9", "9"],
+        18_446_744_073_709_551_615,
+        9,
+        9,
+    ),
+];
+
 // Own, by hand, from the same rules: the words after `check` and `capsules`, and what they say.
 const MULTS: [(&[&str], Mult); 6] = [
     (&[], Mult::Plain),
@@ -53,7 +66,7 @@ const MULTS: [(&[&str], Mult); 6] = [
 ];
 
 // Own, by hand, from the same rules: words that spell no command.
-const NO_COMMANDS: [&[&str]; 87] = [
+const NO_COMMANDS: [&[&str]; 104] = [
     // no words, or another command
     &[],
     &[""],
@@ -63,7 +76,6 @@ const NO_COMMANDS: [&[&str]; 87] = [
     &[" run"],
     &["--workers", "4"],
     &["--workers=4", "run"],
-    &["demo", "1", "1", "1"],
     &["help"],
     &["run", "run"],
     &["run", "rehearse", "-"],
@@ -137,6 +149,25 @@ const NO_COMMANDS: [&[&str]; 87] = [
     &["rehearse", "-", "-"],
     &["rehearse", "--schedule", "0"],
     &["rehearse", "--help"],
+    // another demonstration
+    &["demo"],
+    &["demo", "7"],
+    &["demo", "7", "1"],
+    &["demo", "7", "1", "1", "1"],
+    &["demo", "7", "0", "1"],
+    &["demo", "7", "65537", "1"],
+    &["demo", "7", "1", "0"],
+    &["demo", "7", "1", "17"],
+    &["demo", "18446744073709551616", "1", "1"],
+    &["demo", "07", "1", "1"],
+    &["demo", "7", "01", "1"],
+    &["demo", "7", "1", "01"],
+    &["demo", "-7", "1", "1"],
+    &["demo", "", "1", "1"],
+    &["demo", "seed", "1", "1"],
+    &["demo", "--seed", "7", "1", "1"],
+    &["demo", "7", "1", "1", "--workers", "4"],
+    &["demo", "--help"],
     // other words after `check` and `capsules`
     &["check", "--workers", "4"],
     &["check", "--mult", "fast"],
@@ -151,7 +182,7 @@ const NO_COMMANDS: [&[&str]; 87] = [
 ];
 
 // Words with a word `--`, which `clap` alone would take.
-const DASHES: [&[&str]; 11] = [
+const DASHES: [&[&str]; 12] = [
     &["--", "run"],
     &["run", "--"],
     &["run", "--workers", "--", "4"],
@@ -161,6 +192,7 @@ const DASHES: [&[&str]; 11] = [
     &["rehearse", "--"],
     &["rehearse", "--", "0"],
     &["rehearse", "0", "--"],
+    &["demo", "--", "7", "1", "1"],
     &["check", "--"],
     &["capsules", "--mult", "plain", "--"],
 ];
@@ -211,6 +243,29 @@ fn words_of_a_rehearsal_are_read(rt: HostRuntime) -> Result<(), Fail> {
         if let Some(schedule) = schedule {
             assert_eq!(rt; schedule.as_slice(), lanes, "{words:?}");
         }
+    }
+    Ok(())
+}
+
+// The three numbers of a demonstration.
+fn numbers_of(command: Option<Command>) -> Option<(u64, u32, u32)> {
+    match command {
+        Some(Command::Demo {
+            seed,
+            messages,
+            lanes,
+        }) => Some((seed, messages, lanes)),
+        _ => None,
+    }
+}
+
+#[test]
+fn words_of_a_demonstration_are_read(rt: HostRuntime) -> Result<(), Fail> {
+    let alloc = rt.alloc();
+    for (words, seed, messages, lanes) in &DEMOS {
+        let (words, seed, messages, lanes) = (*words, *seed, *messages, *lanes);
+        let read = read_words(alloc, &strings(alloc, words)?)?;
+        assert_eq!(rt; numbers_of(read), Some((seed, messages, lanes)), "{words:?}");
     }
     Ok(())
 }
