@@ -23,7 +23,7 @@ use Rattle.batch_runner.specs.declared.outcomes.Outcome.{Outcome}
 use Rattle.batch_runner.specs.declared.outcomes.Outcome.TheVariants as outcomes
 use Rattle.batch_runner.specs.Input.{IsInput}
 use Rattle.batch_runner.specs.Outcomes.{outcome_on}
-use Rattle.batch_runner.specs.Text.{Answers, Exchanges, IsBadFor, IsBroken, IsJudged, IsTold, Judges, MayEnd, TellsVerdict}
+use Rattle.batch_runner.specs.Text.{Answers, Exchanges, IsBadFor, IsBroken, IsJudged, IsReadBy, IsTold, Judges, MayEnd, ReadsInput}
 
 -- ---- an input that is too large
 
@@ -43,42 +43,70 @@ unfolding capsules
 large_capsules text large = ap whole (front_too_large capsule_lines most_input text large)
 
 module _ (text : List ℕ) (large : most_input < length text) (outcome : Outcome) (line : List ℕ) where
-  told_when_large : (command : Command) → MayEnd command text outcome line → IsTold too_many outcome line
-  told_when_large (commands.Run workers mult) end =
+  told_when_large : (command : Command) → ReadsInput command → MayEnd command text outcome line → IsTold too_many outcome line
+  told_when_large (commands.Run workers mult) reads end =
       subst (λ r. Answers (commands.Run workers mult) r outcome line) (large_batch text large) end
-  told_when_large (commands.Rehearse schedule) end =
+  told_when_large (commands.Demo seed messages lanes) reads end = absurd reads
+  told_when_large (commands.Rehearse schedule) reads end =
       subst (λ r. Answers (commands.Rehearse schedule) r outcome line) (large_batch text large) end
-  told_when_large (commands.Check mult) end =
+  told_when_large (commands.Check mult) reads end =
       subst (λ r. Judges r text outcome line) (large_front text large) end
-  told_when_large (commands.Capsules mult) end =
+  told_when_large (commands.Capsules mult) reads end =
       subst (λ r. Exchanges r outcome line) (large_capsules text large) end
 
-  ends_when_large : (command : Command) → IsTold too_many outcome line → MayEnd command text outcome line
-  ends_when_large (commands.Run workers mult) told =
+  ends_when_large : (command : Command) → ReadsInput command → IsTold too_many outcome line → MayEnd command text outcome line
+  ends_when_large (commands.Run workers mult) reads told =
       subst (λ r. Answers (commands.Run workers mult) r outcome line) (sym (large_batch text large)) told
-  ends_when_large (commands.Rehearse schedule) told =
+  ends_when_large (commands.Demo seed messages lanes) reads told = absurd reads
+  ends_when_large (commands.Rehearse schedule) reads told =
       subst (λ r. Answers (commands.Rehearse schedule) r outcome line) (sym (large_batch text large)) told
-  ends_when_large (commands.Check mult) told =
+  ends_when_large (commands.Check mult) reads told =
       subst (λ r. Judges r text outcome line) (sym (large_front text large)) told
-  ends_when_large (commands.Capsules mult) told =
+  ends_when_large (commands.Capsules mult) reads told =
       subst (λ r. Exchanges r outcome line) (sym (large_capsules text large)) told
 
 -- what comes of what was read comes of all that there was to read
 ends_as_read : (command : Command) (xs input : List ℕ) (new : Option (List ℕ)) (outcome : Outcome) (text : List ℕ)
-    → IsInput (Some xs) new input → MayEnd command input outcome text → MayEnd command xs outcome text
-ends_as_read command xs input None outcome text (consumed, within, stop) end = absurd consumed
-ends_as_read command xs input (Some rest) outcome text (consumed, within, inl at_end) end =
+    → ReadsInput command → IsInput (Some xs) new input → MayEnd command input outcome text → MayEnd command xs outcome text
+ends_as_read command xs input None outcome text reads (consumed, within, stop) end = absurd consumed
+ends_as_read command xs input (Some rest) outcome text reads (consumed, within, inl at_end) end =
     let same : input ≡ xs = sym (consumed ∙ ap (λ zs. input ++ zs) at_end ∙ append-nil input) in
     subst (λ read. MayEnd command read outcome text) same end
-ends_as_read command xs input (Some rest) outcome text (consumed, within, inr full) end =
+ends_as_read command xs input (Some rest) outcome text reads (consumed, within, inr full) end =
     let large : most_input < length input = omega (arith, full) in
     let larger : most_input < length xs = omega (arith, full, ap length consumed, length-append input rest) in
-    ends_when_large xs larger outcome text command (told_when_large input large outcome text command end)
+    ends_when_large xs larger outcome text command reads (told_when_large input large outcome text command reads end)
 
 pub ends_as_told : (command : Command) (xs input : List ℕ) (old new : Option (List ℕ)) (outcome : Outcome) (text : List ℕ)
-    → old ≡ Some xs → IsInput old new input → MayEnd command input outcome text → MayEnd command xs outcome text
-ends_as_told command xs input old new outcome text told read end =
-    ends_as_read command xs input new outcome text (subst (λ o. IsInput o new input) told read) end
+    → ReadsInput command → old ≡ Some xs → IsInput old new input → MayEnd command input outcome text → MayEnd command xs outcome text
+ends_as_told command xs input old new outcome text reads told read end =
+    ends_as_read command xs input new outcome text reads (subst (λ o. IsInput o new input) told read) end
+
+-- ---- who reads the input
+
+pub reads_unless : (command : Command) → ((seed messages lanes : ℕ) → command ≡ commands.Demo seed messages lanes → ⊥) → ReadsInput command
+reads_unless (commands.Run workers mult) other = tt
+reads_unless (commands.Rehearse schedule) other = tt
+reads_unless (commands.Demo seed messages lanes) other = other seed messages lanes refl
+reads_unless (commands.Check mult) other = tt
+reads_unless (commands.Capsules mult) other = tt
+
+module _ (old new : Option (List ℕ)) (input : List ℕ) where
+  pub read_by : (command : Command) → ReadsInput command → IsInput old new input → IsReadBy command old new input
+  read_by (commands.Run workers mult) reads is = is
+  read_by (commands.Rehearse schedule) reads is = is
+  read_by (commands.Demo seed messages lanes) reads is = absurd reads
+  read_by (commands.Check mult) reads is = is
+  read_by (commands.Capsules mult) reads is = is
+
+  -- a bad line is one of an input
+  pub input_of_bad : (command : Command) (line : ℕ) (reason : Reason) → IsBadFor command input line reason
+      → IsReadBy command old new input → IsInput old new input
+  input_of_bad (commands.Run workers mult) line reason bad is = is
+  input_of_bad (commands.Rehearse schedule) line reason bad is = is
+  input_of_bad (commands.Demo seed messages lanes) line reason bad is = absurd bad
+  input_of_bad (commands.Check mult) line reason bad is = is
+  input_of_bad (commands.Capsules mult) line reason bad is = is
 
 -- ---- which outcomes there are
 
@@ -122,6 +150,7 @@ of_input (commands.Run workers mult) input outcome text end =
     of_answers (commands.Run workers mult) (batch input) outcome text end
 of_input (commands.Rehearse schedule) input outcome text end =
     of_answers (commands.Rehearse schedule) (batch input) outcome text end
+of_input (commands.Demo seed messages lanes) input outcome text end = of_done outcome end.outcome_is
 of_input (commands.Check mult) input outcome text end = of_judges (front_batch input) input outcome text end
 of_input (commands.Capsules mult) input outcome text end = of_exchanges (capsules input) outcome text end
 
@@ -178,6 +207,8 @@ module _ (line : ℕ) (reason : Reason) (text : List ℕ) where
       → IsBadFor command input line reason × (text ≡ bad_text (record { line = line; reason = reason }))
   bad_line (commands.Run workers mult) input end = bad_answers (commands.Run workers mult) (batch input) end
   bad_line (commands.Rehearse schedule) input end = bad_answers (commands.Rehearse schedule) (batch input) end
+  bad_line (commands.Demo seed messages lanes) input end =
+      let no : outcomes.BadBatch line reason ≡ outcomes.Done = end.outcome_is in cc
   bad_line (commands.Check mult) input end = bad_judges (front_batch input) input end
   bad_line (commands.Capsules mult) input end = bad_exchanges (capsules input) end
 
@@ -226,6 +257,8 @@ module _ (told : Verdict) (text : List ℕ) where
       absurd (no_answers (commands.Run workers mult) (batch input) end)
   broken_result (commands.Rehearse schedule) input end =
       absurd (no_answers (commands.Rehearse schedule) (batch input) end)
+  broken_result (commands.Demo seed messages lanes) input end =
+      let no : outcomes.Broken told ≡ outcomes.Done = end.outcome_is in cc
   broken_result (commands.Check mult) input end =
       let b = broken_judges input (front_batch input) refl end in
       (mult, refl, b.0, b.1)

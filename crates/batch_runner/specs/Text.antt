@@ -20,10 +20,13 @@ use Rattle.capsule_frames.specs.declared.lines.CapsulePlan.{CapsulePlan}
 use Rattle.capsule_frames.specs.Capsules.{capsules}
 use Rattle.capsule_frames.specs.Capsules.{BadAt as BadCapsulesAt}
 use Rattle.capsule_runs.specs.Replies.{IsCapsuleReply}
+use Rattle.demo_runs.specs.declared.reports.DemoReport.{DemoReport}
+use Rattle.demo_runs.specs.Demo.{IsDemo, report_text}
 use Rattle.batch_words.specs.declared.commands.Command.{Command}
 use Rattle.batch_words.specs.declared.commands.Command.TheVariants as commands
 use Rattle.batch_runner.specs.declared.outcomes.Outcome.{Outcome}
 use Rattle.batch_runner.specs.declared.outcomes.Outcome.TheVariants.{Done, BadBatch as IsBad}
+use Rattle.batch_runner.specs.Input.{IsInput}
 use Rattle.batch_runner.specs.Outcomes.{outcome_on}
 
 -- ---- an input that is not in the command's grammar
@@ -48,6 +51,7 @@ pub record IsRehearsal (plan : Plan) (schedule text : List ℕ) : Type 0 where
 abbrev pub AnswersBatches : Command → Type 0
 AnswersBatches (commands.Run workers mult) = Unit {0}
 AnswersBatches (commands.Rehearse schedule) = Unit {0}
+AnswersBatches (commands.Demo seed messages lanes) = ⊥
 AnswersBatches (commands.Check mult) = ⊥
 AnswersBatches (commands.Capsules mult) = ⊥
 
@@ -55,12 +59,22 @@ AnswersBatches (commands.Capsules mult) = ⊥
 abbrev pub IsReplyBy : Command → Plan → List ℕ → Type 0
 IsReplyBy (commands.Run workers mult) plan text = IsReply plan text
 IsReplyBy (commands.Rehearse schedule) plan text = IsRehearsal plan schedule text
+IsReplyBy (commands.Demo seed messages lanes) plan text = ⊥
 IsReplyBy (commands.Check mult) plan text = ⊥
 IsReplyBy (commands.Capsules mult) plan text = ⊥
 
 abbrev pub Answers : Command → Result Plan BadBatch → Outcome → List ℕ → Type 0
 Answers command (Ok plan) outcome text = (outcome ≡ Done) × IsReplyBy command plan text
 Answers command (Err bad) outcome text = IsTold bad outcome text
+
+-- ---- `demo`: nothing is read
+
+-- the lines of the one report of this seed and this many messages
+pub record Demonstrates (seed messages : ℕ) (outcome : Outcome) (text : List ℕ) : Type 0 where
+  pub report : DemoReport
+  pub is : IsDemo seed messages report
+  pub outcome_is : outcome ≡ Done
+  pub text_is : text ≡ report_text report
 
 -- ---- `check`: a batch is read, and what stands behind it is judged
 
@@ -97,12 +111,31 @@ Exchanges (Err bad) outcome text = IsTold bad outcome text
 
 -- ---- all commands
 
+-- a command that reads its input
+abbrev pub ReadsInput : Command → Type 0
+ReadsInput (commands.Run workers mult) = Unit {0}
+ReadsInput (commands.Rehearse schedule) = Unit {0}
+ReadsInput (commands.Demo seed messages lanes) = ⊥
+ReadsInput (commands.Check mult) = Unit {0}
+ReadsInput (commands.Capsules mult) = Unit {0}
+
+-- the command's input: what was left, up to its end or to the most that is taken. `demo` takes nothing,
+-- and nothing is said of its input
+abbrev pub IsReadBy : Command → Option (List ℕ) → Option (List ℕ) → List ℕ → Type 0
+IsReadBy (commands.Run workers mult) old new input = IsInput old new input
+IsReadBy (commands.Rehearse schedule) old new input = IsInput old new input
+IsReadBy (commands.Demo seed messages lanes) old new input = new ≡ old
+IsReadBy (commands.Check mult) old new input = IsInput old new input
+IsReadBy (commands.Capsules mult) old new input = IsInput old new input
+
 -- the command may end so for this input, and write this text, where no fault comes in its way
 abbrev pub MayEnd : Command → List ℕ → Outcome → List ℕ → Type 0
 MayEnd (commands.Run workers mult) input outcome text =
     Answers (commands.Run workers mult) (batch input) outcome text
 MayEnd (commands.Rehearse schedule) input outcome text =
     Answers (commands.Rehearse schedule) (batch input) outcome text
+MayEnd (commands.Demo seed messages lanes) input outcome text =
+    Demonstrates seed messages outcome text
 MayEnd (commands.Check mult) input outcome text =
     Judges (front_batch input) input outcome text
 MayEnd (commands.Capsules mult) input outcome text = Exchanges (capsules input) outcome text
@@ -111,5 +144,6 @@ MayEnd (commands.Capsules mult) input outcome text = Exchanges (capsules input) 
 abbrev pub IsBadFor : Command → List ℕ → ℕ → Reason → Type 0
 IsBadFor (commands.Run workers mult) input line reason = BadAt input line reason
 IsBadFor (commands.Rehearse schedule) input line reason = BadAt input line reason
+IsBadFor (commands.Demo seed messages lanes) input line reason = ⊥
 IsBadFor (commands.Check mult) input line reason = FrontBadAt input line reason
 IsBadFor (commands.Capsules mult) input line reason = BadCapsulesAt input line reason

@@ -102,6 +102,6 @@ pub(crate) fn answers_to<R: Threads + Wait + Sync, G: Gate + Sync>(
     match command {
         Command::Run { workers, mult } => served_by(rt, alloc, plan, *workers, *mult, gate),
         Command::Rehearse { schedule } => rehearsed_by(rt, alloc, plan, schedule.as_slice()),
-        Command::Check { .. } | Command::Capsules { .. } => unreachable!(),
+        Command::Demo { .. } | Command::Check { .. } | Command::Capsules { .. } => unreachable!(),
     }
 }

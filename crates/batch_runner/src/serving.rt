@@ -12,12 +12,13 @@ ghost use Rattle.result_verdicts.specs.declared.verdicts.Verdict.{Verdict};
 ghost use Rattle.result_verdicts.specs.VerdictText.{verdict_text};
 ghost use Rattle.batch_runner.specs.declared.outcomes.Outcome.{Outcome as Outcome_};
 ghost use Rattle.batch_runner.specs.Input.{IsInput, input_limit};
-ghost use Rattle.batch_runner.specs.Text.{IsBadFor, IsBroken, MayEnd};
+ghost use Rattle.batch_runner.specs.Text.{IsBadFor, IsBroken, IsReadBy, MayEnd, ReadsInput};
 ghost use Rattle.batch_words.specs.declared.commands.Command.{Command as Command_};
 ghost use Rattle.batch_words.specs.declared.commands.Mult.{Mult};
 ghost use Rattle.batch_words.specs.Words.{command_of, IsWithin};
 
 use crate::batches::answer_batch;
+use crate::demonstrating::demonstrate;
 use crate::exchanging::exchange;
 use crate::judging::judge;
 use crate::outcomes::Outcome;
@@ -37,7 +38,8 @@ fn answer_input<R: Threads + Wait + Sync, K: Sink, G: Gate + Sync>(
     sink: &mut K,
     gate: &G,
 ) -> Outcome
-    requires { IsWithin command.now }
+    requires within { IsWithin command.now }
+    requires reads { ReadsInput command.now }
     ensures whole { result ≢ Outcome.WriteFault → result ≢ Outcome.OutOfMemory
         → (text : List ℕ) × MayEnd command.now input.now result text
         × Appends (K.written sink.old) (K.written sink.new) text }
@@ -53,6 +55,7 @@ fn answer_input<R: Threads + Wait + Sync, K: Sink, G: Gate + Sync>(
         Command::Rehearse { .. } => answer_batch(rt, alloc, input, command, sink, gate),
         Command::Check { mult } => judge(rt, alloc, input, *mult, sink),
         Command::Capsules { mult } => exchange(rt, alloc, input, *mult, sink),
+        Command::Demo { .. } => unreachable!(),
     }
 }
 
@@ -65,7 +68,8 @@ fn answer<R: Threads + Wait + Sync, S: Source, K: Sink, G: Gate + Sync>(
     sink: &mut K,
     gate: &G,
 ) -> Outcome
-    requires { IsWithin command.now }
+    requires within { IsWithin command.now }
+    requires reads { ReadsInput command.now }
     ensures whole { result ≢ Outcome.ReadFault → result ≢ Outcome.WriteFault
         → result ≢ Outcome.OutOfMemory → (input : List ℕ)
         × IsInput (S.left source.old) (S.left source.new) input
@@ -100,6 +104,55 @@ fn answer<R: Threads + Wait + Sync, S: Source, K: Sink, G: Gate + Sync>(
     }
 }
 
+// Does what a command says.
+fn obey<R: Threads + Wait + Sync, S: Source, K: Sink, G: Gate + Sync>(
+    rt: &R,
+    alloc: Global,
+    command: &Command,
+    source: &mut S,
+    sink: &mut K,
+    gate: &G,
+) -> Outcome
+    requires { IsWithin command.now }
+    ensures whole { result ≢ Outcome.ReadFault → result ≢ Outcome.WriteFault
+        → result ≢ Outcome.OutOfMemory → (input : List ℕ)
+        × IsReadBy command.now (S.left source.old) (S.left source.new) input
+        × (text : List ℕ) × MayEnd command.now input result text
+        × Appends (K.written sink.old) (K.written sink.new) text }
+    ensures cut { result ≡ Outcome.WriteFault → (input : List ℕ)
+        × IsReadBy command.now (S.left source.old) (S.left source.new) input
+        × (outcome : Outcome_) × (text : List ℕ) × MayEnd command.now input outcome text
+        × AppendsPrefix (K.written sink.old) (K.written sink.new) text }
+    ensures unwritten { (result ≡ Outcome.ReadFault) ⊎ (result ≡ Outcome.OutOfMemory)
+        → sink.new ≡ sink.old }
+    ensures unread { (seed messages lanes : ℕ) → command.now ≡ Command.Demo seed messages lanes
+        → (source.new ≡ source.old) × (result ≢ Outcome.ReadFault) }
+    ensures read_fault { result ≡ Outcome.ReadFault
+        → Rose (S.faults source.old) (S.faults source.new) }
+    ensures write_fault { result ≡ Outcome.WriteFault
+        → Rose (K.faults sink.old) (K.faults sink.new) }
+    ensures no_read_fault { result ≢ Outcome.ReadFault
+        → S.faults source.new ≡ S.faults source.old }
+    ensures no_write_fault { result ≢ Outcome.WriteFault
+        → K.faults sink.new ≡ K.faults sink.old }
+    ensures taken { (front : List ℕ) × Consumes (S.left source.old) (S.left source.new) front
+        × (length front ≤ input_limit) }
+    ensures complete { (input : List ℕ) → S.left source.old ≡ Some input
+        → ¬ Rose (S.faults source.old) (S.faults source.new)
+        → ¬ Rose (K.faults sink.old) (K.faults sink.new)
+        → ((text : List ℕ) × MayEnd command.now input result text)
+        ⊎ (result ≡ Outcome.OutOfMemory) }
+{
+    match command {
+        Command::Demo {
+            seed,
+            messages,
+            lanes,
+        } => demonstrate(rt, alloc, *seed, *messages, *lanes, sink, gate),
+        _ => answer(rt, alloc, command, source, sink, gate),
+    }
+}
+
 /// Does what the words ask for: reads an input from `source` and writes the text that comes of it to
 /// `sink`, and tells how the run ended. `words` doesn't hold the program's name.
 ///
@@ -108,13 +161,15 @@ fn answer<R: Threads + Wait + Sync, S: Source, K: Sink, G: Gate + Sync>(
 /// contexts, which the text itself prints; for `rehearse` by the replies along the journals of its
 /// schedule. `check` reads a batch and judges what stands behind it: it is done where that is a text
 /// that `run` may write for the batch, and else tells what is wrong. `capsules` answers messages of
-/// RFC 9458. Of an input outside the command's grammar its first bad line is told.
+/// RFC 9458. Of an input outside the command's grammar its first bad line is told. `demo` reads
+/// nothing: it makes two batches itself, and tells how many messages were opened again.
 ///
 /// At most 67,108,865 bytes are taken, each turn of the reading takes one at least, and all memory
 /// that the answers of `run` and `rehearse` need is taken before the first call is answered. `run`
 /// serves the lanes by so many workers as the words ask for, on contexts that they share, and tells
-/// `gate` of each draw, each guess and each call that is answered; it may wait. The other commands
-/// tell it nothing, and of them `capsules` alone starts threads, which are joined.
+/// `gate` of each draw, each guess and each call that is answered; so does `demo`, by 4 workers. Both
+/// may wait. The other commands tell it nothing, and of them `capsules` alone starts threads, which
+/// are joined.
 ///
 /// The input is what the source tells, and the text written what the sink tells; over ends that
 /// tell nothing the clauses speak of the outcomes and the counts of faults alone.
@@ -134,7 +189,7 @@ pub fn serve_words<R: Threads + Wait + Sync, S: Source, K: Sink, G: Gate + Sync>
     // What was written, for the input that was read.
     ensures done { result ≡ Outcome.Done → (command : Command_)
         × (command_of (map string_bytes words.now) ≡ Some command) × (input : List ℕ)
-        × IsInput (S.left source.old) (S.left source.new) input
+        × IsReadBy command (S.left source.old) (S.left source.new) input
         × (text : List ℕ) × MayEnd command input Outcome.Done text
         × Appends (K.written sink.old) (K.written sink.new) text }
     ensures bad { (line : ℕ) (reason : Reason) → result ≡ Outcome.BadBatch line reason
@@ -150,9 +205,12 @@ pub fn serve_words<R: Threads + Wait + Sync, S: Source, K: Sink, G: Gate + Sync>
         × Appends (K.written sink.old) (K.written sink.new) (verdict_text verdict) }
     ensures cut { result ≡ Outcome.WriteFault → (command : Command_)
         × (command_of (map string_bytes words.now) ≡ Some command) × (input : List ℕ)
-        × IsInput (S.left source.old) (S.left source.new) input
+        × IsReadBy command (S.left source.old) (S.left source.new) input
         × (outcome : Outcome_) × (text : List ℕ) × MayEnd command input outcome text
         × AppendsPrefix (K.written sink.old) (K.written sink.new) text }
+    ensures unread { (seed messages lanes : ℕ)
+        → command_of (map string_bytes words.now) ≡ Some (Command.Demo seed messages lanes)
+        → (source.new ≡ source.old) × (result ≢ Outcome.ReadFault) }
     ensures unwritten { (result ≡ Outcome.ReadFault) ⊎ (result ≡ Outcome.OutOfMemory)
         → sink.new ≡ sink.old }
 
@@ -178,7 +236,7 @@ pub fn serve_words<R: Threads + Wait + Sync, S: Source, K: Sink, G: Gate + Sync>
         → ((text : List ℕ) × MayEnd command input result text) ⊎ (result ≡ Outcome.OutOfMemory) }
 {
     match read_words(alloc, words) {
-        Ok(Some(command)) => answer(rt, alloc, &command, source, sink, gate),
+        Ok(Some(command)) => obey(rt, alloc, &command, source, sink, gate),
         Ok(None) => Outcome::Usage,
         Err(_) => Outcome::OutOfMemory,
     }

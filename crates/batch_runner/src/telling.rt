@@ -3,19 +3,21 @@
 //! A printer has 32 KiB of text on the stack. Each call here is kept by itself, so that none of it
 //! stands there while a batch is answered.
 
-ghost use Rattle.std.specs.Prelude.{◌≡◌, ◌⊎◌, ◌≢◌};
+ghost use Rattle.std.specs.Prelude.{◌≡◌, ◌⊎◌, ◌≢◌, ◌≤◌};
 ghost use Rattle.std.specs.Io.KnownBytes.{Appends};
 ghost use Rattle.batch_io.specs.Outside.{Rose};
 ghost use Rattle.field_text.specs.Printing.{AppendsPrefix};
 ghost use Rattle.reply_texts.specs.ReplyText.{IsAnswered, answers_text, bad_text};
 ghost use Rattle.result_verdicts.specs.VerdictText.{verdict_text};
 ghost use Rattle.capsule_frames.specs.Text.{capsules_text};
+ghost use Rattle.demo_runs.specs.Demo.{report_text};
 ghost use Rattle.batch_runner.specs.Outcomes.{outcome_on};
 
 use crate::outcomes::{Outcome, outcome_on};
 use batch_io::Sink;
 use capsule_frames::print_capsules;
 use capsule_runs::CapsuleAnswers;
+use demo_runs::{DemoReport, print_report};
 use request_frames::{Answers, BadBatch, Plan, Printed, print_answers, print_bad};
 use result_verdicts::{Verdict, print_verdict};
 
@@ -71,6 +73,24 @@ pub(crate) fn tell_verdict<K: Sink>(verdict: Verdict, sink: &mut K) -> Outcome
 {
     match print_verdict(verdict, sink) {
         Printed::Whole => outcome_on(verdict),
+        Printed::Failed => Outcome::WriteFault,
+    }
+}
+
+/// Writes the report of a demonstration.
+#[inline(never)]
+pub(crate) fn tell_report<K: Sink>(report: &DemoReport, sink: &mut K) -> Outcome
+    requires { report.now.opened ≤ report.now.messages }
+    ensures outcomes { (result ≡ Outcome.Done) ⊎ (result ≡ Outcome.WriteFault) }
+    ensures whole { result ≢ Outcome.WriteFault
+        → Appends (K.written sink.old) (K.written sink.new) (report_text report.now) }
+    ensures cut { result ≡ Outcome.WriteFault
+        → AppendsPrefix (K.written sink.old) (K.written sink.new) (report_text report.now) }
+    ensures failed { result ≡ Outcome.WriteFault → Rose (K.faults sink.old) (K.faults sink.new) }
+    ensures no_fault { result ≢ Outcome.WriteFault → K.faults sink.new ≡ K.faults sink.old }
+{
+    match print_report(report, sink) {
+        Printed::Whole => Outcome::Done,
         Printed::Failed => Outcome::WriteFault,
     }
 }

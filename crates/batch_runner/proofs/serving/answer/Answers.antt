@@ -12,6 +12,6 @@ returns-in-Ok-clause-complete g c = λ input told no_read no_write.
       | inr (inl e) ↦ inr e
       | inr (inr others) ↦
         let end = c.answer_input.ensures.whole others.0 others.1 in
-        inl (end.0, ends_as_told command input c.in-Ok.input.items _ _ outcome end.0 told c.in-Ok.ensures.input
+        inl (end.0, ends_as_told command input c.in-Ok.input.items _ _ outcome end.0 c.requires.reads told c.in-Ok.ensures.input
         (subst (λ read. MayEnd command read outcome end.0) c.deref.ensures.value end.1))
     ]
