@@ -84,13 +84,6 @@ ends_as_told command xs input old new outcome text reads told read end =
 
 -- ---- who reads the input
 
-pub reads_unless : (command : Command) → ((seed messages lanes : ℕ) → command ≡ commands.Demo seed messages lanes → ⊥) → ReadsInput command
-reads_unless (commands.Run workers mult) other = tt
-reads_unless (commands.Rehearse schedule) other = tt
-reads_unless (commands.Demo seed messages lanes) other = other seed messages lanes refl
-reads_unless (commands.Check mult) other = tt
-reads_unless (commands.Capsules mult) other = tt
-
 module _ (old new : Option (List ℕ)) (input : List ℕ) where
   pub read_by : (command : Command) → ReadsInput command → IsInput old new input → IsReadBy command old new input
   read_by (commands.Run workers mult) reads is = is
@@ -203,12 +196,14 @@ module _ (line : ℕ) (reason : Reason) (text : List ℕ) where
   bad_exchanges (Ok plan) end = let no : outcomes.BadBatch line reason ≡ outcomes.Done = end.0 in cc
   bad_exchanges (Err b) end = same_bad b line reason text end
 
+  not_bad : outcomes.BadBatch line reason ≡ outcomes.Done → ⊥
+  not_bad e = cc
+
   pub bad_line : (command : Command) (input : List ℕ) → MayEnd command input (outcomes.BadBatch line reason) text
       → IsBadFor command input line reason × (text ≡ bad_text (record { line = line; reason = reason }))
   bad_line (commands.Run workers mult) input end = bad_answers (commands.Run workers mult) (batch input) end
   bad_line (commands.Rehearse schedule) input end = bad_answers (commands.Rehearse schedule) (batch input) end
-  bad_line (commands.Demo seed messages lanes) input end =
-      let no : outcomes.BadBatch line reason ≡ outcomes.Done = end.outcome_is in cc
+  bad_line (commands.Demo seed messages lanes) input end = absurd (not_bad end.outcome_is)
   bad_line (commands.Check mult) input end = bad_judges (front_batch input) input end
   bad_line (commands.Capsules mult) input end = bad_exchanges (capsules input) end
 
@@ -251,14 +246,16 @@ module _ (told : Verdict) (text : List ℕ) where
   no_exchanges (Err b) end =
       let no : outcomes.Broken told ≡ outcomes.BadBatch b.line b.reason = end.outcome_is in cc
 
+  not_broken : outcomes.Broken told ≡ outcomes.Done → ⊥
+  not_broken e = cc
+
   pub broken_result : (command : Command) (input : List ℕ) → MayEnd command input (outcomes.Broken told) text
       → (mult : Mult) × (command ≡ commands.Check mult) × IsBroken input told × (text ≡ verdict_text told)
   broken_result (commands.Run workers mult) input end =
       absurd (no_answers (commands.Run workers mult) (batch input) end)
   broken_result (commands.Rehearse schedule) input end =
       absurd (no_answers (commands.Rehearse schedule) (batch input) end)
-  broken_result (commands.Demo seed messages lanes) input end =
-      let no : outcomes.Broken told ≡ outcomes.Done = end.outcome_is in cc
+  broken_result (commands.Demo seed messages lanes) input end = absurd (not_broken end.outcome_is)
   broken_result (commands.Check mult) input end =
       let b = broken_judges input (front_batch input) refl end in
       (mult, refl, b.0, b.1)

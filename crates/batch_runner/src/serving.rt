@@ -72,11 +72,11 @@ fn answer<R: Threads + Wait + Sync, S: Source, K: Sink, G: Gate + Sync>(
     requires reads { ReadsInput command.now }
     ensures whole { result ≢ Outcome.ReadFault → result ≢ Outcome.WriteFault
         → result ≢ Outcome.OutOfMemory → (input : List ℕ)
-        × IsInput (S.left source.old) (S.left source.new) input
+        × IsReadBy command.now (S.left source.old) (S.left source.new) input
         × (text : List ℕ) × MayEnd command.now input result text
         × Appends (K.written sink.old) (K.written sink.new) text }
     ensures cut { result ≡ Outcome.WriteFault → (input : List ℕ)
-        × IsInput (S.left source.old) (S.left source.new) input
+        × IsReadBy command.now (S.left source.old) (S.left source.new) input
         × (outcome : Outcome_) × (text : List ℕ) × MayEnd command.now input outcome text
         × AppendsPrefix (K.written sink.old) (K.written sink.new) text }
     ensures unwritten { (result ≡ Outcome.ReadFault) ⊎ (result ≡ Outcome.OutOfMemory)
@@ -149,7 +149,10 @@ fn obey<R: Threads + Wait + Sync, S: Source, K: Sink, G: Gate + Sync>(
             messages,
             lanes,
         } => demonstrate(rt, alloc, *seed, *messages, *lanes, sink, gate),
-        _ => answer(rt, alloc, command, source, sink, gate),
+        Command::Run { .. } => answer(rt, alloc, command, source, sink, gate),
+        Command::Rehearse { .. } => answer(rt, alloc, command, source, sink, gate),
+        Command::Check { .. } => answer(rt, alloc, command, source, sink, gate),
+        Command::Capsules { .. } => answer(rt, alloc, command, source, sink, gate),
     }
 }
 
