@@ -1,5 +1,5 @@
 -- How many lanes and journals a text tells.
-use Rattle.std.proofs.Common.{◌≡◌, ℕ, List, length, map, Result, Ok, Option, sym, ap, ◌∙◌}
+use Rattle.std.proofs.Common.{◌≡◌, ℕ, List, length, Ok, Option, sym, ap, ◌∙◌}
 use Rattle.std.proofs.lemmas.List.{length-map}
 use Rattle.hpke_context.specs.Contexts.{ContextView}
 use Rattle.batch_plans.specs.declared.plan.Plan.{Plan}
