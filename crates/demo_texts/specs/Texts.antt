@@ -40,7 +40,7 @@ seal_line =
     codes "seal 0 - 000102030405060708090a0b0c0d0e0f101112131415161718191a1b1c1d1e1f"
     ++ codes "202122232425262728292a2b2c2d2e2f303132333435363738393a3b3c3d3e3f\n"
 
--- the numbers below MESSAGES that this lane of LANES lanes has: those that leave its number
+-- the numbers below MESSAGES that this lane of LANES lanes has: those that are its number modulo LANES
 abbrev pub share_of : ℕ → ℕ → ℕ → List ℕ
 share_of messages lanes lane = filter (λ j. j % lanes == lane) (range_with_len 0 messages)
 

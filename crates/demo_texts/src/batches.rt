@@ -2,6 +2,8 @@
 
 ghost use Rattle.std.specs.Prelude.{◌≡◌, ◌<◌, ◌≤◌, length, IfOk};
 ghost use Rattle.batch_plans.specs.Limits.{IsWithinLimits};
+ghost use Rattle.request_frames.specs.Batch.{Spells};
+ghost use Rattle.demo_texts.specs.Texts.{sealing_text, opening_text};
 ghost use Rattle.demo_texts.specs.Plans.{IsSealingPlan, IsOpeningPlan};
 
 use crate::ciphertexts::{CIPHERTEXT_SIZE, see_ciphertexts};
@@ -20,6 +22,7 @@ pub fn sealing_batch(
 ) -> Result<Plan, AllocError>
     requires messages { messages ≤ 65536 }
     requires lanes { (0 < lanes) × (lanes ≤ 16) }
+    ensures spelled { IfOk result (Spells (sealing_text seed messages lanes)) }
     ensures plan { IfOk result (IsSealingPlan seed messages lanes) }
     ensures limits { IfOk result IsWithinLimits }
 {
@@ -38,6 +41,7 @@ pub fn opening_batch(
     cts: &[[u8; CIPHERTEXT_SIZE]],
 ) -> Result<Plan, AllocError>
     requires { length cts.now ≤ 65536 }
+    ensures spelled { IfOk result (Spells (opening_text seed cts.now)) }
     ensures plan { IfOk result (IsOpeningPlan seed cts.now) }
     ensures limits { IfOk result IsWithinLimits }
 {

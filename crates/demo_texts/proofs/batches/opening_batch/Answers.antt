@@ -21,3 +21,7 @@ unreachable-requires c =
     let spells : Spells c.as_bytes.result.now s.plan = subst (λ (t : List ℕ). Spells t s.plan) (sym text) s.spells in
     not_bad c.read_batch.result c.in-Err-Bad.field-0 c.in-Err-Bad.field-0-0 s.plan c.in-Err-Bad.is c.in-Err-Bad.field-0-is
     (c.read_batch.ensures.spelled s.plan spells)
+
+pub returns-in-Ok-clause-spelled : goal.returns-in-Ok-clause-spelled
+returns-in-Ok-clause-spelled c =
+    subst (λ (t : List ℕ). Spells t c.in-Ok.plan) (c.as_bytes.ensures.value ∙ c.in_ok-text.ensures) c.in-Ok.ensures.plan
