@@ -1,7 +1,9 @@
 //! Whole batches and what they are answered. The replies come from RFC 9180's vectors, from the formats'
 //! tables and from tools/reference.
 
+use crate::Outcome;
 use request_frames::Reason;
+use result_verdicts::Verdict;
 
 // A whole batch over a source that gives `step` bytes a call, and the text that it is answered.
 pub struct Run {
@@ -333,5 +335,67 @@ pub const BAD: [BadRun; 15] = [
         line: 18,
         reason: Reason::Count,
         reply: "bad 18 count\n",
+    },
+];
+
+// A command that answers no batch, its input and the text that it writes.
+pub struct Other {
+    pub source: &'static str,
+    pub words: &'static [&'static str],
+    pub input: &'static str,
+    pub outcome: Outcome,
+    pub text: &'static str,
+}
+
+pub const OTHERS: [Other; 6] = [
+    Other {
+        source: "RFC 9180, A.1.1.1; the batch and its reply",
+        words: &["check"],
+        input: "hpkebatch 1\nshare send 32 1 1 fe0e18c9f024ce43799ae393c7e8fe8fce9d218875e8227b0187c04e7d2ea1fc base 4f6465206f6e2061204772656369616e2055726e - - 2\nlane\nseal 0 436f756e742d30 4265617574792069732074727574682c20747275746820626561757479\nseal 0 436f756e742d31 4265617574792069732074727574682c20747275746820626561757479\nend\nhpkebatch 1\ncontext 0 shared\nlane 0\nsealed 0 f938558b5d72f1a23810b4be2ab4f84331acc02fc97babc53a52ae8218a355a96d8770ac83d07bea87e13c512a\nsealed 1 af2d7e9ac9ae7e270f46ba1f975be53c09f8d875bdc8535458c2494e8a6eab251c03d0c22a56b8ca42c2063b84\njournal 0\n0 0 0\n0 1 0\nend\n",
+        outcome: Outcome::Done,
+        text: "legal\n",
+    },
+    Other {
+        source: "RFC 9180, A.1.1.1; a guess that missed one message more",
+        words: &["check", "--mult=lanes"],
+        input: "hpkebatch 1\nshare recv 32 1 1 fe0e18c9f024ce43799ae393c7e8fe8fce9d218875e8227b0187c04e7d2ea1fc base 4f6465206f6e2061204772656369616e2055726e - - 9\nlane\nunsealall 0 436f756e742d30 f938558b5d72f1a23810b4be2ab4f84331acc02fc97babc53a52ae8218a355a96d8770ac83d07bea87e13c512a 436f756e742d31 af2d7e9ac9ae7e270f46ba1f975be53c09f8d875bdc8535458c2494e8a6eab251c03d0c22a56b8ca42c2063b85 436f756e742d31 af2d7e9ac9ae7e270f46ba1f975be53c09f8d875bdc8535458c2494e8a6eab251c03d0c22a56b8ca42c2063b84\nend\nhpkebatch 1\ncontext 0 shared\nlane 0\nopened 0 4265617574792069732074727574682c20747275746820626561757479\nfailed 1\nopened 1 4265617574792069732074727574682c20747275746820626561757479\nbatch 0 1\njournal 0\n0 0 0\n0 0 1\n0 0 2\nend\n",
+        outcome: Outcome::Broken {
+            verdict: Verdict::Guess { line: 7 },
+        },
+        text: "broken guess 7\n",
+    },
+    Other {
+        source: "own: a batch without its end",
+        words: &["check"],
+        input: "hpkebatch 2\nlane\n",
+        outcome: Outcome::BadBatch {
+            line: 3,
+            reason: Reason::NoEnd,
+        },
+        text: "bad 3 noend\n",
+    },
+    Other {
+        source: "own: no ask to take an answer for",
+        words: &["capsules"],
+        input: "hpkebatch 2\ntake 5 00\nend\n",
+        outcome: Outcome::Done,
+        text: "hpkebatch 2\nrefused noask\nend\n",
+    },
+    Other {
+        source: "own: capsules are of version 2",
+        words: &["capsules", "--mult", "karatsuba"],
+        input: "hpkebatch 1\nend\n",
+        outcome: Outcome::BadBatch {
+            line: 1,
+            reason: Reason::Header,
+        },
+        text: "bad 1 header\n",
+    },
+    Other {
+        source: "tools/reference: one message, one lane",
+        words: &["demo", "0", "1", "1"],
+        input: "no input is read",
+        outcome: Outcome::Done,
+        text: "messages 1 opened 1 refused 0\nsha256 e2949e0ada9610f5a9a3f86ed8b2874de13668035dbe1b48d2f75e748c416ad0\n",
     },
 ];

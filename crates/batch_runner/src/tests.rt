@@ -1,9 +1,10 @@
 //! Whole runs over memory.
 
-use crate::runs::{BAD, EXCHANGES, RUNS, SCHEDULED};
+use crate::runs::{BAD, EXCHANGES, OTHERS, RUNS, SCHEDULED};
 use crate::{Outcome, serve_pure, serve_words, status};
 use batch_io::{FreeGate, Gate, MemorySink, MemorySource, PureSink, PureSource};
 use request_frames::Reason;
+use result_verdicts::Verdict;
 use std::alloc::Global;
 use std::sync::Wait;
 use std::test::Fail;
@@ -171,6 +172,18 @@ fn each_batch_of_lanes_gets_its_text(rt: HostRuntime) -> Result<(), Fail> {
 }
 
 #[test]
+fn each_other_command_writes_its_text(rt: HostRuntime) -> Result<(), Fail> {
+    let alloc = rt.alloc();
+    for case in &OTHERS {
+        let name = case.source;
+        let (outcome, sink) = answer_to(&rt, alloc, case.words, case.input, 4096)?;
+        assert_eq!(rt; outcome, case.outcome, "{name}");
+        assert_eq!(rt; sink.bytes(), case.text.as_bytes(), "{name}");
+    }
+    Ok(())
+}
+
+#[test]
 fn each_bad_line_is_named(rt: HostRuntime) -> Result<(), Fail> {
     let alloc = rt.alloc();
     for case in &BAD {
@@ -263,6 +276,9 @@ fn statuses_are_those_of_the_manual(rt: HostRuntime) {
         line: 1,
         reason: Reason::Header,
     };
+    let broken = Outcome::Broken {
+        verdict: Verdict::Stamps,
+    };
     let rows = [
         (Outcome::Done, 0),
         (Outcome::Usage, 2),
@@ -270,6 +286,7 @@ fn statuses_are_those_of_the_manual(rt: HostRuntime) {
         (Outcome::ReadFault, 4),
         (Outcome::WriteFault, 5),
         (Outcome::OutOfMemory, 6),
+        (broken, 7),
     ];
     for (outcome, want) in rows {
         assert_eq!(rt; status(&outcome), want);
