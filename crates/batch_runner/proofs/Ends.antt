@@ -225,14 +225,16 @@ module _ (told : Verdict) (text : List ℕ) where
   broken_judges : (input : List ℕ) (r : Result (Plan × ℕ) BadBatch) → front_batch input ≡ r
       → Judges r input (outcomes.Broken told) text → IsToldBroken input
   broken_judges input (Ok front) is end =
-      let same = broken_by end.verdict told end.outcome_is in
-      (record {
-        plan = front.0;
-        end = front.1;
-        begins = is;
-        judged = subst (IsJudged front.0 (drop front.1 input)) same.0 end.judged;
-        broken = subst (λ v. v ≢ Legal) same.0 same.1;
-      }, end.text_is ∙ ap verdict_text same.0)
+      let same = broken_by end.verdict told end.outcome_is in (
+        record {
+          plan = front.0;
+          end = front.1;
+          begins = is;
+          judged = subst (IsJudged front.0 (drop front.1 input)) same.0 end.judged;
+          broken = subst (λ v. v ≢ Legal) same.0 same.1;
+        },
+        end.text_is ∙ ap verdict_text same.0,
+      )
   broken_judges input (Err b) is end =
       let no : outcomes.Broken told ≡ outcomes.BadBatch b.line b.reason = end.outcome_is in cc
 

@@ -41,8 +41,14 @@ fn pieces_of_each_size_are_the_same_batch(rt: HostRuntime) -> Result<(), Fail> {
     for read in STEPS {
         for written in STEPS {
             let steps = (read, written);
-            let (outcome, sink) =
-                answer_by_steps(&rt, alloc, row.input.as_bytes(), steps, &[], &[])?;
+            let (outcome, sink) = answer_by_steps(
+                &rt,
+                alloc,
+                row.input.as_bytes(),
+                steps,
+                &[],
+                &[],
+            )?;
             assert_eq!(rt; outcome, Outcome::Done, "{read} {written}");
             assert_eq!(rt; sink.bytes(), row.reply.as_bytes(), "{read} {written}");
         }
@@ -73,8 +79,14 @@ fn each_write_fails_in_turn(rt: HostRuntime) -> Result<(), Fail> {
     let whole = row.reply.as_bytes();
     let mut failed = 0;
     for write in 1..1_000 {
-        let (outcome, sink) =
-            answer_by_steps(&rt, alloc, row.input.as_bytes(), (16, 16), &[], &[write])?;
+        let (outcome, sink) = answer_by_steps(
+            &rt,
+            alloc,
+            row.input.as_bytes(),
+            (16, 16),
+            &[],
+            &[write],
+        )?;
         assert!(rt; whole.starts_with(sink.bytes()), "{write}");
         if outcome == Outcome::Done {
             assert_eq!(rt; sink.bytes(), whole);

@@ -16,8 +16,12 @@ returns-in-Bad-clause-whole g c = λ no_fault no_memory.
     let bad : batch c.args.input.now ≡ Err told =
     c.in-Err.ensures.bad told.line told.reason (ap (λ fault. Err fault) c.in-Bad.is) in
     elim c.tell_bad.ensures.outcomes [
-      | inl e ↦ (bad_text told, subst (λ r. Answers c.args.command.now r c.tell_bad.result (bad_text told)) (sym bad)
-        (record { outcome_is = e; text_is = refl }), c.tell_bad.ensures.whole no_fault)
+      | inl e ↦ (
+        bad_text told,
+        subst (λ r. Answers c.args.command.now r c.tell_bad.result (bad_text told)) (sym bad)
+            (record { outcome_is = e; text_is = refl }),
+        c.tell_bad.ensures.whole no_fault,
+      )
       | inr e ↦ absurd (no_fault e)
     ]
 
@@ -26,6 +30,10 @@ returns-in-Bad-clause-cut g c = λ e.
     let told = c.in-Bad.bad in
     let bad : batch c.args.input.now ≡ Err told =
     c.in-Err.ensures.bad told.line told.reason (ap (λ fault. Err fault) c.in-Bad.is) in
-    let outcome = BadBatch told.line told.reason in
-    (outcome, bad_text told, subst (λ r. Answers c.args.command.now r outcome (bad_text told)) (sym bad)
-    (record { outcome_is = refl; text_is = refl }), c.tell_bad.ensures.cut e)
+    let outcome = BadBatch told.line told.reason in (
+      outcome,
+      bad_text told,
+      subst (λ r. Answers c.args.command.now r outcome (bad_text told)) (sym bad)
+          (record { outcome_is = refl; text_is = refl }),
+      c.tell_bad.ensures.cut e,
+    )

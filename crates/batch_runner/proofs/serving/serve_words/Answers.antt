@@ -8,16 +8,24 @@ pub returns-in-Ok-Some-clause-bad : goal.returns-in-Ok-Some-clause-bad
 returns-in-Ok-Some-clause-bad g c = λ line reason e.
     let command = c.in-Ok-Some.command in
     let end = c.obey.ensures.whole (λ fault. cc) (λ fault. cc) (λ memory. cc) in
-    let bad = bad_line line reason end.2 command end.0 (subst (λ outcome. MayEnd command end.0 outcome end.2) e end.3) in
-    (command, sym c.in-Ok-Some.ensures.command ∙ c.in-Ok-Some.field-0-is, end.0,
-    input_of_bad _ _ end.0 command line reason bad.0 end.1, bad.0,
-    subst (Appends (g.K.Sink.written c.args.sink.now) (g.K.Sink.written c.obey.new.sink)) bad.1 end.4)
+    let bad = bad_line line reason end.2 command end.0 (subst (λ outcome. MayEnd command end.0 outcome end.2) e end.3) in (
+      command,
+      sym c.in-Ok-Some.ensures.command ∙ c.in-Ok-Some.field-0-is,
+      end.0,
+      input_of_bad _ _ end.0 command line reason bad.0 end.1,
+      bad.0,
+      subst (Appends (g.K.Sink.written c.args.sink.now) (g.K.Sink.written c.obey.new.sink)) bad.1 end.4,
+    )
 
 pub returns-in-Ok-Some-clause-broken : goal.returns-in-Ok-Some-clause-broken
 returns-in-Ok-Some-clause-broken g c = λ verdict e.
     let command = c.in-Ok-Some.command in
     let end = c.obey.ensures.whole (λ fault. cc) (λ fault. cc) (λ memory. cc) in
-    let broken = broken_result verdict end.2 command end.0 (subst (λ outcome. MayEnd command end.0 outcome end.2) e end.3) in
-    (broken.0, sym c.in-Ok-Some.ensures.command ∙ c.in-Ok-Some.field-0-is ∙ ap (λ one. Some one) broken.1, end.0,
-    subst (λ one. IsReadBy one (g.S.Source.left c.args.source.now) (g.S.Source.left c.obey.new.source) end.0) broken.1 end.1,
-    broken.2, subst (Appends (g.K.Sink.written c.args.sink.now) (g.K.Sink.written c.obey.new.sink)) broken.3 end.4)
+    let broken = broken_result verdict end.2 command end.0 (subst (λ outcome. MayEnd command end.0 outcome end.2) e end.3) in (
+      broken.0,
+      sym c.in-Ok-Some.ensures.command ∙ c.in-Ok-Some.field-0-is ∙ ap (λ one. Some one) broken.1,
+      end.0,
+      subst (λ one. IsReadBy one (g.S.Source.left c.args.source.now) (g.S.Source.left c.obey.new.source) end.0) broken.1 end.1,
+      broken.2,
+      subst (Appends (g.K.Sink.written c.args.sink.now) (g.K.Sink.written c.obey.new.sink)) broken.3 end.4,
+    )
