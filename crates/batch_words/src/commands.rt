@@ -6,9 +6,14 @@ use crate::schedules::Schedule;
 #[derive(Debug, Drop)]
 pub enum Command {
     /// `run`: read a batch and answer it, with so many workers, from 1 to 16.
-    Run { workers: u32, mult: Mult },
+    Run {
+        workers: u32,
+        mult: Mult,
+    },
     /// `rehearse`: read a batch and answer it on one thread, in the order of a schedule.
-    Rehearse { schedule: Schedule },
+    Rehearse {
+        schedule: Schedule,
+    },
     /// `demo`: seal so many messages, from 1 to 65,536, in so many lanes, from 1 to 16, by keys of a
     /// seed, and open them again. Nothing is read.
     Demo {
@@ -17,9 +22,13 @@ pub enum Command {
         lanes: u32,
     },
     /// `check`: read a batch and a result, and judge the result.
-    Check { mult: Mult },
+    Check {
+        mult: Mult,
+    },
     /// `capsules`: read keys and messages of RFC 9458, and answer them.
-    Capsules { mult: Mult },
+    Capsules {
+        mult: Mult,
+    },
 }
 
 /// The multiplier of the ring's polynomials. All of them give the same products.

@@ -250,11 +250,13 @@ fn words_of_a_rehearsal_are_read(rt: HostRuntime) -> Result<(), Fail> {
 // The three numbers of a demonstration.
 fn numbers_of(command: Option<Command>) -> Option<(u64, u32, u32)> {
     match command {
-        Some(Command::Demo {
-            seed,
-            messages,
-            lanes,
-        }) => Some((seed, messages, lanes)),
+        Some(
+            Command::Demo {
+                seed,
+                messages,
+                lanes,
+            },
+        ) => Some((seed, messages, lanes)),
         _ => None,
     }
 }
@@ -265,7 +267,11 @@ fn words_of_a_demonstration_are_read(rt: HostRuntime) -> Result<(), Fail> {
     for (words, seed, messages, lanes) in &DEMOS {
         let (words, seed, messages, lanes) = (*words, *seed, *messages, *lanes);
         let read = read_words(alloc, &strings(alloc, words)?)?;
-        assert_eq!(rt; numbers_of(read), Some((seed, messages, lanes)), "{words:?}");
+        assert_eq!(rt;
+            numbers_of(read),
+            Some((seed, messages, lanes)),
+            "{words:?}"
+        );
     }
     Ok(())
 }
@@ -289,8 +295,16 @@ fn multipliers_of_other_commands_are_read(rt: HostRuntime) -> Result<(), Fail> {
     let alloc = rt.alloc();
     for (words, mult) in &MULTS {
         let (words, mult) = (*words, *mult);
-        assert_eq!(rt; mult_of(alloc, "check", words)?, Some(mult), "check {words:?}");
-        assert_eq!(rt; mult_of(alloc, "capsules", words)?, Some(mult), "capsules {words:?}");
+        assert_eq!(rt;
+            mult_of(alloc, "check", words)?,
+            Some(mult),
+            "check {words:?}"
+        );
+        assert_eq!(rt;
+            mult_of(alloc, "capsules", words)?,
+            Some(mult),
+            "capsules {words:?}"
+        );
     }
     Ok(())
 }
