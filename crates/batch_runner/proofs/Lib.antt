@@ -2,3 +2,4 @@ pub mod Ends
 pub mod Fronts
 pub mod Texts
 pub mod Rooms
+pub mod Replied

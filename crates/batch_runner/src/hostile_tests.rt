@@ -2,7 +2,7 @@
 
 use crate::Outcome;
 use crate::runs::SCHEDULED;
-use crate::tests::{answer_to, outcome_of};
+use crate::tests::outcome_of;
 use batch_io::{FreeGate, MemorySink, MemorySource};
 use request_frames::Reason;
 use std::alloc::{AllocError, Global};
@@ -100,22 +100,23 @@ fn each_write_fails_in_turn(rt: HostRuntime) -> Result<(), Fail> {
 }
 
 // The line that a front of a batch is answered: it has no `end`, or not even its first line.
-fn cut_reply(alloc: Global, front: &str) -> Result<String, AllocError> {
-    if front.len() < "hpkebatch 1\n".len() {
+fn cut_reply(alloc: Global, front: &[u8]) -> Result<String, AllocError> {
+    if front.len() < b"hpkebatch 1\n".len() {
         return String::from_str(alloc, "bad 1 header\n");
     }
-    let line = front.bytes().filter(|byte| *byte == b'\n').count() + 1;
+    let line = front.iter().filter(|byte| **byte == b'\n').count() + 1;
     format!(in alloc; "bad {line} noend\n")
 }
 
 #[test]
 fn a_cut_batch_is_named(rt: HostRuntime) -> Result<(), Fail> {
     let alloc = rt.alloc();
-    let input = SCHEDULED[OPENING].input;
+    let input = SCHEDULED[OPENING].input.as_bytes();
     for size in 0..input.len() {
         let front = &input[..size];
-        let (_, sink) = answer_to(&rt, alloc, &["run"], front, 4096)?;
-        assert_eq!(rt; sink.bytes(), cut_reply(alloc, front)?.as_bytes(), "{size}");
+        let (_, sink) = answer_by_steps(&rt, alloc, front, (4096, 4096), &[], &[])?;
+        let wanted = cut_reply(alloc, front)?;
+        assert_eq!(rt; sink.bytes(), wanted.as_bytes(), "{size}");
     }
     Ok(())
 }

@@ -21,11 +21,13 @@ mod batches;
 mod demonstrating;
 mod exchanging;
 mod judging;
+mod laws;
 mod outcomes;
 mod reading;
 mod serving;
 mod telling;
 
+pub use laws::written_replies_are_legal;
 pub use outcomes::{Outcome, status};
 pub use serving::{serve_pure, serve_words};
 
