@@ -1,6 +1,6 @@
 //! The contexts of a plan.
 
-ghost use Rattle.std.specs.Prelude.{◌≡◌, ◌+◌, ◌<◌, ◌≤◌, ◌^◌, length, IfOk, option_copied};
+ghost use Rattle.std.specs.Prelude.{◌≡◌, ◌+◌, ◌<◌, ◌≤◌, ◌^◌, [], ◌∷◌, ◌++◌, length, IfOk, OnOk, option_copied};
 ghost use Rattle.batch_plans.specs.Limits.{IsEncWithin, IsKindWithin, IsContextWithin, IsWithinLimits};
 ghost use Rattle.context_table.specs.Contexts.{enc_at, exchange, psk_refusal, suite_of, scheduled, outcome, reply_of, slot_of, AreOutcomes};
 ghost use Rattle.context_table.specs.Slots.{HoldKeys};
@@ -140,15 +140,32 @@ fn outcome<M: Multiplier>(
     )
 }
 
-// The reply to a line, and the slot of its context.
-fn parts(outcome: Result<Standing, ContextRefusal>) -> (ContextReply, Option<Context>)
+// The reply to a line, and what its context is made of.
+fn parts(outcome: Result<Standing, ContextRefusal>) -> (ContextReply, Option<ContextParts>)
     ensures reply { result.0 ≡ reply_of outcome }
     ensures context { result.1 ≡ slot_of outcome }
 {
     match outcome {
-        Ok(standing) => (standing.reply, Some(standing.context.into_context())),
+        Ok(standing) => (standing.reply, Some(standing.context)),
         Err(refusal) => (ContextReply::Refused(refusal), None),
     }
+}
+
+// Puts a context into the next slot, or leaves that empty.
+//
+// It moves contexts of 9 KiB: kept by itself, so that no caller's frame has room for them.
+#[inline(never)]
+fn push_slot(
+    slots: &mut Vec<Option<Context>>,
+    parts: Option<ContextParts>,
+) -> Result<(), OutOfMemory>
+    ensures { OnOk result (slots.new.items ≡ slots.old.items ++ parts ∷ []) }
+{
+    match parts {
+        Some(parts) => slots.push(Some(parts.into_context()))?,
+        None => slots.push(None)?,
+    }
+    Ok(())
 }
 
 /// The replies to context lines, and the contexts that stand, each in the slot of its number.
@@ -178,7 +195,7 @@ pub(crate) fn context_table<M: Multiplier>(
         let outcome = outcome(alloc, plan, keys, &replies, line, mult)?;
         let (reply, slot) = parts(outcome);
         replies.push(reply)?;
-        slots.push(slot)?;
+        push_slot(&mut slots, slot)?;
     }
     Ok(ContextTable { replies, slots })
 }
