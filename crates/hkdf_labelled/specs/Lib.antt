@@ -4,3 +4,4 @@ pub mod Hkdf
 pub mod Labels
 pub mod Hashers
 pub mod Macs
+pub mod Expanders

@@ -57,21 +57,21 @@ fn copy_at(out: &mut [u8], at: usize, bytes: &[u8]) -> usize
     count
 }
 
-// HKDF-Expand, where the info is `prefix`, `label` and `info` joined. It comes in three parts,
-// since joining them would take memory.
+// HKDF-Expand under the PRK that the MAC has as its key, with no message yet. The info is `prefix`,
+// `label` and `info` joined. It comes in three parts, since joining them would take memory.
 pub(crate) fn expand_parts(
     kdf: Kdf,
-    prk: &[u8],
+    keyed: Mac,
     prefix: &[u8],
     label: &[u8],
     info: &[u8],
     out: &mut [u8],
 )
-    requires { length out.old ≤ 255 * hash_size kdf }
-    ensures { out.new
-        ≡ expand kdf prk.now (prefix.now ++ label.now ++ info.now) (length out.old) }
+    requires keyed { (prk : List ℕ) × IsKeyed keyed kdf prk [] }
+    requires blocks { length out.old ≤ 255 * hash_size kdf }
+    ensures { (prk : List ℕ) → IsKeyed keyed kdf prk []
+        → out.new ≡ expand kdf prk (prefix.now ++ label.now ++ info.now) (length out.old) }
 {
-    let keyed = Mac::new(kdf, prk);
     let mut previous = Prk::from_slice(&[]);
     let mut counter = 0u8;
     let mut filled = 0;
@@ -92,5 +92,5 @@ pub fn expand_into(kdf: Kdf, prk: &[u8], info: &[u8], out: &mut [u8])
     requires { length out.old ≤ 255 * hash_size kdf }
     ensures { out.new ≡ expand kdf prk.now info.now (length out.old) }
 {
-    expand_parts(kdf, prk, &[], &[], info, out);
+    expand_parts(kdf, Mac::new(kdf, prk), &[], &[], info, out);
 }

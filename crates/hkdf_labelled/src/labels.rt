@@ -35,7 +35,7 @@ pub fn labeled_extract(suite: &Suite, salt: &[u8], label: &[u8], ikm: &[u8]) -> 
 }
 
 // What stands before the label in LabeledExpand: the length asked for, the version and the suite.
-fn expand_prefix(suite: &Suite, len: u16) -> [u8; 19]
+pub(crate) fn expand_prefix(suite: &Suite, len: u16) -> [u8; 19]
     ensures { result ≡ i2osp len 2 ++ codes "HPKE-v1" ++ suite_id suite.now }
 {
     let mut prefix = *b"..HPKE-v1..........";
@@ -54,5 +54,6 @@ pub fn labeled_expand_into(suite: &Suite, prk: &[u8], label: &[u8], info: &[u8],
         ≡ labeled_expand suite.now prk.now label.now info.now (length out.old) }
 {
     let prefix = expand_prefix(suite, out.len() as u16);
-    expand_parts(suite.kdf, prk, &prefix, label, info, out);
+    let keyed = Mac::new(suite.kdf, prk);
+    expand_parts(suite.kdf, keyed, &prefix, label, info, out);
 }

@@ -1,8 +1,8 @@
 //! Published vectors: HMAC, HKDF and the labelled forms.
 
 use crate::{
-    Aead, Kdf, Mac, Suite, expand_into, extract, hmac, labeled_expand_into, labeled_extract,
-    suite_id,
+    Aead, Expander, Kdf, Mac, Suite, expand_into, extract, hmac, labeled_expand_into,
+    labeled_extract, suite_id,
 };
 use hex::{FromHex, decode};
 use std::test::Fail;
@@ -154,11 +154,18 @@ fn output_keying_material_is_that_published(rt: HostRuntime) -> Result<(), Fail>
         let mut okm = [0; 82];
         expand_into(Kdf::Sha256, prk.as_slice(), &info, &mut okm[..want.len()]);
         assert_eq!(rt; &okm[..want.len()], want.as_slice(), "{source}, OKM");
+        let expander = Expander::new(Kdf::Sha256, prk);
+        for time in ["first", "second"] {
+            let mut okm = [0; 82];
+            expander.expand_into(&info, &mut okm[..want.len()]);
+            assert_eq!(rt; &okm[..want.len()], want.as_slice(), "{source}, {time} OKM");
+        }
     }
     Ok(())
 }
 
-// RFC 9180, A.1.1: secret from shared_secret, and key from secret and key_schedule_context.
+// RFC 9180, A.1.1: secret from shared_secret, and key and base_nonce from secret and
+// key_schedule_context.
 #[test]
 fn labels_are_those_of_hpke(rt: HostRuntime) -> Result<(), Fail> {
     let suite = Suite {
@@ -194,5 +201,20 @@ fn labels_are_those_of_hpke(rt: HostRuntime) -> Result<(), Fail> {
         key,
         <[u8; 16]>::from_hex("4531685d41d65f03dc48f6b8302c05b0")?
     );
+    let expander = Expander::new(suite.kdf, secret);
+    let mut base_nonce = [0; 12];
+    expander.labeled_expand_into(
+        &suite,
+        b"base_nonce",
+        &key_schedule_context,
+        &mut base_nonce,
+    );
+    assert_eq!(rt;
+        base_nonce,
+        <[u8; 12]>::from_hex("56d890e5accaaf011cff4b7d")?
+    );
+    let mut again = [0; 16];
+    expander.labeled_expand_into(&suite, b"key", &key_schedule_context, &mut again);
+    assert_eq!(rt; again, key);
     Ok(())
 }

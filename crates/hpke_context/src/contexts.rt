@@ -5,20 +5,23 @@ ghost use Rattle.hpke_context.specs.Contexts.{aead_of, key_in, base_nonce_in, Ha
 
 use crate::faults::CallFault;
 use aes_gcm::GcmKey;
-use hkdf_labelled::{Suite, labeled_expand_into};
+use hkdf_labelled::{Expander, Suite};
 use key_schedule::{CipherSecrets, Role, Secrets};
 use std::marker::Model;
 
 /// One end's context (RFC 9180, 5.1 and 5.2) without its sequence number: it doesn't change once
 /// made. A contract sees its role, suite, LIMIT and secrets.
 ///
-/// The AES key is expanded once, when the context is made.
+/// The AES key is expanded once, when the context is made. HMAC is keyed with exporter_secret then
+/// too: that spares each export two compressions of the hash function, and costs two where nothing
+/// is exported.
 #[derive(Drop)]
 pub struct Context {
     role: Role,
     suite: Suite,
     limit: u64,
-    secrets: Secrets,
+    cipher: CipherSecrets,
+    exporter: Expander,
     key: Option<GcmKey>,
 }
 
@@ -32,22 +35,26 @@ impl Model for Context {
       role = c.role;
       suite = c.suite;
       limit = c.limit;
-      secrets = c.secrets;
+      secrets = record { cipher = c.cipher; exporter = c.exporter.prk };
     } };
 
-    ghost invariant = { λ c. (1 ≤ c.limit) × (aead_of c.secrets.cipher ≡ c.suite.aead)
-        × KeepsKey c.secrets.cipher c.key };
+    ghost invariant = { λ c. (1 ≤ c.limit) × (aead_of c.cipher ≡ c.suite.aead)
+        × KeepsKey c.cipher c.key × (c.exporter.kdf ≡ c.suite.kdf) };
 }
 
 // The AES key of these secrets, expanded.
+//
+// A key has tables of 9 KiB. It has one place for all arms and is kept by itself, so that the stack
+// has room for few keys at a time.
+#[inline(never)]
 fn expanded_key(secrets: &CipherSecrets) -> Option<GcmKey>
     ensures { KeepsKey secrets.now result }
 {
-    match secrets {
-        CipherSecrets::NoCipher => None,
-        CipherSecrets::Aes128 { key, .. } => Some(GcmKey::new128(key)),
-        CipherSecrets::Aes256 { key, .. } => Some(GcmKey::new256(key)),
-    }
+    Some(match secrets {
+        CipherSecrets::NoCipher => return None,
+        CipherSecrets::Aes128 { key, .. } => GcmKey::new128(key),
+        CipherSecrets::Aes256 { key, .. } => GcmKey::new256(key),
+    })
 }
 
 impl Context {
@@ -58,12 +65,14 @@ impl Context {
         requires suite { aead_of secrets.cipher ≡ suite.aead }
         ensures { result ≡ record { role = role; suite = suite; limit = limit; secrets = secrets } }
     {
-        let key = expanded_key(&secrets.cipher);
+        let Secrets { cipher, exporter } = secrets;
+        let key = expanded_key(&cipher);
         Context {
             role,
             suite,
             limit,
-            secrets,
+            cipher,
+            exporter: Expander::new(suite.kdf, exporter),
             key,
         }
     }
@@ -106,7 +115,7 @@ impl Context {
         ensures none { IsNone result ↔ IsExportOnly self.now }
         ensures nonce { IfSome result (λ nonce. nonce.now ≡ base_nonce_in self.now.secrets.cipher) }
     {
-        match &self.secrets.cipher {
+        match &self.cipher {
             CipherSecrets::NoCipher => None,
             CipherSecrets::Aes128 { base_nonce, .. } => Some(base_nonce),
             CipherSecrets::Aes256 { base_nonce, .. } => Some(base_nonce),
@@ -136,8 +145,8 @@ impl Context {
         if out.len() > self.export_limit() {
             return Err(CallFault::ExportSize);
         }
-        let secret = self.secrets.exporter.as_slice();
-        labeled_expand_into(&self.suite, secret, b"sec", exporter_context, out);
+        self.exporter
+            .labeled_expand_into(&self.suite, b"sec", exporter_context, out);
         Ok(())
     }
 }

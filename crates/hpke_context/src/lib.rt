@@ -7,9 +7,10 @@
 //! comes exactly where its cause stands, and changes nothing but the count of checks. LIMIT stands
 //! in place of the RFC's error at the overflow of the nonce.
 //!
-//! Nothing here takes memory: a context's key is expanded once. Not here: the set-up, whose secrets
-//! `key_schedule` gives; use by several threads. Nothing is constant time or wiped, and that no two
-//! contexts of one sender have the same secrets is the caller's to keep.
+//! Nothing here takes memory: a context's key is expanded once, and its exporter_secret keys HMAC
+//! once. Not here: the set-up, whose secrets `key_schedule` gives; use by several threads. Nothing is
+//! constant time or wiped, and that no two contexts of one sender have the same secrets is the
+//! caller's to keep.
 #![tactic(auto)]
 
 mod contexts;

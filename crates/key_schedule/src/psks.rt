@@ -43,8 +43,8 @@ impl fmt::Display for PskFault {
 
 impl Error for PskFault {}
 
-// VerifyPSKInputs (RFC 9180, 5.1).
-pub(crate) fn verify_psk_inputs(mode: Mode, psk: &[u8], psk_id: &[u8]) -> Result<(), PskFault>
+/// Whether the psk, its id and the mode go together: VerifyPSKInputs (RFC 9180, 5.1).
+pub fn verify_psk_inputs(mode: Mode, psk: &[u8], psk_id: &[u8]) -> Result<(), PskFault>
     ensures result { result ≡ verify_psk_inputs mode psk.now psk_id.now }
     ensures inconsistent { (result ≡ Err PskFault.Inconsistent) ↔ OneIsMissing psk.now psk_id.now }
     ensures unneeded { (result ≡ Err PskFault.Unneeded)

@@ -1,6 +1,6 @@
 //! Published vectors: the key schedule, exports and nonces.
 
-use crate::{CipherSecrets, Mode, PskFault, Secrets, nonce_at, schedule};
+use crate::{CipherSecrets, Mode, PskFault, Secrets, nonce_at, schedule, verify_psk_inputs};
 use hex::{FromHex, decode};
 use hkdf_labelled::{Aead, Kdf, Suite, labeled_expand_into};
 use std::alloc::Global;
@@ -298,5 +298,12 @@ fn a_fault_is_told_by_its_number_and_in_words(rt: HostRuntime) -> Result<(), Fai
         let text = format!(in rt.alloc(); "{fault}")?;
         assert_eq!(rt; text.as_str(), want);
     }
+    Ok(())
+}
+
+#[test]
+fn a_psk_and_its_id_go_with_mode_psk(rt: HostRuntime) -> Result<(), Fail> {
+    assert!(rt; verify_psk_inputs(Mode::Base, &[], &[]).is_ok());
+    assert!(rt; verify_psk_inputs(Mode::Psk, b"psk", b"id").is_ok());
     Ok(())
 }
