@@ -56,6 +56,8 @@ in_call plan (calls.UnsealAll c first count) i a within line at =
     opened_in (length plan.pool) (items_from plan.items first count) i a
     (All-take P count (drop first plan.items) (All-drop P first plan.items within.item_list)) at
 in_call plan (calls.Export c exporter size) i a within line at = absurd (no_asked a at)
+in_call plan (calls.Add name) i a within line at = absurd (no_asked a at)
+in_call plan (calls.Retire name) i a within line at = absurd (no_asked a at)
 
 of_call : (plan : Plan) (call : Option CallLine) (i : ℕ) (a : Asked) → IsWithinLimits plan → ((line : CallLine) → call ≡ Some line → IsLine plan line)
     → asked_in_call plan.items call i ≡ Some a → IsAskedIn (length plan.pool) a

@@ -26,6 +26,8 @@ module _ (run : Run) (lane number : ℕ) (contexts : List (Option ContextView)) 
   past_unless (calls.Unseal context item) None guesses _ = refl
   past_unless (calls.UnsealAll context first count) None guesses asks_none = absurd (let clash : true ≡ false = asks_none in cc)
   past_unless (calls.Export context exporter size) None guesses _ = refl
+  past_unless (calls.Add name) None guesses _ = refl
+  past_unless (calls.Retire name) None guesses _ = refl
 
   -- one that keeps one
   opening_unless : (call : CallLine) (refusal : Option CallRefusal) → call_refusal contexts call ≡ refusal → opens_unless refusal call ≡ true → IsLine run.plan call
@@ -42,6 +44,8 @@ module _ (run : Run) (lane number : ℕ) (contexts : List (Option ContextView)) 
       ap (λ (b : Bool). cond b (wrong_guess run lane (number + 1) asks guesses) (Some told.number))
       (ap (λ (k : ℕ). is_right run context lane number k told.guess) size ∙ sym (judged context first count refl is line.1))
   opening_unless (calls.Export context exporter size) None is opens line told guesses right judged = absurd (let clash : false ≡ true = opens in cc)
+  opening_unless (calls.Add name) None is opens line told guesses right judged = absurd (let clash : false ≡ true = opens in cc)
+  opening_unless (calls.Retire name) None is opens line told guesses right judged = absurd (let clash : false ≡ true = opens in cc)
 
   pub past : (call : CallLine) (guesses : List GuessLine) → is_opening contexts call ≡ false
       → wrong_guess run lane number (ask_of run.plan contexts call ∷ asks) guesses ≡ wrong_guess run lane (number + 1) asks guesses

@@ -1,6 +1,7 @@
 pub mod AskedItems
 pub mod Slots
 pub mod Pulling
+pub mod Linked
 pub mod ServedCalls
 pub mod Lanes
 pub mod DueNumbers

@@ -100,6 +100,8 @@ context_asked (calls.Seal context item) at n is = ap (λ (p : ℕ × ℕ). p.0) 
 context_asked (calls.Unseal context item) at n is = ap (λ (p : ℕ × ℕ). p.0) (some_pair (context, 1) (at, n) is)
 context_asked (calls.UnsealAll context first count) at n is = ap (λ (p : ℕ × ℕ). p.0) (some_pair (context, count) (at, n) is)
 context_asked (calls.Export context exporter size) at n is = absurd cc
+context_asked (calls.Add name) at n is = absurd cc
+context_asked (calls.Retire name) at n is = absurd cc
 
 pub same_opening : (call : CallLine) (at n context first count : ℕ) → items_asked call ≡ Some (at, n) → call ≡ calls.UnsealAll context first count
     → (context ≡ at) × (count ≡ n)

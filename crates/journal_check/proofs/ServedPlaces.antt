@@ -95,6 +95,8 @@ module _ (plan : Plan) (contexts : List (Option ContextView)) where
             (sym (ap (λ (o : Option ContextView). refusal_on o (calls.UnsealAll context first count)) (ap (standing_at contexts) t.3 ∙ stands)) ∙ free)),
       )
   by_call (calls.Export context exporter size) i c x free is = absurd (no_item (c, x) is)
+  by_call (calls.Add name) i c x free is = absurd (no_item (c, x) is)
+  by_call (calls.Retire name) i c x free is = absurd (no_item (c, x) is)
 
   unless_call : (call : CallLine) (refusal : Option CallRefusal) (i c : ℕ) (x : Item) → call_refusal contexts call ≡ refusal → item_in (ask_unless refusal (asked_by plan call)) i ≡ Some (c, x)
       → Asks plan contexts (Some call) i c x

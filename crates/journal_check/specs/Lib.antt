@@ -1,4 +1,5 @@
 pub mod Verdicts
 pub mod Runs
 pub mod Walks
+pub mod Links
 pub mod Passing

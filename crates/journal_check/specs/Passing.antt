@@ -62,6 +62,8 @@ opens_all (calls.Seal context item) = false
 opens_all (calls.Unseal context item) = false
 opens_all (calls.UnsealAll context first count) = true
 opens_all (calls.Export context exporter size) = false
+opens_all (calls.Add name) = false
+opens_all (calls.Retire name) = false
 
 abbrev pub opens_unless : Option CallRefusal → CallLine → Bool
 opens_unless None call = opens_all call

@@ -27,6 +27,8 @@ asks_in items (calls.Unseal context item) = Open item ∷ []
 asks_in items (calls.UnsealAll context first count) =
     map (λ (item : Item). Open item) (items_from items first count)
 asks_in items (calls.Export context exporter size) = []
+asks_in items (calls.Add name) = []
+asks_in items (calls.Retire name) = []
 
 abbrev pub asked_in_call : List Item → Option CallLine → ℕ → Option Asked
 asked_in_call items None i = None
@@ -73,6 +75,8 @@ OpensWithin size (calls.Seal context item) = Unit {0}
 OpensWithin size (calls.Unseal context item) = Unit {0}
 OpensWithin size (calls.UnsealAll context first count) = first + count ≤ size
 OpensWithin size (calls.Export context exporter size_of) = Unit {0}
+OpensWithin size (calls.Add name) = Unit {0}
+OpensWithin size (calls.Retire name) = Unit {0}
 
 -- a journal was run through its context: the lines of its replies, and the numbers that were due
 pub record IsRunOf (plan : Plan) (context : ContextView) (marks : List Mark) (done : JournalRun)

@@ -19,11 +19,12 @@ ghost use Rattle.journal_check.specs.Passing.{AreNumbersOf, AreLegal, HaveNumber
 ghost use Rattle.journal_check.specs.Walks.{AreRepliesOf, AreLong, HaveLanes};
 
 use crate::guesses::wrong_guesses;
+use crate::links::linked_journals;
 use crate::replies::wrong_reply;
 use crate::runs::{JournalRun, run_journals};
 use batch_plans::{PlainList, Plan};
 use call_places::Mark;
-use context_table::{Setup, set_up};
+use context_table::set_up;
 use hpke_context::Context;
 use result_lines::{Stop, Told, read_result};
 use result_verdicts::Verdict;
@@ -83,11 +84,11 @@ fn wrong_line(
         (by_guess (wrong_guesses_of run 0 told.now.lanes))) }
 {
     let mut replies = told.replies();
-    let journals = told.journals();
-    if let Some(line) = wrong_reply(&mut replies, alloc, plan, contexts, journals, runs)? {
+    let journals = linked_journals(alloc, plan.lanes.as_slice().len(), told.journals())?;
+    if let Some(line) = wrong_reply(&mut replies, alloc, plan, contexts, &journals, runs)? {
         return Ok(Verdict::Reply { line });
     }
-    match wrong_guesses(alloc, plan, contexts, journals, runs, told.lanes())? {
+    match wrong_guesses(alloc, plan, contexts, &journals, runs, told.lanes())? {
         Some(line) => Ok(Verdict::Guess { line }),
         None => Ok(Verdict::Legal),
     }
@@ -116,36 +117,6 @@ fn verdict_on<R: Threads>(
     }
 }
 
-// The verdict on a text, by the plan's set-up.
-fn judge<R: Threads>(
-    rt: &R,
-    alloc: Global,
-    plan: &Plan,
-    setup: Setup,
-    text: &[u8],
-) -> Result<Verdict, AllocError>
-    requires within { IsWithinLimits plan.now }
-    requires size { length text.now ≤ most_input }
-    requires standing { length setup.standing ≡ length plan.now.contexts }
-    ensures { IfOk result (λ verdict. verdict ≡ by_form plan.now setup.standing
-        (told_by plan.now setup.keys setup.contexts setup.standing text.now)) }
-{
-    let mut contexts = setup.standing.into_vec();
-    let keys = setup.keys.as_slice();
-    match read_result(
-        alloc,
-        plan,
-        keys,
-        setup.contexts.as_slice(),
-        &contexts,
-        text,
-    ) {
-        Ok(told) => verdict_on(rt, alloc, plan, &mut contexts, &told),
-        Err(Stop::Wrong(line)) => Ok(Verdict::Form { line }),
-        Err(Stop::OutOfMemory) => Err(AllocError),
-    }
-}
-
 /// Checks whether a text is one that the plan may be answered with.
 ///
 /// The set-up is done again, as [`set_up`](context_table::set_up) does it, and each journal is run
@@ -164,5 +135,12 @@ pub fn check_result<R: Threads, M: Multiplier>(
         (verdict ≡ Verdict.Legal) ↔ IsReply plan.now text.now) }
 {
     let setup = set_up(alloc, plan, mult)?;
-    judge(rt, alloc, plan, setup, text)
+    let mut contexts = setup.standing.into_vec();
+    let keys = setup.keys.as_slice();
+    let replies = setup.contexts.as_slice();
+    match read_result(alloc, plan, keys, replies, &contexts, text) {
+        Ok(told) => verdict_on(rt, alloc, plan, &mut contexts, &told),
+        Err(Stop::Wrong(line)) => Ok(Verdict::Form { line }),
+        Err(Stop::OutOfMemory) => Err(AllocError),
+    }
 }

@@ -23,6 +23,7 @@ ghost use Rattle.journal_check.specs.Passing.{AreLegal, AreNumbered, HaveNumbers
 ghost use Rattle.journal_check.specs.Walks.{Points, HaveLanes};
 
 use crate::lane_walks::next_own;
+use crate::links::LinkedJournal;
 use crate::runs::JournalRun;
 use batch_plans::{Batch, CallLine, PlainList, Plan};
 use call_places::Mark;
@@ -72,18 +73,18 @@ fn is_right(told: Batch, least: u64, numbers: &[u64]) -> bool
 }
 
 // The number that was due at the lane's next place in a journal, where each place has its number.
-fn pass_place(marks: &[Mark], numbers: &[u64], lane: u32, cursor: &mut usize) -> u64
-    requires { length numbers.now ≡ length marks.now }
+fn pass_place(journal: &LinkedJournal, numbers: &[u64], lane: u32, cursor: &mut usize) -> u64
+    requires { length numbers.now ≡ length journal.now }
     ensures number { (f : Place → ℕ) (p : Place) (ps : List Place)
-        → numbers.now ≡ map f (places marks.now)
-        → own_places lane (places (drop cursor.old marks.now)) ≡ p ∷ ps
+        → numbers.now ≡ map f (places journal.now)
+        → own_places lane (places (drop cursor.old journal.now)) ≡ p ∷ ps
         → result ≡ f p }
     ensures cursor { (p : Place) (ps : List Place)
-        → own_places lane (places (drop cursor.old marks.now)) ≡ p ∷ ps
-        → own_places lane (places (drop cursor.new marks.now)) ≡ ps }
-    ensures reach { Reaches lane marks.now cursor.old → Reaches lane marks.now cursor.new }
+        → own_places lane (places (drop cursor.old journal.now)) ≡ p ∷ ps
+        → own_places lane (places (drop cursor.new journal.now)) ≡ ps }
+    ensures reach { Reaches lane journal.now cursor.old → Reaches lane journal.now cursor.new }
 {
-    match next_own(marks, lane, *cursor) {
+    match next_own(journal, lane, *cursor) {
         Some(at) => {
             *cursor = at + 1;
             numbers[at]
@@ -95,26 +96,26 @@ fn pass_place(marks: &[Mark], numbers: &[u64], lane: u32, cursor: &mut usize) ->
 // The numbers that were due at the lane's next places, so many of them.
 fn pass_places(
     alloc: Global,
-    marks: &[Mark],
+    journal: &LinkedJournal,
     numbers: &[u64],
     lane: u32,
     cursor: &mut usize,
     count: u32,
 ) -> Result<Vec<u64>, AllocError>
-    requires { length numbers.now ≡ length marks.now }
+    requires { length numbers.now ≡ length journal.now }
     ensures numbers { IfOk result (λ found. (f : Place → ℕ) (ps more : List Place)
-        → numbers.now ≡ map f (places marks.now) → length ps ≡ count
-        → own_places lane (places (drop cursor.old marks.now)) ≡ ps ++ more
+        → numbers.now ≡ map f (places journal.now) → length ps ≡ count
+        → own_places lane (places (drop cursor.old journal.now)) ≡ ps ++ more
         → found.items ≡ map f ps) }
     ensures cursor { OnOk result ((ps more : List Place) → length ps ≡ count
-        → own_places lane (places (drop cursor.old marks.now)) ≡ ps ++ more
-        → own_places lane (places (drop cursor.new marks.now)) ≡ more) }
-    ensures reach { OnOk result (Reaches lane marks.now cursor.old
-        → Reaches lane marks.now cursor.new) }
+        → own_places lane (places (drop cursor.old journal.now)) ≡ ps ++ more
+        → own_places lane (places (drop cursor.new journal.now)) ≡ more) }
+    ensures reach { OnOk result (Reaches lane journal.now cursor.old
+        → Reaches lane journal.now cursor.new) }
 {
     let mut found = Vec::new(alloc);
     'places: for _place in 0..count {
-        let number = pass_place(marks, numbers, lane, cursor);
+        let number = pass_place(journal, numbers, lane, cursor);
         found.push(number)?;
     }
     Ok(found)
@@ -131,7 +132,7 @@ struct Passed {
 // Passes the lane's next places in the journal of a context.
 fn pass_items(
     alloc: Global,
-    journals: &[PlainList<Mark>],
+    journals: &[LinkedJournal],
     runs: &[JournalRun],
     cursors: &mut [usize],
     context: u32,
@@ -165,11 +166,11 @@ fn pass_items(
         → slice_index cursors.new d ≡ slice_index cursors.old d }
 {
     let at = context as usize;
-    let marks = journals[at].as_slice();
+    let journal = &journals[at];
     let least = number_at(&runs[at].numbers, cursors[at]);
     let numbers = pass_places(
         alloc,
-        marks,
+        journal,
         &runs[at].numbers,
         lane,
         &mut cursors[at],
@@ -187,7 +188,11 @@ fn is_opening(contexts: &[Option<Context>], call: &CallLine) -> bool
     }
     match *call {
         CallLine::UnsealAll { .. } => true,
-        CallLine::Seal { .. } | CallLine::Unseal { .. } | CallLine::Export { .. } => false,
+        CallLine::Seal { .. }
+        | CallLine::Unseal { .. }
+        | CallLine::Export { .. }
+        | CallLine::Add { .. }
+        | CallLine::Retire { .. } => false,
     }
 }
 
@@ -195,7 +200,7 @@ fn is_opening(contexts: &[Option<Context>], call: &CallLine) -> bool
 fn pass_call(
     alloc: Global,
     contexts: &[Option<Context>],
-    journals: &[PlainList<Mark>],
+    journals: &[LinkedJournal],
     runs: &[JournalRun],
     cursors: &mut [usize],
     lane: u32,
@@ -233,7 +238,7 @@ fn pass_call(
 fn judge_calls(
     alloc: Global,
     contexts: &[Option<Context>],
-    journals: &[PlainList<Mark>],
+    journals: &[LinkedJournal],
     runs: &[JournalRun],
     cursors: &mut [usize],
     lane: u32,
@@ -270,7 +275,7 @@ fn judge_calls(
 fn wrong_guess(
     alloc: Global,
     contexts: &[Option<Context>],
-    journals: &[PlainList<Mark>],
+    journals: &[LinkedJournal],
     runs: &[JournalRun],
     lane: u32,
     calls: &[CallLine],
@@ -306,7 +311,7 @@ pub(crate) fn wrong_guesses(
     alloc: Global,
     plan: &Plan,
     contexts: &[Option<Context>],
-    journals: &[PlainList<Mark>],
+    journals: &[LinkedJournal],
     runs: &[JournalRun],
     lanes: &[PlainList<GuessLine>],
 ) -> Result<Option<u32>, AllocError>

@@ -40,7 +40,11 @@ fn asked_item(items: &[Item], call: &CallLine, i: u32) -> Option<Asked>
         CallLine::Seal { item, .. } if i == 0 => Some(Asked::Seal(item)),
         CallLine::Unseal { item, .. } if i == 0 => Some(Asked::Open(item)),
         CallLine::UnsealAll { first, count, .. } => opened_item(items_from(items, first, count), i),
-        CallLine::Seal { .. } | CallLine::Unseal { .. } | CallLine::Export { .. } => None,
+        CallLine::Seal { .. }
+        | CallLine::Unseal { .. }
+        | CallLine::Export { .. }
+        | CallLine::Add { .. }
+        | CallLine::Retire { .. } => None,
     }
 }
 

@@ -9,12 +9,13 @@ ghost use Rattle.legal_journals.specs.Histories.{places};
 ghost use Rattle.journal_check.specs.Walks.{Holds};
 
 use crate::halts::Halt;
+use crate::links::LinkedJournal;
 use batch_plans::PlainList;
 use call_places::Mark;
 use result_lines::{Replies, is_line};
 
-/// Where the next place of a lane stands in a journal, from this index on.
-pub(crate) fn next_own(marks: &[Mark], lane: u32, from: usize) -> Option<usize>
+// The first place of a lane from this index on.
+fn own_from(marks: &[Mark], lane: u32, from: usize) -> Option<usize>
     ensures some { IfSome result (λ at. (m : Mark) → slice_get marks.now at ≡ Some m
         → own_places lane (places (drop from marks.now))
         ≡ m.place ∷ own_places lane (places (drop (at + 1) marks.now))) }
@@ -27,6 +28,17 @@ pub(crate) fn next_own(marks: &[Mark], lane: u32, from: usize) -> Option<usize>
         }
     }
     None
+}
+
+/// Where the next place of a lane stands in a journal, from this index on.
+pub(crate) fn next_own(journal: &LinkedJournal, lane: u32, from: usize) -> Option<usize>
+    ensures some { IfSome result (λ at. (m : Mark) → slice_get journal.now at ≡ Some m
+        → own_places lane (places (drop from journal.now))
+        ≡ m.place ∷ own_places lane (places (drop (at + 1) journal.now))) }
+    ensures there { IfSome result (λ at. at < length journal.now) }
+    ensures none { IfNone result (own_places lane (places (drop from journal.now)) ≡ []) }
+{
+    own_from(journal.marks(), lane, journal.start(lane, from))
 }
 
 /// Holds the next reply against the line that is due.
@@ -47,21 +59,21 @@ pub(crate) fn take_line(replies: &mut Replies, due: &[u8]) -> Result<(), Halt>
 // line.
 fn take_place(
     replies: &mut Replies,
-    marks: &[Mark],
+    journal: &LinkedJournal,
     lines: &[PlainList<u8>],
     lane: u32,
     cursor: &mut usize,
 ) -> Result<(), Halt>
-    requires { length lines.now ≡ length marks.now }
+    requires { length lines.now ≡ length journal.now }
     ensures line { (f : Place → List ℕ) (p : Place) (ps : List Place)
-        → lines.now ≡ map f (places marks.now)
-        → own_places lane (places (drop cursor.old marks.now)) ≡ p ∷ ps
+        → lines.now ≡ map f (places journal.now)
+        → own_places lane (places (drop cursor.old journal.now)) ≡ p ∷ ps
         → Holds replies.old replies.new (f p ∷ []) result }
     ensures cursor { (p : Place) (ps : List Place)
-        → own_places lane (places (drop cursor.old marks.now)) ≡ p ∷ ps
-        → own_places lane (places (drop cursor.new marks.now)) ≡ ps }
+        → own_places lane (places (drop cursor.old journal.now)) ≡ p ∷ ps
+        → own_places lane (places (drop cursor.new journal.now)) ≡ ps }
 {
-    let Some(at) = next_own(marks, lane, *cursor) else {
+    let Some(at) = next_own(journal, lane, *cursor) else {
         return Err(Halt::Ended);
     };
     *cursor = at + 1;
@@ -71,23 +83,23 @@ fn take_place(
 /// Holds the next replies against those of the lane's next places in a journal, so many of them.
 pub(crate) fn take_places(
     replies: &mut Replies,
-    marks: &[Mark],
+    journal: &LinkedJournal,
     lines: &[PlainList<u8>],
     lane: u32,
     cursor: &mut usize,
     count: u32,
 ) -> Result<(), Halt>
-    requires { length lines.now ≡ length marks.now }
+    requires { length lines.now ≡ length journal.now }
     ensures lines { (f : Place → List ℕ) (ps more : List Place)
-        → lines.now ≡ map f (places marks.now) → length ps ≡ count
-        → own_places lane (places (drop cursor.old marks.now)) ≡ ps ++ more
+        → lines.now ≡ map f (places journal.now) → length ps ≡ count
+        → own_places lane (places (drop cursor.old journal.now)) ≡ ps ++ more
         → Holds replies.old replies.new (map f ps) result }
     ensures cursor { OnOk result ((ps more : List Place) → length ps ≡ count
-        → own_places lane (places (drop cursor.old marks.now)) ≡ ps ++ more
-        → own_places lane (places (drop cursor.new marks.now)) ≡ more) }
+        → own_places lane (places (drop cursor.old journal.now)) ≡ ps ++ more
+        → own_places lane (places (drop cursor.new journal.now)) ≡ more) }
 {
     'places: for _place in 0..count {
-        take_place(replies, marks, lines, lane, cursor)?;
+        take_place(replies, journal, lines, lane, cursor)?;
     }
     Ok(())
 }

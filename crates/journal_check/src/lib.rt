@@ -7,8 +7,9 @@
 //! sequential context (RFC 9180, 5.2), and the replies are compared with its answers; each guess is
 //! held against the numbers that were due.
 //!
-//! Nothing here starts a thread. A lane is walked once for each context, and a journal once for
-//! each lane; stamps are put in order by their numbers.
+//! Nothing here starts a thread. Each call, each place and each reply is passed a fixed number of
+//! times, whatever the contexts and lanes are; stamps are put in order by their numbers. Beside them
+//! stand one first place and one cursor for each lane and journal, and nothing else of that number.
 #![tactic(auto)]
 
 mod checking;
@@ -16,6 +17,7 @@ mod guesses;
 mod halts;
 mod items;
 mod lane_walks;
+mod links;
 mod replies;
 mod runs;
 

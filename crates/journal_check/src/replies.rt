@@ -21,6 +21,7 @@ ghost use Rattle.journal_check.specs.Walks.{AreLong, HaveLanes};
 
 use crate::halts::Halt;
 use crate::lane_walks::{take_line, take_places};
+use crate::links::LinkedJournal;
 use crate::runs::JournalRun;
 use batch_plans::{CallLine, CallRefusal, PlainList, Plan};
 use call_places::{Mark, Span};
@@ -36,6 +37,9 @@ fn refusal_line(refusal: CallRefusal) -> &'static [u8]
         CallRefusal::Role => b"refused role\n",
         CallRefusal::NoCipher => b"refused nocipher\n",
         CallRefusal::ExportSize => b"refused exportsize\n",
+        CallRefusal::PskPair => b"refused pskpair\n",
+        CallRefusal::PskExtra => b"refused pskextra\n",
+        CallRefusal::PskMissing => b"refused pskmissing\n",
     }
 }
 
@@ -84,7 +88,7 @@ fn take_export(
 // Holds the next replies against those of a lane's next places in the journal of a context.
 fn take_items(
     replies: &mut Replies,
-    journals: &[PlainList<Mark>],
+    journals: &[LinkedJournal],
     runs: &[JournalRun],
     cursors: &mut [usize],
     context: u32,
@@ -112,10 +116,10 @@ fn take_items(
         → slice_index cursors.new d ≡ slice_index cursors.old d }
 {
     let at = context as usize;
-    let marks = journals[at].as_slice();
+    let journal = &journals[at];
     take_places(
         replies,
-        marks,
+        journal,
         &runs[at].lines,
         lane,
         &mut cursors[at],
@@ -129,7 +133,7 @@ fn take_served(
     alloc: Global,
     plan: &Plan,
     contexts: &[Option<Context>],
-    journals: &[PlainList<Mark>],
+    journals: &[LinkedJournal],
     runs: &[JournalRun],
     cursors: &mut [usize],
     lane: u32,
@@ -161,6 +165,7 @@ fn take_served(
             exporter,
             size,
         } => take_export(replies, alloc, plan, contexts, context, exporter, size),
+        CallLine::Add { .. } | CallLine::Retire { .. } => unreachable!(),
     }
 }
 
@@ -170,7 +175,7 @@ pub(crate) fn take_call(
     alloc: Global,
     plan: &Plan,
     contexts: &[Option<Context>],
-    journals: &[PlainList<Mark>],
+    journals: &[LinkedJournal],
     runs: &[JournalRun],
     cursors: &mut [usize],
     lane: u32,
@@ -200,7 +205,7 @@ fn take_calls(
     alloc: Global,
     plan: &Plan,
     contexts: &[Option<Context>],
-    journals: &[PlainList<Mark>],
+    journals: &[LinkedJournal],
     runs: &[JournalRun],
     cursors: &mut [usize],
     lane: u32,
@@ -227,7 +232,7 @@ fn take_lane(
     alloc: Global,
     plan: &Plan,
     contexts: &[Option<Context>],
-    journals: &[PlainList<Mark>],
+    journals: &[LinkedJournal],
     runs: &[JournalRun],
     lane: u32,
     calls: &[CallLine],
@@ -263,7 +268,7 @@ fn take_lanes(
     alloc: Global,
     plan: &Plan,
     contexts: &[Option<Context>],
-    journals: &[PlainList<Mark>],
+    journals: &[LinkedJournal],
     runs: &[JournalRun],
 ) -> Result<(), Halt>
     requires within { IsWithinLimits plan.now }
@@ -307,7 +312,7 @@ pub(crate) fn wrong_reply(
     alloc: Global,
     plan: &Plan,
     contexts: &[Option<Context>],
-    journals: &[PlainList<Mark>],
+    journals: &[LinkedJournal],
     runs: &[JournalRun],
 ) -> Result<Option<u32>, AllocError>
     requires within { IsWithinLimits plan.now }

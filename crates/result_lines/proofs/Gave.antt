@@ -141,6 +141,8 @@ served_gave (calls.Seal context item) lines guesses told after count kept all wi
 served_gave (calls.Unseal context item) lines guesses told after count kept all within left = one_gave lines guesses told after count kept all left
 served_gave (calls.UnsealAll context first n) lines guesses told after count kept all within left = opening_gave n lines guesses told after count kept all within left
 served_gave (calls.Export context exporter size) lines guesses told after count kept all within left = one_gave lines guesses told after count kept all left
+served_gave (calls.Add name) lines guesses told after count kept all within left = one_gave lines guesses told after count kept all left
+served_gave (calls.Retire name) lines guesses told after count kept all within left = one_gave lines guesses told after count kept all left
 
 call_gave : (refusal : Option CallRefusal) (call : CallLine) (lines : List (List ℕ)) (guesses : List Batch) (told : ToldView) (after : List ℕ) → length lines ≡ served_or refusal (items_of call) 1
     → length guesses ≡ served_or refusal (served_batches call) 0 → All IsLine lines → All IsGuessWithin guesses → IsLeft told.lines (concat (one_call lines guesses) ++ after)

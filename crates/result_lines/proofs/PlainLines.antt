@@ -169,6 +169,9 @@ call_refusal_one calls.NoContext = tested (codes "nocontext") refl
 call_refusal_one calls.Role = tested (codes "role") refl
 call_refusal_one calls.NoCipher = tested (codes "nocipher") refl
 call_refusal_one calls.ExportSize = tested (codes "exportsize") refl
+call_refusal_one calls.PskPair = tested (codes "pskpair") refl
+call_refusal_one calls.PskExtra = tested (codes "pskextra") refl
+call_refusal_one calls.PskMissing = tested (codes "pskmissing") refl
 
 pub refused_line_is : (refusal : CallRefusal) → IsLine (refused_line refusal)
 refused_line_is refusal = record {

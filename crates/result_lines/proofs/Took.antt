@@ -180,6 +180,8 @@ served_took (calls.UnsealAll context first count) told new text left e =
           (subst (λ (rs : List (List ℕ)). Took told new text (concat lines ++ guess_line g) rs (g ∷ [])) (append-nil lines) whole);
     }
 served_took (calls.Export context exporter size) told new text left e = one_took told new text left e
+served_took (calls.Add name) told new text left e = one_took told new text left e
+served_took (calls.Retire name) told new text left e = one_took told new text left e
 
 call_took : (refusal : Option CallRefusal) (call : CallLine) (told new : ToldView) (text : List ℕ) → IsLeft told.lines text → with_call_unless refusal call told ≡ Ok new
     → TookCalls told new text (served_or refusal (items_of call) 1) (served_or refusal (served_batches call) 0) one_call

@@ -85,6 +85,8 @@ with_served (calls.Seal context item) told = with_reply told
 with_served (calls.Unseal context item) told = with_reply told
 with_served (calls.UnsealAll context first count) told = (with_replies count told >>= with_guess)
 with_served (calls.Export context exporter size) told = with_reply told
+with_served (calls.Add name) told = with_reply told
+with_served (calls.Retire name) told = with_reply told
 
 -- a call that may be refused
 abbrev pub with_call_unless : Option CallRefusal → CallLine → ToldView → Result ToldView ℕ

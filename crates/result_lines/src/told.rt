@@ -146,9 +146,11 @@ impl<'a> Told<'a> {
         ensures { Tells (λ _. self.new) result (with_served call.now self.old) }
     {
         match *call {
-            CallLine::Seal { .. } | CallLine::Unseal { .. } | CallLine::Export { .. } => {
-                self.reply()
-            }
+            CallLine::Seal { .. }
+            | CallLine::Unseal { .. }
+            | CallLine::Export { .. }
+            | CallLine::Add { .. }
+            | CallLine::Retire { .. } => self.reply(),
             CallLine::UnsealAll { count, .. } => {
                 self.all_replies(count)?;
                 self.guess()

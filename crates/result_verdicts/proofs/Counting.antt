@@ -112,6 +112,8 @@ one_size plan None (calls.Seal context item) fits = omega arith
 one_size plan None (calls.Unseal context item) fits = omega arith
 one_size plan None (calls.UnsealAll context first count) fits = omega (arith, length-messages plan.items plan.pool first count fits.3)
 one_size plan None (calls.Export context exporter size) fits = omega arith
+one_size plan None (calls.Add name) fits = omega arith
+one_size plan None (calls.Retire name) fits = omega arith
 
 length-spots : (context : ℕ) (ps : List Place) → length (spots context ps) ≡ length ps
 length-spots context [] = refl

@@ -110,6 +110,8 @@ module _ (run : Run) (within : IsWithinLimits run.plan) (legal : (context : ℕ)
       let s = stands_for run.contexts (calls.Export context exporter size) free in
       one_line _ (subst (λ (o : Option ContextView). IsLine (export_line o (span_bytes run.plan.pool exporter) size)) (sym s.1)
       (exported_line_is (exported_by s.0 (span_bytes run.plan.pool exporter) size)))
+  items_are lane number (calls.Add name) fits here free = All-nil IsLine
+  items_are lane number (calls.Retire name) fits here free = All-nil IsLine
 
   replies_are : (lane number : ℕ) (call : CallLine) → limited.IsLine run.plan call → slice_get (calls_of run lane) number ≡ Some call → All IsLine (reply_lines run lane number call)
   replies_are lane number call fits at = go (call_refusal run.contexts call) refl

@@ -134,6 +134,8 @@ module _ (plan : Plan) (contexts : List (Option ContextView)) (within : IsWithin
   opens_by None (calls.Seal c item) context messages fits is = absurd cc
   opens_by None (calls.Unseal c item) context messages fits is = absurd cc
   opens_by None (calls.Export c exporter size) context messages fits is = absurd cc
+  opens_by None (calls.Add name) context messages fits is = absurd cc
+  opens_by None (calls.Retire name) context messages fits is = absurd cc
   opens_by None (calls.UnsealAll c first count) context messages fits is =
       let same : sealed_messages plan.pool (items_from plan.items first count) ≡ messages = cc in
       let size = messages_size plan c first count fits in
@@ -155,6 +157,8 @@ module _ (plan : Plan) (contexts : List (Option ContextView)) (within : IsWithin
   context_asked None (calls.Unseal c item) i context x is = (refl, in_context c context x (slice_get (items_in (asked_by plan (calls.Unseal c item))) i) is)
   context_asked None (calls.UnsealAll c first count) i context x is = (refl, in_context c context x (slice_get (items_in (asked_by plan (calls.UnsealAll c first count))) i) is)
   context_asked None (calls.Export c exporter size) i context x is = absurd cc
+  context_asked None (calls.Add name) i context x is = absurd cc
+  context_asked None (calls.Retire name) i context x is = absurd cc
 
   -- a context that isn't there serves nothing
   unserved : (context : ℕ) (p : Place) → length contexts ≤ context → IsServed batch context p → ⊥

@@ -18,6 +18,7 @@ use Rattle.batch_plans.specs.declared.replies.Batch.{Batch as Told}
 use Rattle.batch_plans.specs.declared.replies.KeyReply.{KeyReply}
 use Rattle.batch_plans.specs.declared.replies.ContextReply.{ContextReply}
 use Rattle.batch_plans.specs.declared.replies.CallRefusal.{CallRefusal}
+use Rattle.batch_plans.specs.declared.replies.CallRefusal.TheVariants.{NoContext}
 use Rattle.batch_plans.specs.Room.{served_batches, served_or}
 use Rattle.batch_plans.specs.Limits.{items_from, IsWithinLimits, items_of}
 use Rattle.reply_texts.specs.Lines.{batch_line}
@@ -26,6 +27,7 @@ use Rattle.reply_texts.specs.ReplyText.{all_lines, numbered, guess_line}
 use Rattle.due_replies.specs.Standing.{call_refusal}
 use Rattle.due_replies.specs.Asks.{asked_by, ask_unless, ask_of, cipher_at}
 use Rattle.due_replies.specs.Runs.{Run, asks_of, journal_of, guesses_of, place_line, served_lines, lines_unless, call_lines, lane_call_lines, run_text}
+use Rattle.due_replies.proofs.Refusals.{added_refused, retired_refused}
 use Rattle.due_replies.proofs.Done.{lane_asks, length-messages}
 use Rattle.result_lines.specs.Printed.{call_replies, call_guesses, told_calls, told_lanes, told_text, AreComplete}
 use Rattle.result_lines.specs.Printed as printed
@@ -113,6 +115,8 @@ part run lane number None (calls.Seal context item) asks guesses within size kee
 part run lane number None (calls.Unseal context item) asks guesses within size keeps = plain run lane number None (calls.Unseal context item) asks guesses refl refl refl refl size keeps
 part run lane number None (calls.Export context exporter n) asks guesses within size keeps =
     plain run lane number None (calls.Export context exporter n) asks guesses refl refl refl refl size keeps
+part run lane number None (calls.Add name) asks guesses within size keeps = plain run lane number None (calls.Add name) asks guesses refl refl refl refl size keeps
+part run lane number None (calls.Retire name) asks guesses within size keeps = plain run lane number None (calls.Retire name) asks guesses refl refl refl refl size keeps
 part run lane number None (calls.UnsealAll context first count) asks [] within size keeps =
     let ask = asked_by run.plan (calls.UnsealAll context first count) in
     absurd (let sum = sum_by-cons (λ (a : Ask). length (guess_of a 0)) ask asks in omega arith)
@@ -131,13 +135,15 @@ part run lane number None (calls.UnsealAll context first count) asks (guess ∷ 
       keeps = keeps_behind run lane number ask asks guess guesses refl keeps;
     }
 
-replies_count : (run : Run) (lane number : ℕ) (refusal : Option CallRefusal) (call : CallLine)
+replies_count : (run : Run) (lane number : ℕ) (refusal : Option CallRefusal) (call : CallLine) → call_refusal run.contexts call ≡ refusal
     → length (lines_unless refusal (item_lines run lane number call)) ≡ served_or refusal (items_of call) 1
-replies_count run lane number (Some refusal) call = refl
-replies_count run lane number None (calls.Seal context item) = refl
-replies_count run lane number None (calls.Unseal context item) = refl
-replies_count run lane number None (calls.UnsealAll context first count) = length-map (block lane number 0 count) (place_line run context) ∙ length-block lane number 0 count
-replies_count run lane number None (calls.Export context exporter size) = refl
+replies_count run lane number (Some refusal) call is = refl
+replies_count run lane number None (calls.Seal context item) is = refl
+replies_count run lane number None (calls.Unseal context item) is = refl
+replies_count run lane number None (calls.UnsealAll context first count) is = length-map (block lane number 0 count) (place_line run context) ∙ length-block lane number 0 count
+replies_count run lane number None (calls.Export context exporter size) is = refl
+replies_count run lane number None (calls.Add name) is = absurd (let clash : None ≡ Some NoContext = sym is ∙ added_refused run.contexts name in cc)
+replies_count run lane number None (calls.Retire name) is = absurd (let clash : None ≡ Some NoContext = sym is ∙ retired_refused run.contexts name in cc)
 
 -- ---- the calls of a lane
 
@@ -161,14 +167,14 @@ module _ (run : Run) (lane : ℕ) where
       let later = opened run lane (number + 1) (asks_from more) p.later in
       (λ i. p.lines i ++ rest i)
       ∙ append_assoc replies (map guess_line p.own) (told_calls run.contexts more (replies_from (number + 1) more) later)
-      ∙ sym (calls_split run.contexts call more replies (replies_from (number + 1) more) p.own later (replies_count run lane number refusal call) p.kept)
+      ∙ sym (calls_split run.contexts call more replies (replies_from (number + 1) more) p.own later (replies_count run lane number refusal call refl) p.kept)
       ∙ ap (told_calls run.contexts (call ∷ more) (replies ++ replies_from (number + 1) more)) (sym p.opens)
 
   pub replies_size : (number : ℕ) (calls : List CallLine) → length (replies_from number calls) ≡ printed.lane_replies run.contexts calls
   replies_size number [] = refl
   replies_size number (call ∷ more) =
       length-append (reply_lines run lane number call) (replies_from (number + 1) more)
-      ∙ (λ i. replies_count run lane number (call_refusal run.contexts call) call i + replies_size (number + 1) more i)
+      ∙ (λ i. replies_count run lane number (call_refusal run.contexts call) call refl i + replies_size (number + 1) more i)
       ∙ sym (sum_by-cons (call_replies run.contexts) call more)
 
   pub opened_size : (number : ℕ) (calls : List CallLine) (guesses : List ℕ) → All (IsLine run.plan) calls → length guesses ≡ guess_count (asks_from calls)
@@ -188,6 +194,8 @@ one_kept plan None (calls.Seal context item) = refl
 one_kept plan None (calls.Unseal context item) = refl
 one_kept plan None (calls.UnsealAll context first count) = refl
 one_kept plan None (calls.Export context exporter size) = refl
+one_kept plan None (calls.Add name) = refl
+one_kept plan None (calls.Retire name) = refl
 
 pub all_kept : (plan : Plan) (contexts : List (Option ContextView)) (calls : List CallLine) → guess_count (map (ask_of plan contexts) calls) ≡ printed.lane_guesses contexts calls
 all_kept plan contexts [] = refl

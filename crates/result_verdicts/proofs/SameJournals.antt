@@ -29,6 +29,8 @@ module _ (run : Run) (journals : List (List Mark)) (same : (context : ℕ) → p
   items_same lane number (calls.Unseal context item) = ap (λ (l : List ℕ). l ∷ []) (place_same context (place lane number 0))
   items_same lane number (calls.UnsealAll context first count) = (λ i. map (λ (p : Place). place_same context p i) (block lane number 0 count))
   items_same lane number (calls.Export context exporter size) = refl
+  items_same lane number (calls.Add name) = refl
+  items_same lane number (calls.Retire name) = refl
 
   reply_same : (lane number : ℕ) (call : CallLine) → reply_lines other lane number call ≡ reply_lines run lane number call
   reply_same lane number call = ap (lines_unless (call_refusal run.contexts call)) (items_same lane number call)

@@ -21,6 +21,8 @@ item_lines run lane number (calls.UnsealAll context first count) =
     map (place_line run context) (block lane number 0 count)
 item_lines run lane number (calls.Export context exporter size) =
     export_line (standing_at run.contexts context) (span_bytes run.plan.pool exporter) size ∷ []
+item_lines run lane number (calls.Add name) = []
+item_lines run lane number (calls.Retire name) = []
 
 -- those to a call
 abbrev pub reply_lines : Run → ℕ → ℕ → CallLine → List (List ℕ)

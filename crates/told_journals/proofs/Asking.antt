@@ -9,7 +9,7 @@ use Rattle.std.proofs.lemmas.Option.{slice_get-map}
 use Rattle.call_places.specs.declared.entries.Place.{Place}
 use Rattle.call_places.specs.Messages.{sealed_messages}
 use Rattle.hpke_context.specs.Contexts.{ContextView}
-use Rattle.legal_journals.specs.Batches.{Ask, unseal, items_in, context_in, block, Spot, spots, asked, all_asked, on, lane_of, lane_places}
+use Rattle.legal_journals.specs.Batches.{Ask, unseal, items_in, context_in, block, Spot, spots, asked, all_asked, on, lane_of}
 use Rattle.legal_journals.specs.Checks.{goes_on, goes_on_in}
 use Rattle.legal_journals.proofs.Lists.{on-append, on-spots}
 use Rattle.batch_plans.specs.declared.plan.Plan.{Plan}
@@ -38,6 +38,8 @@ asked_places plan context lane number (calls.UnsealAll c first count) within =
     sym (on_asked context lane number (asked_by plan (calls.UnsealAll c first count))
     ∙ ap (λ n. cond (c == context) (block lane number 0 n) []) size)
 asked_places plan context lane number (calls.Export c exporter size) within = refl
+asked_places plan context lane number (calls.Add name) within = refl
+asked_places plan context lane number (calls.Retire name) within = refl
 
 unless_places : (plan : Plan) (context lane number : ℕ) (call : CallLine) (refusal : Option CallRefusal) → IsCallWithin (length plan.items) (length plan.pool) call
     → places_asked context lane number (asked_unless refusal (items_asked call)) ≡ on context (asked lane number (ask_unless refusal (asked_by plan call)))
@@ -69,6 +71,8 @@ opens_on plan (calls.UnsealAll c first count) i within =
     let size : length messages ≡ count = sym (length-map messages unseal) ∙ length-messages plan.items plan.pool first count within.3 in
     ap (nat_lt (i + 1)) (sym size)
 opens_on plan (calls.Export c exporter size) i within = refl
+opens_on plan (calls.Add name) i within = refl
+opens_on plan (calls.Retire name) i within = refl
 
 unless_on : (plan : Plan) (call : CallLine) (refusal : Option CallRefusal) (i : ℕ) → IsCallWithin (length plan.items) (length plan.pool) call
     → more_unless refusal (opens_more call i) ≡ goes_on_in (Some (ask_unless refusal (asked_by plan call))) i
@@ -90,14 +94,6 @@ goes_on_is plan contexts p within =
     ∙ ap (λ (o : Option Ask). goes_on_in o p.item)
     (sym (slice_get-map (ask_of plan contexts) lines p.call) ∙ ap (λ (asks : List Ask). slice_get asks p.call) (sym (asks_of_lane plan contexts p.lane)))
 
--- the places that a lane asks for on a context
-pub lane_places_are : (plan : Plan) (contexts : List (Option ContextView)) (context lane : ℕ) (d : List CallLine) → IsWithinLimits plan → lane < length plan.lanes
-    → places_from contexts context lane 0 (get_or plan.lanes lane d) ≡ lane_places context lane (lane_of (batch_of plan contexts) lane)
-lane_places_are plan contexts context lane d within lt =
-    ap (places_from contexts context lane 0) (get_or_default plan.lanes lane d [] lt)
-    ∙ from_asked plan contexts context lane 0 (slice_index_or plan.lanes lane []) (lines_of_limits plan lane [] within lt)
-    ∙ ap (λ (asks : List Ask). on context (all_asked lane 0 asks)) (sym (asks_of_lane plan contexts lane))
-
 -- the same of a place of a list
 pub goes_at : (plan : Plan) (contexts : List (Option ContextView)) (ps : List Place) (i : ℕ) (d : Place) (b : Bool) → IsWithinLimits plan
     → call_goes_on contexts (slice_get (slice_index_or plan.lanes (get_or ps i d).lane []) (get_or ps i d).call) (get_or ps i d).item ≡ b
@@ -113,6 +109,8 @@ asked_spots plan lane number (calls.Unseal c item) within = refl
 asked_spots plan lane number (calls.UnsealAll c first count) within =
     ap (λ n. spots c (block lane number 0 n)) (sym (length-messages plan.items plan.pool first count within.3))
 asked_spots plan lane number (calls.Export c exporter size) within = refl
+asked_spots plan lane number (calls.Add name) within = refl
+asked_spots plan lane number (calls.Retire name) within = refl
 
 unless_spots : (plan : Plan) (lane number : ℕ) (call : CallLine) (refusal : Option CallRefusal) → IsLine plan call
     → spots_asked lane number (asked_unless refusal (items_asked call)) ≡ asked lane number (ask_unless refusal (asked_by plan call))

@@ -1,5 +1,5 @@
 pub mod Walks
 pub mod Asking
-pub mod Blocks
 pub mod Putting
+pub mod Dealt
 pub mod OneHistory

@@ -1,14 +1,13 @@
 -- Lists that are walked from their front.
-use Rattle.std.proofs.Common.{◌≡◌, ℕ, suc, ◌+◌, ◌-◌, ◌<◌, ◌≤◌, ◌==◌, ◌&&◌, ◌||◌, not, Bool, true, false, cond, List, [], ◌∷◌, length, drop, get_or, refl, sym, ap, ◌∙◌, inl, inr, add-one, arith, eq-eqb, eqb-true, length-drop}
+use Rattle.std.proofs.Common.{◌≡◌, ◌≢◌, ℕ, suc, ◌+◌, ◌-◌, ◌<◌, ◌≤◌, ◌&&◌, ◌||◌, not, Bool, true, false, List, [], ◌∷◌, length, drop, get_or, refl, sym, ap, ◌∙◌, inl, inr, add-one, arith, length-drop}
 use Rattle.std.specs.Prelude.{nat_lt}
-use Rattle.std.specs.List.{list_all, range_with_len}
+use Rattle.std.specs.List.{list_all}
 use Rattle.std.proofs.Math.Seq.{drop-cons}
 use Rattle.std.proofs.lemmas.List.{drop_all}
 use Rattle.std.proofs.lemmas.Bool.{lt-ltb, le-ltb, cases_lt}
-use Rattle.result_lines.proofs.Feeds.{same_truth}
 use Rattle.call_places.specs.declared.entries.Place.{Place}
 use Rattle.call_places.specs.declared.entries.Mark.{Mark}
-use Rattle.legal_journals.specs.Batches.{Batch, own_places, place}
+use Rattle.legal_journals.specs.Batches.{Batch, place}
 use Rattle.legal_journals.specs.Legal.{is_same_place}
 use Rattle.legal_journals.specs.Histories.{places}
 use Rattle.legal_journals.specs.Checks.{are_same, goes_on, is_unbroken}
@@ -47,92 +46,43 @@ all_fail test marks i d total lt fails so_far =
 pub all_end : (test : Place → Bool) (marks : List Mark) (i : ℕ) (total : Bool) → length marks ≤ i → list_all test (places (drop i marks)) ≡ total → true ≡ total
 all_end test marks i total le so_far = sym (ap (λ (ms : List Mark). list_all test (places ms)) (drop_all i marks le)) ∙ so_far
 
--- ---- numbers up to a bound
+-- ---- the same lists
 
-range_next : (i n : ℕ) → i < n → range_with_len i (n - i) ≡ i ∷ range_with_len (i + 1) (n - (i + 1))
-range_next i n lt = let less : n - i ≡ suc (n - (i + 1)) = omega arith in ap (range_with_len i) less
+-- lists of other lengths
+pub same_sizes : {X : Type 0} (test : X → X → Bool) (xs ys : List X) → length xs ≢ length ys → are_same test xs ys ≡ false
+same_sizes test [] [] other = absurd (other refl)
+same_sizes test [] (y ∷ ys) other = refl
+same_sizes test (x ∷ xs) [] other = refl
+same_sizes test (x ∷ xs) (y ∷ ys) other =
+    ap (λ b. test x y && b) (same_sizes test xs ys (λ e. other (ap suc e))) ∙ and_false (test x y)
+  where
+    and_false : (b : Bool) → (b && false) ≡ false
+    and_false true = refl
+    and_false false = refl
 
-range_end : (i n : ℕ) → n ≤ i → range_with_len i (n - i) ≡ []
-range_end i n le = let none : n - i ≡ 0 = omega arith in ap (range_with_len i) none
+module _ {X : Type 0} (test : X → X → Bool) (xs ys : List X) where
+  both : (i : ℕ) (d e : X) → i < length xs → i < length ys
+      → are_same test (drop i xs) (drop i ys) ≡ (test (get_or xs i d) (get_or ys i e) && are_same test (drop (i + 1) xs) (drop (i + 1) ys))
+  both i d e low less =
+      ap (λ (zs : List X). are_same test zs (drop i ys)) (drop_next xs i d low)
+      ∙ ap (are_same test (get_or xs i d ∷ drop (i + 1) xs)) (drop_next ys i e less)
 
-pub each_go_on : (test : ℕ → Bool) (n i : ℕ) (total : Bool) → i < n → test i ≡ true
-    → list_all test (range_with_len i (n - i)) ≡ total → list_all test (range_with_len (i + 1) (n - (i + 1))) ≡ total
-each_go_on test n i total lt passes so_far =
-    sym (ap (λ b. b && list_all test (range_with_len (i + 1) (n - (i + 1)))) passes) ∙ sym (ap (list_all test) (range_next i n lt)) ∙ so_far
+  -- two elements that are the same
+  pub same_go_on : (i : ℕ) (d e : X) (total : Bool) → i < length xs → i < length ys → test (get_or xs i d) (get_or ys i e) ≡ true
+      → are_same test (drop i xs) (drop i ys) ≡ total → are_same test (drop (i + 1) xs) (drop (i + 1) ys) ≡ total
+  same_go_on i d e total low less one so_far =
+      sym (ap (λ b. b && are_same test (drop (i + 1) xs) (drop (i + 1) ys)) one) ∙ sym (both i d e low less) ∙ so_far
 
-pub each_fail : (test : ℕ → Bool) (n i : ℕ) (total : Bool) → i < n → test i ≡ false
-    → list_all test (range_with_len i (n - i)) ≡ total → false ≡ total
-each_fail test n i total lt fails so_far =
-    sym (ap (λ b. b && list_all test (range_with_len (i + 1) (n - (i + 1)))) fails) ∙ sym (ap (list_all test) (range_next i n lt)) ∙ so_far
+  -- two that aren't
+  pub same_fail : (i : ℕ) (d e : X) (total : Bool) → i < length xs → i < length ys → test (get_or xs i d) (get_or ys i e) ≡ false
+      → are_same test (drop i xs) (drop i ys) ≡ total → false ≡ total
+  same_fail i d e total low less other so_far =
+      sym (ap (λ b. b && are_same test (drop (i + 1) xs) (drop (i + 1) ys)) other) ∙ sym (both i d e low less) ∙ so_far
 
-pub each_end : (test : ℕ → Bool) (n i : ℕ) (total : Bool) → n ≤ i → list_all test (range_with_len i (n - i)) ≡ total → true ≡ total
-each_end test n i total le so_far = sym (ap (list_all test) (range_end i n le)) ∙ so_far
-
--- ---- the places of a lane
-
-nothing_same : (ps : List Place) → are_same is_same_place [] ps ≡ (length ps == 0)
-nothing_same [] = refl
-nothing_same (p ∷ ps) = grind arith
-
-module _ (lane : ℕ) (marks : List Mark) (expected : List Place) where
-  -- the same places, from these on
-  abbrev pub same_from : ℕ → ℕ → Bool
-  same_from i next = are_same is_same_place (own_places lane (places (drop i marks))) (drop next expected)
-
-  own_next : (i : ℕ) (d : Mark) (b : Bool) → i < length marks → ((get_or marks i d).place.lane == lane) ≡ b
-      → own_places lane (places (drop i marks)) ≡ cond b ((get_or marks i d).place ∷ own_places lane (places (drop (i + 1) marks))) (own_places lane (places (drop (i + 1) marks)))
-  own_next i d b lt is =
-      let rest = own_places lane (places (drop (i + 1) marks)) in
-      ap (λ (ms : List Mark). own_places lane (places ms)) (drop_next marks i d lt)
-      ∙ ap (λ t. cond t ((get_or marks i d).place ∷ rest) rest) is
-
-  -- a place of another lane
-  pub lane_passes : (i next : ℕ) (d : Mark) (total : Bool) → i < length marks → ((get_or marks i d).place.lane == lane) ≡ false
-      → same_from i next ≡ total → same_from (i + 1) next ≡ total
-  lane_passes i next d total lt other so_far =
-      sym (ap (λ (ps : List Place). are_same is_same_place ps (drop next expected)) (own_next i d false lt other)) ∙ so_far
-
-  mine : (i next : ℕ) (d : Mark) (e : Place) → i < length marks → next < length expected → ((get_or marks i d).place.lane == lane) ≡ true
-      → same_from i next ≡ (is_same_place (get_or marks i d).place (get_or expected next e) && same_from (i + 1) (next + 1))
-  mine i next d e lt low own =
-      ap (λ (ps : List Place). are_same is_same_place ps (drop next expected)) (own_next i d true lt own)
-      ∙ ap (are_same is_same_place ((get_or marks i d).place ∷ own_places lane (places (drop (i + 1) marks)))) (drop_next expected next e low)
-
-  -- one of the lane, that is expected
-  pub lane_goes_on : (i next : ℕ) (d : Mark) (e : Place) (total : Bool) → i < length marks → next < length expected → ((get_or marks i d).place.lane == lane) ≡ true
-      → is_same_place (get_or marks i d).place (get_or expected next e) ≡ true → same_from i next ≡ total → same_from (i + 1) (next + 1) ≡ total
-  lane_goes_on i next d e total lt low own same so_far =
-      sym (ap (λ b. b && same_from (i + 1) (next + 1)) same) ∙ sym (mine i next d e lt low own) ∙ so_far
-
-  -- one that isn't
-  pub lane_fails : (i next : ℕ) (d : Mark) (e : Place) (total : Bool) → i < length marks → next < length expected → ((get_or marks i d).place.lane == lane) ≡ true
-      → is_same_place (get_or marks i d).place (get_or expected next e) ≡ false → same_from i next ≡ total → false ≡ total
-  lane_fails i next d e total lt low own other so_far =
-      sym (ap (λ b. b && same_from (i + 1) (next + 1)) other) ∙ sym (mine i next d e lt low own) ∙ so_far
-
-  -- one, where none is expected any more
-  pub lane_full : (i next : ℕ) (d : Mark) (total : Bool) → i < length marks → next ≡ length expected → ((get_or marks i d).place.lane == lane) ≡ true
-      → same_from i next ≡ total → false ≡ total
-  lane_full i next d total lt end own so_far =
-      sym (ap (λ (ps : List Place). are_same is_same_place ps (drop next expected)) (own_next i d true lt own)
-      ∙ ap (are_same is_same_place ((get_or marks i d).place ∷ own_places lane (places (drop (i + 1) marks)))) (drop_all next expected (omega arith)))
-      ∙ so_far
-
-  none_or_more : (next : ℕ) → next ≤ length expected → are_same is_same_place [] (drop next expected) ≡ (next == length expected)
-  none_or_more next le =
-      let left = drop next expected in
-      let size : length left ≡ length expected - next = length-drop next expected in
-      nothing_same left
-      ∙ same_truth (length left == 0) (next == length expected)
-      (λ e. let none : length left ≡ 0 = eqb-true (length left) 0 e in eq-eqb next (length expected) (omega arith))
-      (λ e. let end : next ≡ length expected = eqb-true next (length expected) e in eq-eqb (length left) 0 (omega arith))
-
-  -- no place is left
-  pub lane_ends : (i next : ℕ) (total : Bool) → length marks ≤ i → next ≤ length expected → same_from i next ≡ total → (next == length expected) ≡ total
-  lane_ends i next total le within so_far =
-      sym (none_or_more next within)
-      ∙ sym (ap (λ (ms : List Mark). are_same is_same_place (own_places lane (places ms)) (drop next expected)) (drop_all i marks le))
-      ∙ so_far
+  -- none is left
+  pub same_end : (i : ℕ) (total : Bool) → length xs ≤ i → length ys ≤ i → are_same test (drop i xs) (drop i ys) ≡ total → true ≡ total
+  same_end i total le most so_far =
+      sym (ap (λ (zs : List X). are_same test zs (drop i ys)) (drop_all i xs le) ∙ ap (are_same test []) (drop_all i ys most)) ∙ so_far
 
 -- ---- places that follow one another
 

@@ -14,6 +14,8 @@ items_asked (calls.Seal context item) = Some (context, 1)
 items_asked (calls.Unseal context item) = Some (context, 1)
 items_asked (calls.UnsealAll context first count) = Some (context, count)
 items_asked (calls.Export context exporter size) = None
+items_asked (calls.Add name) = None
+items_asked (calls.Retire name) = None
 
 -- a call that is refused asks nothing
 abbrev pub asked_unless : Option CallRefusal → Option (ℕ × ℕ) → Option (ℕ × ℕ)
@@ -42,6 +44,8 @@ opens_more (calls.Seal context item) i = false
 opens_more (calls.Unseal context item) i = false
 opens_more (calls.UnsealAll context first count) i = nat_lt (i + 1) count
 opens_more (calls.Export context exporter size) i = false
+opens_more (calls.Add name) i = false
+opens_more (calls.Retire name) i = false
 
 abbrev pub more_unless : Option CallRefusal → Bool → Bool
 more_unless None more = more

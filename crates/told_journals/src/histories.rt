@@ -2,16 +2,18 @@
 
 ghost use Rattle.std.specs.Prelude.{◌≡◌, ◌<◌, ◌^◌, ◌+◌, length, map, IfOk, OnOk};
 ghost use Rattle.std.specs.List.{list_all, range_with_len};
-ghost use Rattle.legal_journals.specs.Histories.{all_stamps, own_spots, stamped_on, journals_of};
-ghost use Rattle.legal_journals.specs.Checks.{are_same, is_same_spot, is_same_mark};
+ghost use Rattle.legal_journals.specs.Histories.{all_stamps, journals_of};
+ghost use Rattle.legal_journals.specs.Checks.{are_same, is_same_mark};
 ghost use Rattle.legal_journals.specs.Checks.{is_history as is_history_of, is_legal_history};
 ghost use Rattle.legal_journals.specs.Checks.{has_lane_spots};
 ghost use Rattle.batch_plans.specs.Limits.{IsWithinLimits};
 ghost use Rattle.due_replies.specs.Asks.{batch_of};
 ghost use Rattle.told_journals.specs.Histories.{Puts, PutsAll, is_within};
 
-use crate::journals::{is_same, is_unbroken};
-use crate::spots::{Spot, spots_on};
+use crate::dealing::{lanes_asked, lanes_in, marks_of};
+use crate::journals::is_unbroken;
+use crate::same::{are_journals, are_lanes};
+use crate::spots::Spot;
 use batch_plans::{PlainList, Plan};
 use call_places::{Mark, Place};
 use hpke_context::Context;
@@ -65,59 +67,17 @@ fn put_journals(history: &mut [Spot], journals: &[PlainList<Mark>])
     }
 }
 
-fn is_same_spot_as(s: &Spot, t: &Spot) -> bool
-    ensures { result ≡ is_same_spot s.now t.now }
+// Whether each journal has the places of its context, each with its index as its stamp.
+fn has_journals(
+    alloc: Global,
+    history: &[Spot],
+    journals: &[PlainList<Mark>],
+) -> Result<bool, AllocError>
+    ensures { IfOk result (λ good. good ≡ are_same (are_same is_same_mark) journals.now
+        (journals_of (length journals.now) history.now)) }
 {
-    s.context() == t.context() && is_same(s.place(), t.place())
-}
-
-// Whether the places of a lane are these, in order.
-fn has_lane(history: &[Spot], lane: u32, expected: &[Spot]) -> bool
-    ensures { result ≡ are_same is_same_spot (own_spots lane history.now) expected.now }
-{
-    let mut next = 0;
-    'history: for spot in history {
-        if spot.place().lane == lane {
-            if next == expected.len() || !is_same_spot_as(spot, &expected[next]) {
-                return false;
-            }
-            next += 1;
-        }
-    }
-    next == expected.len()
-}
-
-// Whether a journal has the places of its context, each with its index as its stamp.
-fn has_journal(history: &[Spot], context: u32, marks: &[Mark]) -> bool
-    ensures { result ≡ are_same is_same_mark marks.now (stamped_on context 0 history.now) }
-{
-    let mut next = 0;
-    'history: for (stamp, spot) in history.iter().enumerate() {
-        if spot.context() == context {
-            if next == marks.len() {
-                return false;
-            }
-            if !is_same(marks[next].place, spot.place()) || marks[next].stamp != stamp as u64 {
-                return false;
-            }
-            next += 1;
-        }
-    }
-    next == marks.len()
-}
-
-// Whether each journal has the places of its context.
-fn has_journals(history: &[Spot], journals: &[PlainList<Mark>]) -> bool
-    requires { length journals.now < 2 ^ 32 }
-    ensures { result ≡ are_same (are_same is_same_mark) journals.now
-        (journals_of (length journals.now) history.now) }
-{
-    'journals: for (context, marks) in journals.iter().enumerate() {
-        if !has_journal(history, context as u32, marks.as_slice()) {
-            return false;
-        }
-    }
-    true
+    let given = marks_of(alloc, history, journals.len())?;
+    Ok(are_journals(journals, &given))
 }
 
 // Whether each lane has the places that it asks for, in order.
@@ -132,14 +92,9 @@ fn has_lanes(
         ≡ list_all (has_lane_spots (batch_of plan.now contexts.now) history.now)
         (range_with_len 0 (length plan.now.lanes))) }
 {
-    let lanes = plan.lanes.as_slice();
-    'lanes: for lane in 0..lanes.len() {
-        let expected = spots_on(alloc, contexts, lane as u32, lanes[lane].as_slice())?;
-        if !has_lane(history, lane as u32, &expected) {
-            return Ok(false);
-        }
-    }
-    Ok(true)
+    let asked = lanes_asked(alloc, plan, contexts)?;
+    let told = lanes_in(alloc, history, plan.lanes.as_slice().len())?;
+    Ok(are_lanes(&told, &asked))
 }
 
 // Whether each place is on one of so many contexts, and of one of so many lanes.
@@ -202,7 +157,8 @@ fn judge(
         ≡ is_legal_history (batch_of plan.now contexts.now) journals.now) }
 {
     put_journals(history, journals);
-    if !has_journals(history, journals) {
+    let given = has_journals(alloc, history, journals)?;
+    if !given {
         return Ok(false);
     }
     is_history(alloc, plan, contexts, journals.len(), history)

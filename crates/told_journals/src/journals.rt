@@ -1,48 +1,28 @@
 //! Journals by themselves.
 
-ghost use Rattle.std.specs.Prelude.{◌≡◌, ◌<◌, ◌^◌, ◌&&◌, ◌||◌, ◌+◌, ◌==◌, not, nat_lt, length, map, IfOk};
+ghost use Rattle.std.specs.Prelude.{ℕ, ◌≡◌, ◌<◌, ◌^◌, ◌&&◌, ◌||◌, ◌+◌, ◌==◌, not, nat_lt, [], length, map};
+ghost use Rattle.std.specs.Prelude.{slice_index_or, IfOk};
 ghost use Rattle.std.specs.List.{list_all};
 ghost use Rattle.batch_plans.specs.Limits.{IsWithinLimits};
-ghost use Rattle.legal_journals.specs.Batches.{own_places};
-ghost use Rattle.legal_journals.specs.Batches.{place as place_of};
+ghost use Rattle.legal_journals.specs.Batches.{Batch, place as place_of};
 ghost use Rattle.legal_journals.specs.Legal.{is_same_place};
-ghost use Rattle.legal_journals.specs.Histories.{places as places_in};
-ghost use Rattle.legal_journals.specs.Checks.{are_same, has_lanes as has_lanes_of};
+ghost use Rattle.legal_journals.specs.Histories.{places as places_in, marks_at};
+ghost use Rattle.legal_journals.specs.Checks.{has_lanes as has_lanes_of};
 ghost use Rattle.legal_journals.specs.Checks.{is_unbroken as is_unbroken_of, is_legal as is_legal_of};
 ghost use Rattle.due_replies.specs.Asks.{batch_of};
 ghost use Rattle.result_verdicts.specs.Journals.{stamps_rise as stamps_rise_of};
 ghost use Rattle.result_verdicts.specs.Journals.{is_journal as is_journal_of};
 ghost use Rattle.result_verdicts.specs.Journals.{broken_journal as broken_journal_of};
+ghost use Rattle.told_journals.specs.Piles.{in_lanes, asked_on};
 
-use crate::asks::{goes_on, places_on};
+use crate::asks::goes_on;
+use crate::dealing::{places_asked, places_told};
+use crate::piles::Pile;
+use crate::same::{are_places, is_same};
 use batch_plans::{PlainList, Plan};
 use call_places::{Mark, Place};
 use hpke_context::Context;
 use std::alloc::{AllocError, Global};
-
-/// Whether two places are the same.
-pub(crate) fn is_same(p: Place, q: Place) -> bool
-    ensures { result ≡ is_same_place p q }
-{
-    p.lane == q.lane && p.call == q.call && p.item == q.item
-}
-
-// Whether the places of a lane are these, in order.
-fn has_lane(marks: &[Mark], lane: u32, expected: &[Place]) -> bool
-    ensures { result
-        ≡ are_same is_same_place (own_places lane (places_in marks.now)) expected.now }
-{
-    let mut next = 0;
-    'marks: for mark in marks {
-        if mark.place.lane == lane {
-            if next == expected.len() || !is_same(mark.place, expected[next]) {
-                return false;
-            }
-            next += 1;
-        }
-    }
-    next == expected.len()
-}
 
 // Whether each place is of one of so many lanes.
 fn are_of_lanes(marks: &[Mark], lanes: usize) -> bool
@@ -57,35 +37,14 @@ fn are_of_lanes(marks: &[Mark], lanes: usize) -> bool
 }
 
 // Whether no place is of a lane that isn't there, and each lane's places are those that it asks for
-// on the context, in order.
-fn has_lanes(
-    alloc: Global,
-    plan: &Plan,
-    contexts: &[Option<Context>],
-    context: u32,
-    marks: &[Mark],
-) -> Result<bool, AllocError>
-    requires { IsWithinLimits plan.now }
-    ensures { IfOk result (λ good. good
-        ≡ has_lanes_of (batch_of plan.now contexts.now) context (places_in marks.now)) }
+// on the context, in order: lane by lane, the journal's places are those that are asked for.
+fn has_lanes(marks: &[Mark], lanes: usize, told: &[Place], asked: &[Place]) -> bool
+    requires { told.now ≡ in_lanes lanes (places_in marks.now) }
+    ensures { (batch : Batch) (context : ℕ) → length batch ≡ lanes
+        → asked.now ≡ asked_on batch context
+        → result ≡ has_lanes_of batch context (places_in marks.now) }
 {
-    let lanes = plan.lanes.as_slice();
-    if !are_of_lanes(marks, lanes.len()) {
-        return Ok(false);
-    }
-    'lanes: for lane in 0..lanes.len() {
-        let expected = places_on(
-            alloc,
-            contexts,
-            context,
-            lane as u32,
-            lanes[lane].as_slice(),
-        )?;
-        if !has_lane(marks, lane as u32, &expected) {
-            return Ok(false);
-        }
-    }
-    Ok(true)
+    are_of_lanes(marks, lanes) && are_places(told, asked)
 }
 
 // Whether a place is that of the next item.
@@ -116,18 +75,22 @@ fn places_of(alloc: Global, marks: &[Mark]) -> Result<Vec<Place>, AllocError>
     marks.iter().map(|mark| mark.place).collect(alloc)
 }
 
+// Whether a journal is legal, by its places and those that are asked for, lane by lane.
 fn is_legal(
     alloc: Global,
     plan: &Plan,
     contexts: &[Option<Context>],
-    context: u32,
     marks: &[Mark],
+    told: &[Place],
+    asked: &[Place],
 ) -> Result<bool, AllocError>
-    requires { IsWithinLimits plan.now }
-    ensures { IfOk result (λ good. good
-        ≡ is_legal_of (batch_of plan.now contexts.now) context (places_in marks.now)) }
+    requires within { IsWithinLimits plan.now }
+    requires told { told.now ≡ in_lanes (length plan.now.lanes) (places_in marks.now) }
+    ensures { IfOk result (λ good. (context : ℕ)
+        → asked.now ≡ asked_on (batch_of plan.now contexts.now) context
+        → good ≡ is_legal_of (batch_of plan.now contexts.now) context (places_in marks.now)) }
 {
-    if !has_lanes(alloc, plan, contexts, context, marks)? {
+    if !has_lanes(marks, plan.lanes.as_slice().len(), told, asked) {
         return Ok(false);
     }
     let places = places_of(alloc, marks)?;
@@ -146,21 +109,56 @@ fn stamps_rise(marks: &[Mark]) -> bool
     true
 }
 
-// Whether the journal of a context is legal, and its stamps rise where there are stamps.
+// Whether a journal is legal, and its stamps rise where there are stamps.
 fn is_journal(
     alloc: Global,
     plan: &Plan,
     contexts: &[Option<Context>],
     stamps: bool,
-    context: u32,
     marks: &[Mark],
+    told: &[Place],
+    asked: &[Place],
 ) -> Result<bool, AllocError>
-    requires { IsWithinLimits plan.now }
-    ensures { IfOk result (λ good. good
-        ≡ is_journal_of stamps (batch_of plan.now contexts.now) context marks.now) }
+    requires within { IsWithinLimits plan.now }
+    requires told { told.now ≡ in_lanes (length plan.now.lanes) (places_in marks.now) }
+    ensures { IfOk result (λ good. (context : ℕ)
+        → asked.now ≡ asked_on (batch_of plan.now contexts.now) context
+        → good ≡ is_journal_of stamps (batch_of plan.now contexts.now) context marks.now) }
 {
-    let legal = is_legal(alloc, plan, contexts, context, marks)?;
+    let legal = is_legal(alloc, plan, contexts, marks, told, asked)?;
     Ok(legal && (!stamps || stamps_rise(marks)))
+}
+
+// The first context whose journal is not, by the places of each, lane by lane.
+fn first_broken(
+    alloc: Global,
+    plan: &Plan,
+    contexts: &[Option<Context>],
+    stamps: bool,
+    journals: &[PlainList<Mark>],
+    told: &[Pile<Place>],
+    asked: &[Pile<Place>],
+) -> Result<Option<u32>, AllocError>
+    requires within { IsWithinLimits plan.now }
+    requires few { length journals.now < 2 ^ 32 }
+    requires told_size { length told.now ≡ length journals.now }
+    requires told { (c : ℕ) → c < length journals.now → slice_index_or told.now c []
+        ≡ in_lanes (length plan.now.lanes) (places_in (marks_at journals.now c)) }
+    requires asked_size { length asked.now ≡ length journals.now }
+    requires asked { (c : ℕ) → c < length journals.now
+        → slice_index_or asked.now c [] ≡ asked_on (batch_of plan.now contexts.now) c }
+    ensures { IfOk result (λ broken. broken
+        ≡ broken_journal_of stamps (batch_of plan.now contexts.now) 0 journals.now) }
+{
+    'journals: for (number, marks) in journals.iter().enumerate() {
+        let places = told[number].as_slice();
+        let due = asked[number].as_slice();
+        let legal = is_journal(alloc, plan, contexts, stamps, marks.as_slice(), places, due)?;
+        if !legal {
+            return Ok(Some(number as u32));
+        }
+    }
+    Ok(None)
 }
 
 /// The first context whose journal is not legal, or has stamps that don't rise.
@@ -176,11 +174,7 @@ pub fn broken_journal(
     ensures { IfOk result (λ broken. broken
         ≡ broken_journal_of stamps (batch_of plan.now contexts.now) 0 journals.now) }
 {
-    'journals: for (number, marks) in journals.iter().enumerate() {
-        let context = number as u32;
-        if !is_journal(alloc, plan, contexts, stamps, context, marks.as_slice())? {
-            return Ok(Some(context));
-        }
-    }
-    Ok(None)
+    let asked = places_asked(alloc, plan, contexts, journals.len())?;
+    let told = places_told(alloc, plan.lanes.as_slice().len(), journals)?;
+    first_broken(alloc, plan, contexts, stamps, journals, &told, &asked)
 }

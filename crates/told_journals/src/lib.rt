@@ -5,13 +5,17 @@
 //! definitions, which compute what the laws of legal_journals say. They need the calls of the plan
 //! and the contexts that stand, and no ciphers. [`asked_of`] tells what a call asks.
 //!
-//! A lane is walked once for each context, and a journal once for each lane; stamps are put in order
-//! by their numbers.
+//! Each place is dealt a fixed number of times, to the pile of its context or of its lane, and stamps
+//! are put in order by their numbers: the time is linear in the calls, the places, the contexts and
+//! the lanes.
 #![tactic(auto)]
 
 mod asks;
+mod dealing;
 mod histories;
 mod journals;
+mod piles;
+mod same;
 mod spots;
 
 pub use asks::asked_of;

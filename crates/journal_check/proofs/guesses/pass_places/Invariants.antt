@@ -7,10 +7,10 @@ use Rattle.journal_check.proofs.guesses.pass_places.Given as goal
 
 abbrev pub invariant-places : goal.invariant-places
 invariant-places l = record {
-  left : (ps more : List Place) → length ps ≡ l.count → own_places l.lane (places (drop l.initial.cursor l.marks)) ≡ ps ++ more
-      → own_places l.lane (places (drop l.cursor l.marks)) ≡ drop l._place ps ++ more;
-  found : (f : Place → ℕ) (ps more : List Place) → l.numbers ≡ map f (places l.marks) → length ps ≡ l.count
-      → own_places l.lane (places (drop l.initial.cursor l.marks)) ≡ ps ++ more
+  left : (ps more : List Place) → length ps ≡ l.count → own_places l.lane (places (drop l.initial.cursor l.journal)) ≡ ps ++ more
+      → own_places l.lane (places (drop l.cursor l.journal)) ≡ drop l._place ps ++ more;
+  found : (f : Place → ℕ) (ps more : List Place) → l.numbers ≡ map f (places l.journal) → length ps ≡ l.count
+      → own_places l.lane (places (drop l.initial.cursor l.journal)) ≡ ps ++ more
       → map f ps ≡ l.found.items ++ map f (drop l._place ps);
-  reach : Reaches l.lane l.marks l.initial.cursor → Reaches l.lane l.marks l.cursor;
+  reach : Reaches l.lane l.journal l.initial.cursor → Reaches l.lane l.journal l.cursor;
 }

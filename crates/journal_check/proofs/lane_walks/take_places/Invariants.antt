@@ -7,9 +7,9 @@ use Rattle.journal_check.proofs.lane_walks.take_places.Given as goal
 
 abbrev pub invariant-places : goal.invariant-places
 invariant-places l = record {
-  left : (ps more : List Place) → length ps ≡ l.count → own_places l.lane (places (drop l.initial.cursor l.marks)) ≡ ps ++ more
-      → own_places l.lane (places (drop l.cursor l.marks)) ≡ drop l._place ps ++ more;
-  held : (f : Place → List ℕ) (ps more : List Place) (rest : List (List ℕ)) → l.lines ≡ map f (places l.marks) → length ps ≡ l.count
-      → own_places l.lane (places (drop l.initial.cursor l.marks)) ≡ ps ++ more
+  left : (ps more : List Place) → length ps ≡ l.count → own_places l.lane (places (drop l.initial.cursor l.journal)) ≡ ps ++ more
+      → own_places l.lane (places (drop l.cursor l.journal)) ≡ drop l._place ps ++ more;
+  held : (f : Place → List ℕ) (ps more : List Place) (rest : List (List ℕ)) → l.lines ≡ map f (places l.journal) → length ps ≡ l.count
+      → own_places l.lane (places (drop l.initial.cursor l.journal)) ≡ ps ++ more
       → wrong_reply l.initial.replies (map f ps ++ rest) ≡ wrong_reply l.replies (map f (drop l._place ps) ++ rest);
 }

@@ -1,7 +1,0 @@
-use Rattle.std.proofs.Common.{◌≡◌, drop}
-use Rattle.legal_journals.specs.Batches.{own_places}
-use Rattle.legal_journals.specs.Histories.{places}
-use Rattle.journal_check.proofs.lane_walks.next_own.Given as goal
-
-abbrev pub invariant-marks : goal.invariant-marks
-invariant-marks l = own_places l.lane (places (drop l.at l.marks)) ≡ own_places l.lane (places (drop l.from l.marks))

@@ -1,9 +1,0 @@
-use Rattle.std.proofs.Common.{◌≡◌, drop}
-use Rattle.due_replies.specs.Asks.{batch_of}
-use Rattle.result_verdicts.specs.Journals.{broken_journal}
-use Rattle.told_journals.proofs.journals.broken_journal.Given as goal
-
-abbrev pub invariant-journals : goal.invariant-journals
-invariant-journals l =
-    broken_journal l.stamps (batch_of l.plan l.contexts) l.number (drop l.number l.journals)
-    ≡ broken_journal l.stamps (batch_of l.plan l.contexts) 0 l.journals
