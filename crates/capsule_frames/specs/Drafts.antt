@@ -15,6 +15,7 @@ plan_of d =
         contexts = [];
         items = [];
         lanes = [];
+        added = 0;
       };
       lines = d.lines.items;
     }

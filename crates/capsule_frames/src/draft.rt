@@ -147,6 +147,7 @@ impl CapsuleDraft {
                 contexts: PlainList::from_vec(Vec::new(alloc)),
                 items: PlainList::from_vec(Vec::new(alloc)),
                 lanes: PlainList::from_vec(Vec::new(alloc)),
+                added: 0,
             },
             lines: PlainList::from_vec(lines),
         }

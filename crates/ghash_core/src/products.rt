@@ -1,4 +1,5 @@
-//! The product with a fixed element, four bits at a time.
+//! The product with a fixed element, four bits at a time. The plain form is `field_mul`: a step for
+//! each of the 128 bits of a block.
 //!
 //! Row j holds the products of h with the sixteen blocks that are zero but for their bits 4 j to
 //! 4 j + 3. The product is linear, so the product of any block with h is the sum of one entry of

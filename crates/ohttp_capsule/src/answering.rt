@@ -1,7 +1,7 @@
 //! The gateway's answer to a request (RFC 9458, 4.3 and 4.4).
 
 ghost use Rattle.std.specs.Prelude.{◌≡◌, ◌≢◌, ◌↔◌, ◌+◌, ◌-◌, ◌^◌, ◌≤◌, List, ℕ, length, nat_lt, IfOk};
-ghost use Rattle.hpke_context.specs.Contexts.{CanOpen};
+ghost use Rattle.hpke_context.specs.Contexts.{HasCipher};
 ghost use Rattle.ohttp_capsule.specs.declared.asking.Asked.{Asked};
 ghost use Rattle.ohttp_capsule.specs.Requests.{least_request};
 ghost use Rattle.ohttp_capsule.specs.Responses.{entropy_size};
@@ -52,23 +52,22 @@ fn suite_for<S: KemParams>(id: u8, request: &[u8], nonce: &[u8]) -> Result<Suite
 fn answer_in<R: Threads + Sync>(
     rt: &R,
     alloc: Global,
-    context: Context,
+    context: &Context,
     enc: &[u8],
     ct: &[u8],
     nonce: &[u8],
     text: &[u8],
 ) -> Result<(ByteList, ByteList), CapsuleFault>
-    requires can { CanOpen context }
-    requires limit { context.limit ≡ 1 }
+    requires cipher { HasCipher context.now }
     requires ct { length ct.now ≤ 2 ^ 36 - 16 }
     requires text { length text.now ≤ 2 ^ 20 }
     ensures answered { result ≢ Err CapsuleFault.OutOfMemory
-        → result ≡ answered_in context enc.now ct.now nonce.now text.now }
+        → result ≡ answered_in context.now enc.now ct.now nonce.now text.now }
     ensures size { IfOk result (λ a. length a.1 ≡ length nonce.now + (length text.now + 16)) }
 {
-    let opened = opened_first(alloc, context, ct, &mut Checks::new(rt))?;
-    let response = sealed_response(alloc, &opened.context, enc, nonce, text)?;
-    Ok((opened.message, response))
+    let question = opened_first(alloc, context, ct, &mut Checks::new(rt))?;
+    let response = sealed_response(alloc, context, enc, nonce, text)?;
+    Ok((question, response))
 }
 
 /// Decapsulates a request to the key of this identifier, and encapsulates the response with this
@@ -112,6 +111,6 @@ pub fn answer<R: Threads + Sync, S: KemParams, M: Multiplier>(
     let suite = suite_for::<S>(id, request, nonce)?;
     let (enc, ct) = request[HEADER_SIZE..].split_at(S::ENC);
     let shared_secret = decap(alloc, mult, enc, secret)?;
-    let context = context_of(Role::Recipient, id, suite, &shared_secret);
-    answer_in(rt, alloc, context, enc, ct, nonce, text)
+    let context = context_of(alloc, Role::Recipient, id, suite, &shared_secret)?;
+    answer_in(rt, alloc, context.as_context(), enc, ct, nonce, text)
 }

@@ -10,10 +10,10 @@ ghost use Rattle.ohttp_capsule.specs.Laws.{Asks};
 
 use crate::firsts::sealed_first;
 use crate::headers::header;
+use crate::kept::KeptContext;
 use crate::setups::context_of;
 use crate::strings::{copied, joined_three};
 use hkdf_labelled::{Aead, Kdf, Suite};
-use hpke_context::Context;
 use key_schedule::Role;
 use radix_pack::ByteList;
 use rand_words::Words;
@@ -25,7 +25,7 @@ use std::alloc::{AllocError as OutOfMemory, Global};
 /// What a client keeps of a request that it made: the context, and enc, the KEM's encapsulation.
 #[derive(Drop)]
 pub struct Asked {
-    pub context: Context,
+    pub context: KeptContext,
     pub enc: ByteList,
 }
 
@@ -67,16 +67,11 @@ pub fn ask<S: KemParams, R: Words, M: Multiplier>(
         aead,
     };
     let (enc, shared_secret) = encap(alloc, words, mult, public)?;
-    let context = context_of(Role::Sender, id, suite, &shared_secret);
-    let sealed = sealed_first(alloc, context, text)?;
-    let request = joined_three(
-        alloc,
-        &header(id, &suite),
-        enc.as_slice(),
-        sealed.message.as_slice(),
-    )?;
+    let context = context_of(alloc, Role::Sender, id, suite, &shared_secret)?;
+    let ct = sealed_first(alloc, context.as_context(), text)?;
+    let request = joined_three(alloc, &header(id, &suite), enc.as_slice(), ct.as_slice())?;
     let asked = Asked {
-        context: sealed.context,
+        context,
         enc: copied(alloc, enc.as_slice())?,
     };
     Ok((asked, request))

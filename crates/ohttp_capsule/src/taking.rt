@@ -35,11 +35,12 @@ pub fn take<R: Threads + Sync>(
     ensures header { result ≢ Err CapsuleFault.Header }
     ensures nonce_size { result ≢ Err CapsuleFault.NonceSize }
 {
-    let size = entropy_size(asked.context.suite().aead);
+    let context = asked.context.as_context();
+    let size = entropy_size(context.suite().aead);
     if response.len() < size + TAG_SIZE {
         return Err(CapsuleFault::Short);
     }
     let (nonce, ct) = response.split_at(size);
-    let key = response_key(alloc, &asked.context, asked.enc.as_slice(), nonce)?;
+    let key = response_key(alloc, context, asked.enc.as_slice(), nonce)?;
     opened_response(alloc, &key, ct, &mut Checks::new(rt))
 }

@@ -75,7 +75,7 @@ fn taken<R: Abort + Threads + Sync>(
     response: &[u8],
 ) -> Result<ByteList, CapsuleFault> {
     assert!(rt; response.len() <= 1_048_624, "the limit of a response");
-    assert!(rt; asked.context.cipher().is_some(), "a cipher");
+    assert!(rt; asked.context.as_context().cipher().is_some(), "a cipher");
     assert!(rt;
         asked.enc.as_slice().len() <= 1_184,
         "the limit of an encapsulation"
@@ -272,15 +272,13 @@ fn the_exchange_of_the_rfc_is_read(rt: HostRuntime) -> Result<(), Fail> {
     };
     assert_eq!(rt; &header(1, &suite)[..], &request[..7]);
     assert_eq!(rt; suite_named(1, 0x0020, &request[..7]), Some(suite));
-    let gateway = context_of(Role::Recipient, 1, suite, &shared_secret);
-    let opened = opened_first(alloc, gateway, &request[39..], &mut Checks::new(&rt));
+    let gateway = context_of(alloc, Role::Recipient, 1, suite, &shared_secret)?;
+    let mut checks = Checks::new(&rt);
+    let opened = opened_first(alloc, gateway.as_context(), &request[39..], &mut checks);
     let question = <[u8; 25]>::from_hex("00034745540568747470730b6578616d706c652e636f6d012f")?;
-    assert_eq!(rt;
-        opened.expect(&rt, "a request").message.as_slice(),
-        &question[..]
-    );
+    assert_eq!(rt; opened.expect(&rt, "a request").as_slice(), &question[..]);
     let asked = Asked {
-        context: context_of(Role::Sender, 1, suite, &shared_secret),
+        context: context_of(alloc, Role::Sender, 1, suite, &shared_secret)?,
         enc: ByteList::from_vec(Vec::from_slice(alloc, &request[7..39])?),
     };
     let reply = taken(&rt, alloc, &asked, &response).expect(&rt, "a response");

@@ -1,7 +1,7 @@
 use Rattle.std.proofs.Common.{◌≡◌, ◌-◌, Err, length, take, drop, sym, ap, ◌∙◌, arith, rules, length-drop}
 use Rattle.std.proofs.lemmas.List.{take_all}
 use Rattle.sntrup_kem.specs.Sizes.{enc_size}
-use Rattle.hpke_context.specs.Contexts.{ContextView, CanOpen, encrypts}
+use Rattle.hpke_context.specs.Contexts.{ContextView, HasCipher, encrypts}
 use Rattle.ohttp_capsule.specs.declared.faults.CapsuleFault.TheVariants.{OutOfMemory}
 use Rattle.ohttp_capsule.proofs.Telling.{told_refusal, told_memory, told_answer, ready_by, tells}
 use Rattle.ohttp_capsule.proofs.answering.answer.Goals as goal
@@ -51,6 +51,28 @@ returns-in_err-shared_secret g c =
       exchange = k.exchange;
     }
 
+pub returns-in_err-context : goal.returns-in_err-context
+returns-in_err-context g c =
+    let set = g.S.Params.set in
+    let kem = g.S.KemParams.ID in
+    let sk = c.args.secret.now in
+    let request = c.args.request.now in
+    let r = c.from_residual-in_err-context.result in
+    let is : r ≡ Err OutOfMemory = search rules in
+    let told = told_memory set kem sk c.args.id request c.args.nonce.now c.args.text.now r
+    c.in_ok-suite.suite (sym c.suite_for.ensures ∙ c.in_ok-suite.was) is in
+    let k = tells set kem sk c.args.id request c.args.nonce.now c.args.text.now r
+    c.both_ends_agree.ensures.agreement told in
+    record {
+      answered = k.answered_is;
+      short = k.short;
+      header = k.header;
+      nonce_size = k.nonce_size;
+      failed = k.failed;
+      size = search rules;
+      exchange = k.exchange;
+    }
+
 pub returns : goal.returns
 returns g c =
     let set = g.S.Params.set in
@@ -62,14 +84,15 @@ returns g c =
     let rest : take (length request - 7) (drop 7 request) ≡ drop 7 request =
     take_all (length request - 7) (drop 7 request) (omega (arith, length-drop 7 request)) in
     let told = told_answer set kem sk c.args.id request c.args.nonce.now c.args.text.now r
-    c.in_ok-suite.suite c.context_of-context.result c.in_ok-shared_secret.shared_secret
+    c.in_ok-suite.suite c.as_context.result.now c.in_ok-shared_secret.shared_secret
     c.split_at.result.0.now c.split_at.result.1.now
     (sym c.suite_for.ensures ∙ c.in_ok-suite.was)
     (c.split_at.ensures.front ∙ ap (take c.ENC.result) rest
     ∙ ap (λ n. take n (drop 7 request)) enc_size_is)
     (c.split_at.ensures.back ∙ ap (drop c.ENC.result) rest
     ∙ ap (λ n. drop n (drop 7 request)) enc_size_is)
-    c.in_ok-shared_secret.ensures c.context_of-context.ensures c.answer_in.ensures.answered in
+    c.in_ok-shared_secret.ensures (c.as_context.ensures ∙ c.in_ok-context.ensures)
+    c.answer_in.ensures.answered in
     let k = tells set kem sk c.args.id request c.args.nonce.now c.args.text.now r
     c.both_ends_agree.ensures.agreement told in
     record {
@@ -82,13 +105,11 @@ returns g c =
       exchange = k.exchange;
     }
 
-pub answer_in-requires-clause-can : goal.answer_in-requires-clause-can
-answer_in-requires-clause-can g c =
+pub answer_in-requires-clause-cipher : goal.answer_in-requires-clause-cipher
+answer_in-requires-clause-cipher g c =
     let ready = ready_by g.S.Params.set g.S.KemParams.ID c.args.id c.args.request.now
     c.args.nonce.now c.in_ok-suite.suite (sym c.suite_for.ensures ∙ c.in_ok-suite.was) in
-    let is = c.context_of-context.ensures in
-    let both : CanOpen c.context_of-context.result = (
-      ap (λ (v : ContextView). v.role) is,
-      ap (λ (v : ContextView). encrypts v.suite.aead) is ∙ ready.encrypts_is,
-    ) in
-    search (rules, both)
+    let is : HasCipher c.as_context.result.now =
+    ap (λ (v : ContextView). encrypts v.suite.aead) (c.as_context.ensures ∙ c.in_ok-context.ensures)
+    ∙ ready.encrypts_is in
+    search (rules, is)
