@@ -53,6 +53,7 @@ class Tree:
     def __init__(self):
         heads = [line.partition(":") for line in read("crates.txt").split("\n") if re.match(r"\w", line)]
         self.crates = [head.split()[0] for head, _, _ in heads]
+        self.uses = {head.split()[0]: set(uses.split()) for head, _, uses in heads}
         self.names = {crate: set() for crate in self.crates}  # what each crate defines
         self.in_file = {}  # and each file
         self.in_comments = set()  # words with _
@@ -133,6 +134,12 @@ class Tree:
                 record = head[1] if head else record if line.startswith(" ") else None
                 if record and not head:
                     self.fields.setdefault(record, set()).add(name)
+
+    @staticmethod
+    def public_definitions(path):
+        """The names that a file of specs/ defines for others, before its heading on the proofs."""
+        text = read(path).partition("-- ---- for the proofs")[0]
+        return re.findall(r"^(?:[a-z]+ )*?pub (?:record |data )?(?!use |mod )([\w'-]+)(?=[\s:({])", text, re.M)
 
     def crate_in(self, text):
         """The first word of a text, where it is a crate."""

@@ -7,6 +7,8 @@ KEY_WORDS = {"keygen", "secret", "peer"}
 KEY_WORDS_OF_VERSION_2 = {"keygen857", "secret857", "peer857"}
 CONTEXT_WORDS = {"share", "send", "recv"}
 CALL_WORDS = {"seal", "unseal", "unsealall", "export"}
+LIVE_WORDS = {"add", "retire"}  # for `live` alone
+FIRST_NAME = 65_536  # what the number of `+K` stands behind
 HEX = set(b"0123456789abcdef")
 
 
@@ -29,6 +31,7 @@ class Batch:
     lanes: list = field(default_factory=list)  # lists of calls, each a dictionary
     items: int = 0  # of all lanes
     exported: int = 0  # the sum of all LEN
+    added: int = 0  # how many of the contexts, the last ones, have a line `add`
 
 
 def number(piece, least, most):
@@ -77,6 +80,17 @@ def enc_of(piece):
     return octets(piece)
 
 
+def name_of(piece):
+    if piece[:1] != b"+":
+        raise Reason("number")
+    return number(piece[1:], 0, 65_535)
+
+
+def context_of(piece):
+    """CTX of `live`."""
+    return FIRST_NAME + name_of(piece) if piece[:1] == b"+" else number(piece, 0, 65_535)
+
+
 PT, CT = 1_048_576, 1_048_592
 SUITE = [("kdf", lambda p: chosen(p, (1, 2, 3))), ("aead", lambda p: chosen(p, (1, 2, 65_535)))]
 SCHEDULE = [
@@ -104,13 +118,15 @@ FORMS = {
     "export": [("context", SMALL), ("exporter", octets), ("size", SMALL)],
     "end": [],
 }
+FORMS["add"] = FORMS["share"]
+FORMS["retire"] = [("name", name_of)]
 
 
-def fields_of(word, pieces):
+def fields_of(word, pieces, is_live):
     if word == "unsealall":
         if len(pieces) < 3 or len(pieces) % 2 == 0:
             raise Reason("fields")
-        context = number(pieces[0], 0, 65_535)
+        context = context_of(pieces[0]) if is_live else number(pieces[0], 0, 65_535)
         items = []
         for at in range(1, len(pieces), 2):
             aad = octets(pieces[at])
@@ -119,6 +135,8 @@ def fields_of(word, pieces):
     form = FORMS[word]
     if len(pieces) != len(form):
         raise Reason("fields")
+    if is_live and form[:1] == [("context", SMALL)]:
+        form = [("context", context_of), *form[1:]]
     return {name: read(piece) for (name, read), piece in zip(form, pieces)}
 
 
@@ -130,7 +148,7 @@ def may_stand(word, batch, line):
         return in_keys and (not word.startswith("keygen") or batch.seed is not None)
     if word in CONTEXT_WORDS:
         return not batch.lanes and (word != "send" or batch.seed is not None)
-    if word in CALL_WORDS:
+    if word in CALL_WORDS | LIVE_WORDS:
         return bool(batch.lanes)
     return True
 
@@ -149,6 +167,10 @@ def add(word, read, batch):
     elif word == "lane":
         batch.lanes.append([])
     else:
+        if word == "add":
+            batch.contexts.append({"word": "share", **read})
+            read = {"name": batch.added}
+            batch.added += 1
         call = {"word": word, **read}
         batch.lanes[-1].append(call)
         batch.items += items_of(call)
@@ -167,14 +189,14 @@ def passes_a_limit(batch, read):
     )
 
 
-def read_batch(data):
+def read_batch(data, is_live=False):
     if len(data) > MOST_INPUT:
         raise Bad(0, "size")
     *lines, rest = data.split(b"\n")
-    if not lines or lines[0] not in (b"hpkebatch 1", b"hpkebatch 2"):
+    if not lines or lines[0] not in (b"hpkebatch 2",) + (() if is_live else (b"hpkebatch 1",)):
         raise Bad(1, "header")
     batch = Batch(int(lines[0][-1:]))
-    words = set(FORMS) | {"unsealall"}
+    words = (set(FORMS) if is_live else set(FORMS) - LIVE_WORDS) | {"unsealall"}
     if batch.version == 1:
         words -= KEY_WORDS_OF_VERSION_2
     for at, line in enumerate(lines[1:], 2):
@@ -185,7 +207,7 @@ def read_batch(data):
                 raise Reason("word")
             if not may_stand(word, batch, at):
                 raise Reason("order")
-            read = fields_of(word, pieces)
+            read = fields_of(word, pieces, is_live)
             if word == "end":
                 if len(lines) > at or rest:
                     raise Bad(at + 1, "trailing")

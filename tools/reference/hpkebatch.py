@@ -3,6 +3,7 @@
 
     tools/reference/hpkebatch.py rehearse SCHEDULE < BATCH     the reply, status 0; or the bad line, status 3
     tools/reference/hpkebatch.py run < BATCH                   that of the lanes one after another
+    tools/reference/hpkebatch.py live < BATCH                  that of lanes that add and retire contexts, too
     tools/reference/hpkebatch.py capsules < BATCH              the reply to a batch of capsules
 
 What threads may have answered is judged by tools/reference/judge.
@@ -140,6 +141,13 @@ if __name__ == "__main__":
     given = sys.argv[2] if command == "rehearse" else "-"
     steps = [] if given == "-" else [int(step) for step in given.split(",")]
     data = sys.stdin.buffer.read()
-    reply, status = answer_capsules(data) if command == "capsules" else answer(data, steps)
+    if command == "live":
+        from live import answer_live  # (that stands on this file)
+
+        reply, status = answer_live(data)
+    elif command == "capsules":
+        reply, status = answer_capsules(data)
+    else:
+        reply, status = answer(data, steps)
     sys.stdout.write(reply)
     sys.exit(status)

@@ -25,7 +25,7 @@ def options_of(words):
 
 
 def is_command(words):
-    if words[:1] == [b"run"]:
+    if words[:1] in ([b"run"], [b"live"]):
         names = options_of(words[1:])
         return names is not None and len(names) == len(set(names))
     if words[:1] == [b"capsules"]:

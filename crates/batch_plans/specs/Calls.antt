@@ -12,7 +12,7 @@ use Rattle.batch_plans.specs.declared.plan.ContextKind.{ContextKind}
 use Rattle.batch_plans.specs.declared.plan.ContextKind.TheVariants.{Share, Send, Recv}
 use Rattle.batch_plans.specs.declared.plan.ContextLine.{ContextLine}
 use Rattle.batch_plans.specs.declared.plan.CallLine.{CallLine}
-use Rattle.batch_plans.specs.declared.plan.CallLine.TheVariants.{Seal, Unseal, UnsealAll, Export}
+use Rattle.batch_plans.specs.declared.plan.CallLine.TheVariants.{Seal, Unseal, UnsealAll, Export, Add, Retire}
 use Rattle.batch_plans.specs.declared.replies.CallRefusal.{CallRefusal}
 use Rattle.batch_plans.specs.declared.replies.CallRefusal.TheVariants as refusals
 use Rattle.batch_plans.specs.Limits.{items_of}
@@ -46,20 +46,25 @@ abbrev pub export_refusal : ℕ → ℕ → Option CallRefusal
 export_refusal export_limit size =
     if nat_lt export_limit size then Some refusals.ExportSize else None
 
--- a call on a context of this role and cipher, which exports so many bytes at most
+-- a call on a context of this role and cipher, which exports so many bytes at most. No context
+-- serves the lines that add and retire contexts
 abbrev pub refusal_by : Role → Aead → ℕ → CallLine → Option CallRefusal
 refusal_by role aead export_limit (Seal context item) = seal_refusal role aead
 refusal_by role aead export_limit (Unseal context item) = open_refusal role aead
 refusal_by role aead export_limit (UnsealAll context first count) = open_refusal role aead
 refusal_by role aead export_limit (Export context exporter size) =
     export_refusal export_limit size
+refusal_by role aead export_limit (Add name) = Some refusals.NoContext
+refusal_by role aead export_limit (Retire name) = Some refusals.NoContext
 
--- CTX
+-- CTX; of a line that adds or retires a context, its K
 abbrev pub context_of : CallLine → ℕ
 context_of (Seal context item) = context
 context_of (Unseal context item) = context
 context_of (UnsealAll context first count) = context
 context_of (Export context exporter size) = context
+context_of (Add name) = name
+context_of (Retire name) = name
 
 -- the context line of this number, where there is one and its context stands
 abbrev pub standing_line : List ContextLine → List ℕ → ℕ → Option ContextLine
@@ -94,6 +99,8 @@ served_on contexts export_limits (Unseal context item) =
 served_on contexts export_limits (UnsealAll context first count) =
     if_served (refusal contexts export_limits (UnsealAll context first count)) context
 served_on contexts export_limits (Export context exporter size) = None
+served_on contexts export_limits (Add name) = None
+served_on contexts export_limits (Retire name) = None
 
 -- so many items, where the context that serves them has this number
 abbrev pub items_at : Option ℕ → ℕ → ℕ → ℕ

@@ -1,4 +1,5 @@
 pub mod Limits
+pub mod Names
 pub mod Calls
 pub mod Replies
 pub mod Room

@@ -1,6 +1,6 @@
 -- How large a batch may be, and what is known of the numbers and spans of its plan. Sizes are in
 -- bytes.
-use Rattle.std.specs.Prelude.{ℕ, ◌≡◌, ◌⊎◌, ◌+◌, ◌<◌, ◌≤◌, ◌^◌, List, length, take, drop, sum_by, All, Option, IsSome}
+use Rattle.std.specs.Prelude.{ℕ, ◌≡◌, ◌⊎◌, ◌+◌, ◌*◌, ◌<◌, ◌≤◌, ◌^◌, List, length, take, drop, sum_by, All, Option, IsSome}
 use Rattle.call_places.specs.declared.spans.Span.{Span}
 use Rattle.call_places.specs.declared.spans.Item.{Item}
 use Rattle.call_places.specs.Spans.{IsInPool}
@@ -52,12 +52,18 @@ most_plaintext = 1048576
 abbrev pub most_ciphertext : ℕ
 most_ciphertext = 1048592
 
--- the items of a call
+-- CTX of a context line is below this number, and the context of `add` line K has it plus K
+abbrev pub first_name : ℕ
+first_name = 65536
+
+-- the items of a call; a line that adds or retires a context counts as one
 abbrev pub items_of : CallLine → ℕ
 items_of (calls.Seal context item) = 1
 items_of (calls.Unseal context item) = 1
 items_of (calls.UnsealAll context first count) = count
 items_of (calls.Export context exporter size) = 1
+items_of (calls.Add name) = 1
+items_of (calls.Retire name) = 1
 
 -- the LEN of a call
 abbrev pub size_of : CallLine → ℕ
@@ -65,6 +71,8 @@ size_of (calls.Seal context item) = 0
 size_of (calls.Unseal context item) = 0
 size_of (calls.UnsealAll context first count) = 0
 size_of (calls.Export context exporter size) = size
+size_of (calls.Add name) = 0
+size_of (calls.Retire name) = 0
 
 -- so many of the plan's items, from this one on
 abbrev pub items_from : List Item → ℕ → ℕ → List Item
@@ -77,6 +85,8 @@ text_size items (calls.Unseal context item) = item.text.len
 text_size items (calls.UnsealAll context first count) =
     sum_by (λ item. item.text.len) (items_from items first count)
 text_size items (calls.Export context exporter size) = 0
+text_size items (calls.Add name) = 0
+text_size items (calls.Retire name) = 0
 
 -- the items in all lanes
 abbrev pub all_items : List (List CallLine) → ℕ
@@ -132,16 +142,22 @@ pub record IsContextWithin (seed : Option (List ℕ)) (pool : ℕ) (line : Conte
   pub limit_least : 1 ≤ line.limit
   pub limit_most : line.limit < 2 ^ 64
 
+-- CTX, or `+K`
+abbrev pub IsNumber : ℕ → Type 0
+IsNumber context = context < 2 * first_name
+
 -- a call line over so many items and a pool of this length
 abbrev pub IsCallWithin : ℕ → ℕ → CallLine → Type 0
 IsCallWithin items pool (calls.Seal context item) =
-    (context ≤ 65535) × IsItemWithin most_plaintext pool item
+    IsNumber context × IsItemWithin most_plaintext pool item
 IsCallWithin items pool (calls.Unseal context item) =
-    (context ≤ 65535) × IsItemWithin most_ciphertext pool item
+    IsNumber context × IsItemWithin most_ciphertext pool item
 IsCallWithin items pool (calls.UnsealAll context first count) =
-    (context ≤ 65535) × (1 ≤ count) × (count ≤ most_opening) × (first + count ≤ items)
+    IsNumber context × (1 ≤ count) × (count ≤ most_opening) × (first + count ≤ items)
 IsCallWithin items pool (calls.Export context exporter size) =
-    (context ≤ 65535) × IsField most_field pool exporter × (size ≤ 65535)
+    IsNumber context × IsField most_field pool exporter × (size ≤ 65535)
+IsCallWithin items pool (calls.Add name) = name < first_name
+IsCallWithin items pool (calls.Retire name) = name < first_name
 
 -- the counts of a plan, and each of its lines. The texts of its calls share no byte of the pool
 pub record IsWithinLimits (plan : Plan) : Type 0 where
@@ -149,6 +165,7 @@ pub record IsWithinLimits (plan : Plan) : Type 0 where
   pub pool : length plan.pool ≤ most_input
   pub keys : length plan.keys ≤ most_keys
   pub contexts : length plan.contexts ≤ most_contexts
+  pub added : plan.added ≤ length plan.contexts
   pub lanes : length plan.lanes ≤ most_lanes
   pub items : all_items plan.lanes ≤ most_items
   pub exported : all_sizes plan.lanes ≤ most_exported
@@ -158,3 +175,19 @@ pub record IsWithinLimits (plan : Plan) : Type 0 where
   pub item_count : length plan.items ≤ most_items
   pub item_list : All (IsItemWithin most_ciphertext (length plan.pool)) plan.items
   pub call_lines : All (All (IsCallWithin (length plan.items) (length plan.pool))) plan.lanes
+
+-- ---- what a plan keeps whose contexts stay
+
+-- a call on the context of a context line
+abbrev pub IsPlainCall : CallLine → Type 0
+IsPlainCall (calls.Seal context item) = context < first_name
+IsPlainCall (calls.Unseal context item) = context < first_name
+IsPlainCall (calls.UnsealAll context first count) = context < first_name
+IsPlainCall (calls.Export context exporter size) = context < first_name
+IsPlainCall (calls.Add name) = ⊥
+IsPlainCall (calls.Retire name) = ⊥
+
+-- no line adds or retires a context, and no call names one that is added
+pub record IsPlain (plan : Plan) : Type 0 where
+  pub added : plan.added ≡ 0
+  pub calls : All (All IsPlainCall) plan.lanes

@@ -3,7 +3,7 @@ use Rattle.std.specs.Prelude.{ℕ, length}
 use Rattle.std.specs.List.{All}
 use Rattle.call_places.specs.Spans.{IsInPool}
 use Rattle.batch_plans.specs.declared.replies.Reply.{Reply}
-use Rattle.batch_plans.specs.declared.replies.Reply.TheVariants.{Blank, Sealed, Opened, Failed, Limit, Exported, Refused}
+use Rattle.batch_plans.specs.declared.replies.Reply.TheVariants.{Blank, Sealed, Opened, Failed, Limit, Exported, Refused, Added, Retired}
 use Rattle.batch_plans.specs.declared.replies.LaneAnswers.{LaneAnswers}
 
 -- the span of a reply lies in a pool of so many bytes
@@ -15,6 +15,8 @@ IsInRange size (Failed number) = Unit {0}
 IsInRange size Limit = Unit {0}
 IsInRange size (Exported text) = IsInPool size text
 IsInRange size (Refused refusal) = Unit {0}
+IsInRange size Added = Unit {0}
+IsInRange size Retired = Unit {0}
 
 -- each reply's span lies in the pool of its lane
 abbrev pub IsPrintable : LaneAnswers → Type 0

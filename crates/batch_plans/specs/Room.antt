@@ -1,12 +1,12 @@
 -- The room for the replies and the journals of a plan. Sizes are in bytes.
-use Rattle.std.specs.Prelude.{ℕ, ◌+◌, ◌-◌, ◌*◌, ◌<◌, ◌^◌, List, length, map, sum_by, replicate, All, Option, Some, None}
+use Rattle.std.specs.Prelude.{ℕ, ◌+◌, ◌-◌, ◌*◌, ◌<◌, ◌^◌, List, length, map, sum_by, replicate, All, Option, Some, None, []}
 use Rattle.std.specs.List.{range_with_len}
 use Rattle.call_places.specs.declared.spans.Item.{Item}
 use Rattle.call_places.specs.declared.entries.Mark.{Mark}
 use Rattle.batch_plans.specs.declared.plan.Plan.{Plan}
 use Rattle.batch_plans.specs.declared.plan.ContextLine.{ContextLine}
 use Rattle.batch_plans.specs.declared.plan.CallLine.{CallLine}
-use Rattle.batch_plans.specs.declared.plan.CallLine.TheVariants.{Seal, Unseal, UnsealAll, Export}
+use Rattle.batch_plans.specs.declared.plan.CallLine.TheVariants.{Seal, Unseal, UnsealAll, Export, Add, Retire}
 use Rattle.batch_plans.specs.declared.replies.KeyReply.{KeyReply}
 use Rattle.batch_plans.specs.declared.replies.ContextReply.{ContextReply}
 use Rattle.batch_plans.specs.declared.replies.CallRefusal.{CallRefusal}
@@ -34,6 +34,8 @@ served_room items (Unseal context item) = opened_room item
 served_room items (UnsealAll context first count) =
     sum_by opened_room (items_from items first count)
 served_room items (Export context exporter size) = size
+served_room items (Add name) = 0
+served_room items (Retire name) = 0
 
 -- an opening of several messages keeps a guess
 abbrev pub served_batches : CallLine → ℕ
@@ -41,6 +43,8 @@ served_batches (Seal context item) = 0
 served_batches (Unseal context item) = 0
 served_batches (UnsealAll context first count) = 1
 served_batches (Export context exporter size) = 0
+served_batches (Add name) = 0
+served_batches (Retire name) = 0
 
 -- what a call has where it is served, and what it has where it is refused
 abbrev pub served_or : Option CallRefusal → ℕ → ℕ → ℕ
@@ -95,6 +99,7 @@ room_for plan keys contexts export_limits =
       lanes = map (lane_room plan export_limits) plan.lanes;
       journals = map (journal_room plan.contexts export_limits plan.lanes)
           (range_with_len 0 (length plan.contexts));
+      notes = [];
     }
 
 -- ---- for the proofs

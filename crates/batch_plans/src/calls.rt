@@ -40,6 +40,7 @@ pub fn refusal_by(role: Role, aead: Aead, export_limit: u32, call: &CallLine) ->
         CallLine::Unseal { .. } | CallLine::UnsealAll { .. } => open_refusal(role, aead),
         CallLine::Export { size, .. } if size > export_limit => Some(CallRefusal::ExportSize),
         CallLine::Export { .. } => None,
+        CallLine::Add { .. } | CallLine::Retire { .. } => Some(CallRefusal::NoContext),
     }
 }
 
@@ -53,7 +54,7 @@ pub(crate) fn served_on(
     ensures there { IfSome result (λ number. number < length contexts.now) }
 {
     match *call {
-        CallLine::Export { .. } => None,
+        CallLine::Export { .. } | CallLine::Add { .. } | CallLine::Retire { .. } => None,
         CallLine::Seal { context, .. }
         | CallLine::Unseal { context, .. }
         | CallLine::UnsealAll { context, .. } => {
@@ -65,7 +66,7 @@ pub(crate) fn served_on(
     }
 }
 
-/// CTX, the number of the context that a call names.
+/// CTX, the number of the context that a call names; of an `add` or a `retire`, its K.
 pub fn context_of(call: &CallLine) -> u32
     ensures { result ≡ context_of call.now }
 {
@@ -74,6 +75,7 @@ pub fn context_of(call: &CallLine) -> u32
         | CallLine::Unseal { context, .. }
         | CallLine::UnsealAll { context, .. }
         | CallLine::Export { context, .. } => context,
+        CallLine::Add { name } | CallLine::Retire { name } => name,
     }
 }
 

@@ -6,13 +6,17 @@ ghost use Rattle.batch_plans.specs.Limits.{items_of, items_from};
 use crate::plan::CallLine;
 use call_places::Item;
 
-/// How many items a call has.
+/// How many items a call has. Adding and retiring a context count as one.
 pub fn items_of(call: &CallLine) -> u32
     ensures { result ≡ items_of call.now }
 {
     match *call {
-        CallLine::Seal { .. } | CallLine::Unseal { .. } | CallLine::Export { .. } => 1,
         CallLine::UnsealAll { count, .. } => count,
+        CallLine::Seal { .. }
+        | CallLine::Unseal { .. }
+        | CallLine::Export { .. }
+        | CallLine::Add { .. }
+        | CallLine::Retire { .. } => 1,
     }
 }
 

@@ -18,6 +18,7 @@ mod items;
 mod journals;
 pub mod limits;
 mod lists;
+mod names;
 mod plan;
 mod progress;
 mod replies;
@@ -26,6 +27,7 @@ mod room;
 pub use calls::{call_refusal, context_of, refusal_by};
 pub use items::{items_from, items_of};
 pub use lists::PlainList;
+pub use names::FIRST_NAME;
 pub use plan::{
     ByteList, CallLine, ContextKind, ContextLine, ContextLines, EncField, ItemList, KeyLine,
     KeyLines, LaneLines, Plan,
@@ -33,5 +35,6 @@ pub use plan::{
 pub use progress::LaneProgress;
 pub use replies::{
     Answers, Batch, BatchList, CallRefusal, ContextRefusal, ContextReplies, ContextReply,
-    JournalList, KeyRefusal, KeyReplies, KeyReply, LaneAnswerList, LaneAnswers, Reply, ReplyList,
+    EntryList, JournalList, KeyRefusal, KeyReplies, KeyReply, LaneAnswerList, LaneAnswers, Reply,
+    ReplyList,
 };

@@ -1,6 +1,6 @@
 //! Lists that contracts see as such.
 
-ghost use Rattle.std.specs.Prelude.{◌≡◌, List, length};
+ghost use Rattle.std.specs.Prelude.{◌≡◌, List, length, take};
 
 use std::marker::Model;
 
@@ -42,6 +42,15 @@ impl<T> PlainList<T> {
         ensures items { result.now ≡ self.old }
     {
         self.items.as_mut_slice()
+    }
+
+    /// Keeps so many items, the first ones. It takes no memory.
+    pub fn truncate(&mut self, count: usize)
+    where
+        T: Drop,
+        ensures items { self.new ≡ take count self.old }
+    {
+        self.items.truncate(count);
     }
 
     /// The vector of the items.

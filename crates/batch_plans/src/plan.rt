@@ -36,6 +36,9 @@ pub struct Plan {
     pub contexts: ContextLines,
     pub items: ItemList,
     pub lanes: LaneLines,
+    /// How many of the contexts are set up by `add` lines: the last ones. They are named apart, from
+    /// 0, and a call may name one only where its lanes add contexts while they are served.
+    pub added: u32,
 }
 
 /// A key pair of a KEM, sntrup761 or sntrup857, or the public half of one.
@@ -103,6 +106,8 @@ pub struct ContextLine {
 }
 
 /// One call of a lane, on the context of this number. Spans are of the plan's pool.
+///
+/// A context line has a number below 65,536; the context of `add` line K is called by 65,536 + K.
 #[derive(Clone, Copy, Debug, PartialEq, Eq)]
 pub enum CallLine {
     /// `ContextS.Seal(aad, pt)` (RFC 9180, 5.2), with the item's text as pt.
@@ -127,5 +132,13 @@ pub enum CallLine {
         context: u32,
         exporter: Span,
         size: u32,
+    },
+    /// From here on the context of the `add` line of this number may be called.
+    Add {
+        name: u32,
+    },
+    /// From here on the context of the `add` line of this number may not be called.
+    Retire {
+        name: u32,
     },
 }

@@ -87,6 +87,20 @@ impl LaneProgress {
         self.pool.as_mut_slice()
     }
 
+    /// How many replies are still to come.
+    pub fn left(&self) -> usize
+        ensures { result ≡ self.now.left }
+    {
+        self.replies.len() - self.replied
+    }
+
+    /// How many guesses are still to come.
+    pub fn batches_left(&self) -> usize
+        ensures { result ≡ self.now.batches_left }
+    {
+        self.batches.len() - self.guessed
+    }
+
     /// Puts the next reply, whose bytes lie in room that was taken.
     pub fn put(&mut self, reply: Reply)
         requires left { 0 < self.old.left }

@@ -2,7 +2,7 @@
 
 use crate::lists::PlainList;
 use crate::plan::ByteList;
-use call_places::{Mark, Span};
+use call_places::{Entry, Mark, Span};
 
 /// The replies to the key lines, in their order.
 pub type KeyReplies = PlainList<KeyReply>;
@@ -23,6 +23,9 @@ pub type LaneAnswerList = PlainList<LaneAnswers>;
 
 /// The journals of the contexts, in the order of the context lines.
 pub type JournalList = PlainList<PlainList<Mark>>;
+
+/// Entries, the oldest first.
+pub type EntryList = PlainList<Entry>;
 
 /// The reply to a key line. A public and a secret key are in the encoding of the KEM.
 #[derive(Drop)]
@@ -93,6 +96,13 @@ pub enum CallRefusal {
     NoCipher,
     /// More bytes were to be exported than HKDF-Expand gives (RFC 5869, 2.3).
     ExportSize,
+    /// Exactly one of `psk` and `psk_id` of a context to be added is empty (RFC 9180, 5.1,
+    /// VerifyPSKInputs).
+    PskPair,
+    /// A context to be added has a psk, in mode base.
+    PskExtra,
+    /// A context to be added has no psk, in mode psk.
+    PskMissing,
 }
 
 /// The reply to an item of a call. Spans are of the pool of the lane, and a number is the sequence
@@ -113,6 +123,10 @@ pub enum Reply {
     Exported { text: Span },
     /// The call was not served.
     Refused(CallRefusal),
+    /// The context was added.
+    Added,
+    /// The context was retired.
+    Retired,
 }
 
 /// What an opening of several messages guessed of its context.
@@ -135,11 +149,13 @@ pub struct LaneAnswers {
 /// What a batch is answered with.
 ///
 /// A journal has the places of the seals and opens that its context served, in the order in which
-/// it served them, each with its stamp; that of a refused context is empty.
+/// it served them, each with its stamp; that of a refused context is empty. The notes tell where
+/// contexts were added, retired and looked up while lanes were served.
 #[derive(Drop)]
 pub struct Answers {
     pub keys: KeyReplies,
     pub contexts: ContextReplies,
     pub lanes: LaneAnswerList,
     pub journals: JournalList,
+    pub notes: EntryList,
 }

@@ -1,7 +1,8 @@
 //! Room for the replies of a plan.
 
 ghost use Rattle.std.specs.Prelude.{◌≡◌, ◌<◌, ◌^◌, length, map, sum_by, IfOk};
-ghost use Rattle.batch_plans.specs.Limits.{IsCallWithin, IsWithinLimits};
+ghost use Rattle.batch_plans.specs.Limits.{IsCallWithin, IsPlain, IsWithinLimits};
+ghost use Rattle.batch_plans.specs.Names.{all_live};
 ghost use Rattle.batch_plans.specs.Room.{opened_room, served_room, served_batches};
 ghost use Rattle.batch_plans.specs.Room.{call_room, call_replies, call_batches, lane_room};
 ghost use Rattle.batch_plans.specs.Room.{room_for, most_room, IsLaneWithin};
@@ -10,7 +11,7 @@ use crate::calls::call_refusal;
 use crate::items::{items_from, items_of};
 use crate::journals::journals_room;
 use crate::lists::PlainList;
-use crate::plan::{CallLine, Plan};
+use crate::plan::{CallLine, LaneLines, Plan};
 use crate::replies::{
     Answers, Batch, ContextReplies, KeyReplies, LaneAnswerList, LaneAnswers, Reply,
 };
@@ -52,6 +53,7 @@ fn served_room(plan: &Plan, call: &CallLine) -> usize
             opening_room(items_from(plan.items.as_slice(), first, count))
         }
         CallLine::Export { size, .. } => size as usize,
+        CallLine::Add { .. } | CallLine::Retire { .. } => 0,
     }
 }
 
@@ -61,7 +63,11 @@ fn served_batches(call: &CallLine) -> usize
 {
     match *call {
         CallLine::UnsealAll { .. } => 1,
-        CallLine::Seal { .. } | CallLine::Unseal { .. } | CallLine::Export { .. } => 0,
+        CallLine::Seal { .. }
+        | CallLine::Unseal { .. }
+        | CallLine::Export { .. }
+        | CallLine::Add { .. }
+        | CallLine::Retire { .. } => 0,
     }
 }
 
@@ -135,13 +141,15 @@ fn lanes_room(
     alloc: Global,
     plan: &Plan,
     export_limits: &[u32],
+    lanes: &LaneLines,
 ) -> Result<LaneAnswerList, AllocError>
-    requires { IsWithinLimits plan.now }
+    requires within { IsWithinLimits plan.now }
+    requires lanes { lanes.now ≡ (all_live plan.now).lanes }
     ensures { IfOk result (λ rooms.
-        rooms ≡ map (lane_room plan.now export_limits.now) plan.now.lanes) }
+        rooms ≡ map (lane_room plan.now export_limits.now) lanes.now) }
 {
     let mut rooms = Vec::new(alloc);
-    'lanes: for calls in plan.lanes.as_slice() {
+    'lanes: for calls in lanes.as_slice() {
         rooms.push(lane_room(alloc, plan, export_limits, calls.as_slice())?)?;
     }
     Ok(PlainList::from_vec(rooms))
@@ -153,8 +161,9 @@ impl Answers {
     /// will need is taken.
     ///
     /// `keys` and `contexts` are the replies of the set-up. `export_limits` has for each context
-    /// the most bytes that it exports, 255·Nh (RFC 9180, 5.3), and 0 where it was refused. Takes
-    /// time linear in the plan.
+    /// the most bytes that it exports, 255·Nh (RFC 9180, 5.3), and 0 where it was refused. A call on
+    /// a context that lanes add has the room for the case that it may be called. There are no notes.
+    /// Takes time linear in the plan.
     pub fn for_plan(
         alloc: Global,
         plan: &Plan,
@@ -163,16 +172,20 @@ impl Answers {
         export_limits: &[u32],
     ) -> Result<Answers, AllocError>
         requires { IsWithinLimits plan.now }
-        ensures { IfOk result (λ answers.
+        ensures room { IfOk result (λ answers.
+            answers ≡ room_for (all_live plan.now) keys contexts export_limits.now) }
+        ensures plain { IsPlain plan.now → IfOk result (λ answers.
             answers ≡ room_for plan.now keys contexts export_limits.now) }
     {
-        let lanes = lanes_room(alloc, plan, export_limits)?;
-        let journals = journals_room(alloc, plan.contexts.as_slice(), export_limits, &plan.lanes)?;
+        let calls = plan.lanes_at_positions(alloc)?;
+        let lanes = lanes_room(alloc, plan, export_limits, &calls)?;
+        let journals = journals_room(alloc, plan.contexts.as_slice(), export_limits, &calls)?;
         Ok(Answers {
             keys,
             contexts,
             lanes,
             journals,
+            notes: PlainList::from_vec(Vec::new(alloc)),
         })
     }
 }

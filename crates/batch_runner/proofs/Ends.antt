@@ -11,8 +11,10 @@ use Rattle.batch_plans.specs.Limits.{most_input}
 use Rattle.batch_plans.specs.declared.plan.Plan.{Plan}
 use Rattle.reply_texts.specs.ReplyText.{bad_text}
 use Rattle.request_frames.specs.Batch.{batch, batch_lines, ended, front_batch}
-use Rattle.capsule_frames.specs.declared.lines.CapsulePlan.{CapsulePlan}
+use Rattle.live_frames.specs.Live.{live, live_lines}
 use Rattle.capsule_frames.specs.Capsules.{capsules, capsule_lines}
+use Rattle.capsule_runs.specs.Replies.{IsCapsuleReply}
+use Rattle.context_table.specs.ReplyTo.{IsLiveReply}
 use Rattle.result_verdicts.specs.declared.verdicts.Verdict.{Verdict}
 use Rattle.result_verdicts.specs.declared.verdicts.Verdict.TheVariants.{Legal, Form, Journal, Stamps, Reply, Guess}
 use Rattle.result_verdicts.specs.VerdictText.{verdict_text}
@@ -23,7 +25,7 @@ use Rattle.batch_runner.specs.declared.outcomes.Outcome.{Outcome}
 use Rattle.batch_runner.specs.declared.outcomes.Outcome.TheVariants as outcomes
 use Rattle.batch_runner.specs.Input.{IsInput}
 use Rattle.batch_runner.specs.Outcomes.{outcome_on}
-use Rattle.batch_runner.specs.Text.{Answers, Exchanges, IsBadFor, IsBroken, IsJudged, IsReadBy, IsTold, Judges, MayEnd, ReadsInput}
+use Rattle.batch_runner.specs.Text.{Answers, AnswersBy, AnswersLive, Exchanges, IsBadFor, IsBroken, IsJudged, IsReadBy, IsReplyBy, IsTold, Judges, MayEnd, ReadsInput}
 
 -- ---- an input that is too large
 
@@ -38,6 +40,10 @@ pub large_front : (text : List ℕ) → most_input < length text → front_batch
 unfolding front_batch
 large_front text large = ap (ended text) (front_too_large batch_lines most_input text large)
 
+large_live : (text : List ℕ) → most_input < length text → live text ≡ bad 0 Size
+unfolding live
+large_live text large = ap whole (front_too_large live_lines most_input text large)
+
 large_capsules : (text : List ℕ) → most_input < length text → capsules text ≡ bad 0 Size
 unfolding capsules
 large_capsules text large = ap whole (front_too_large capsule_lines most_input text large)
@@ -46,6 +52,8 @@ module _ (text : List ℕ) (large : most_input < length text) (outcome : Outcome
   told_when_large : (command : Command) → ReadsInput command → MayEnd command text outcome line → IsTold too_many outcome line
   told_when_large (commands.Run workers mult) reads end =
       subst (λ r. Answers (commands.Run workers mult) r outcome line) (large_batch text large) end
+  told_when_large (commands.Live workers mult) reads end =
+      subst (λ r. AnswersLive r outcome line) (large_live text large) end
   told_when_large (commands.Demo seed messages lanes) reads end = absurd reads
   told_when_large (commands.Rehearse schedule) reads end =
       subst (λ r. Answers (commands.Rehearse schedule) r outcome line) (large_batch text large) end
@@ -57,6 +65,8 @@ module _ (text : List ℕ) (large : most_input < length text) (outcome : Outcome
   ends_when_large : (command : Command) → ReadsInput command → IsTold too_many outcome line → MayEnd command text outcome line
   ends_when_large (commands.Run workers mult) reads told =
       subst (λ r. Answers (commands.Run workers mult) r outcome line) (sym (large_batch text large)) told
+  ends_when_large (commands.Live workers mult) reads told =
+      subst (λ r. AnswersLive r outcome line) (sym (large_live text large)) told
   ends_when_large (commands.Demo seed messages lanes) reads told = absurd reads
   ends_when_large (commands.Rehearse schedule) reads told =
       subst (λ r. Answers (commands.Rehearse schedule) r outcome line) (sym (large_batch text large)) told
@@ -87,6 +97,7 @@ ends_as_told command xs input old new outcome text reads told read end =
 module _ (old new : Option (List ℕ)) (input : List ℕ) where
   pub read_by : (command : Command) → ReadsInput command → IsInput old new input → IsReadBy command old new input
   read_by (commands.Run workers mult) reads is = is
+  read_by (commands.Live workers mult) reads is = is
   read_by (commands.Rehearse schedule) reads is = is
   read_by (commands.Demo seed messages lanes) reads is = absurd reads
   read_by (commands.Check mult) reads is = is
@@ -96,6 +107,7 @@ module _ (old new : Option (List ℕ)) (input : List ℕ) where
   pub input_of_bad : (command : Command) (line : ℕ) (reason : Reason) → IsBadFor command input line reason
       → IsReadBy command old new input → IsInput old new input
   input_of_bad (commands.Run workers mult) line reason bad is = is
+  input_of_bad (commands.Live workers mult) line reason bad is = is
   input_of_bad (commands.Rehearse schedule) line reason bad is = is
   input_of_bad (commands.Demo seed messages lanes) line reason bad is = absurd bad
   input_of_bad (commands.Check mult) line reason bad is = is
@@ -124,28 +136,25 @@ on_verdict Stamps = ((λ e. cc), (λ e. cc), (λ e. cc), (λ e. cc))
 on_verdict (Reply line) = ((λ e. cc), (λ e. cc), (λ e. cc), (λ e. cc))
 on_verdict (Guess line) = ((λ e. cc), (λ e. cc), (λ e. cc), (λ e. cc))
 
-of_answers : (command : Command) (r : Result Plan BadBatch) (outcome : Outcome) (text : List ℕ)
-    → Answers command r outcome text → OfInput outcome
-of_answers command (Ok plan) outcome text end = of_done outcome end.0
-of_answers command (Err b) outcome text end = of_told b outcome text end
+of_answers : {P : Type 0} (IsReplyTo : P → List ℕ → Type 0) (r : Result P BadBatch) (outcome : Outcome) (text : List ℕ)
+    → AnswersBy IsReplyTo r outcome text → OfInput outcome
+of_answers IsReplyTo (Ok plan) outcome text end = of_done outcome end.0
+of_answers IsReplyTo (Err b) outcome text end = of_told b outcome text end
 
 of_judges : (r : Result (Plan × ℕ) BadBatch) (input : List ℕ) (outcome : Outcome) (text : List ℕ)
     → Judges r input outcome text → OfInput outcome
 of_judges (Ok front) input outcome text end = subst OfInput (sym end.outcome_is) (on_verdict end.verdict)
 of_judges (Err b) input outcome text end = of_told b outcome text end
 
-of_exchanges : (r : Result CapsulePlan BadBatch) (outcome : Outcome) (text : List ℕ) → Exchanges r outcome text → OfInput outcome
-of_exchanges (Ok plan) outcome text end = of_done outcome end.0
-of_exchanges (Err b) outcome text end = of_told b outcome text end
-
 pub of_input : (command : Command) (input : List ℕ) (outcome : Outcome) (text : List ℕ) → MayEnd command input outcome text → OfInput outcome
 of_input (commands.Run workers mult) input outcome text end =
-    of_answers (commands.Run workers mult) (batch input) outcome text end
+    of_answers (IsReplyBy (commands.Run workers mult)) (batch input) outcome text end
 of_input (commands.Rehearse schedule) input outcome text end =
-    of_answers (commands.Rehearse schedule) (batch input) outcome text end
+    of_answers (IsReplyBy (commands.Rehearse schedule)) (batch input) outcome text end
+of_input (commands.Live workers mult) input outcome text end = of_answers IsLiveReply (live input) outcome text end
 of_input (commands.Demo seed messages lanes) input outcome text end = of_done outcome end.outcome_is
 of_input (commands.Check mult) input outcome text end = of_judges (front_batch input) input outcome text end
-of_input (commands.Capsules mult) input outcome text end = of_exchanges (capsules input) outcome text end
+of_input (commands.Capsules mult) input outcome text end = of_answers IsCapsuleReply (capsules input) outcome text end
 
 -- a fault of writing, want of memory, or neither
 pub faults_or_not : (outcome : Outcome) → (outcome ≡ outcomes.WriteFault)
@@ -182,30 +191,27 @@ no_bad_verdict (Reply l) line reason e = cc
 no_bad_verdict (Guess l) line reason e = cc
 
 module _ (line : ℕ) (reason : Reason) (text : List ℕ) where
-  bad_answers : (command : Command) (r : Result Plan BadBatch) → Answers command r (outcomes.BadBatch line reason) text
-      → IsBadLine r line reason text
-  bad_answers command (Ok plan) end = let no : outcomes.BadBatch line reason ≡ outcomes.Done = end.0 in cc
-  bad_answers command (Err b) end = same_bad b line reason text end
+  bad_answers : {P : Type 0} (IsReplyTo : P → List ℕ → Type 0) (r : Result P BadBatch)
+      → AnswersBy IsReplyTo r (outcomes.BadBatch line reason) text → IsBadLine r line reason text
+  bad_answers IsReplyTo (Ok plan) end = let no : outcomes.BadBatch line reason ≡ outcomes.Done = end.0 in cc
+  bad_answers IsReplyTo (Err b) end = same_bad b line reason text end
 
   bad_judges : (r : Result (Plan × ℕ) BadBatch) (input : List ℕ) → Judges r input (outcomes.BadBatch line reason) text
       → IsBadLine r line reason text
   bad_judges (Ok front) input end = absurd (no_bad_verdict end.verdict line reason end.outcome_is)
   bad_judges (Err b) input end = same_bad b line reason text end
 
-  bad_exchanges : (r : Result CapsulePlan BadBatch) → Exchanges r (outcomes.BadBatch line reason) text → IsBadLine r line reason text
-  bad_exchanges (Ok plan) end = let no : outcomes.BadBatch line reason ≡ outcomes.Done = end.0 in cc
-  bad_exchanges (Err b) end = same_bad b line reason text end
-
   not_bad : outcomes.BadBatch line reason ≡ outcomes.Done → ⊥
   not_bad e = cc
 
   pub bad_line : (command : Command) (input : List ℕ) → MayEnd command input (outcomes.BadBatch line reason) text
       → IsBadFor command input line reason × (text ≡ bad_text (record { line = line; reason = reason }))
-  bad_line (commands.Run workers mult) input end = bad_answers (commands.Run workers mult) (batch input) end
-  bad_line (commands.Rehearse schedule) input end = bad_answers (commands.Rehearse schedule) (batch input) end
+  bad_line (commands.Run workers mult) input end = bad_answers (IsReplyBy (commands.Run workers mult)) (batch input) end
+  bad_line (commands.Live workers mult) input end = bad_answers IsLiveReply (live input) end
+  bad_line (commands.Rehearse schedule) input end = bad_answers (IsReplyBy (commands.Rehearse schedule)) (batch input) end
   bad_line (commands.Demo seed messages lanes) input end = absurd (not_bad end.outcome_is)
   bad_line (commands.Check mult) input end = bad_judges (front_batch input) input end
-  bad_line (commands.Capsules mult) input end = bad_exchanges (capsules input) end
+  bad_line (commands.Capsules mult) input end = bad_answers IsCapsuleReply (capsules input) end
 
 -- ---- a broken result
 
@@ -238,14 +244,10 @@ module _ (told : Verdict) (text : List ℕ) where
   broken_judges input (Err b) is end =
       let no : outcomes.Broken told ≡ outcomes.BadBatch b.line b.reason = end.outcome_is in cc
 
-  no_answers : (command : Command) (r : Result Plan BadBatch) → Answers command r (outcomes.Broken told) text → ⊥
-  no_answers command (Ok plan) end = let no : outcomes.Broken told ≡ outcomes.Done = end.0 in cc
-  no_answers command (Err b) end =
-      let no : outcomes.Broken told ≡ outcomes.BadBatch b.line b.reason = end.outcome_is in cc
-
-  no_exchanges : (r : Result CapsulePlan BadBatch) → Exchanges r (outcomes.Broken told) text → ⊥
-  no_exchanges (Ok plan) end = let no : outcomes.Broken told ≡ outcomes.Done = end.0 in cc
-  no_exchanges (Err b) end =
+  no_answers : {P : Type 0} (IsReplyTo : P → List ℕ → Type 0) (r : Result P BadBatch)
+      → AnswersBy IsReplyTo r (outcomes.Broken told) text → ⊥
+  no_answers IsReplyTo (Ok plan) end = let no : outcomes.Broken told ≡ outcomes.Done = end.0 in cc
+  no_answers IsReplyTo (Err b) end =
       let no : outcomes.Broken told ≡ outcomes.BadBatch b.line b.reason = end.outcome_is in cc
 
   not_broken : outcomes.Broken told ≡ outcomes.Done → ⊥
@@ -254,11 +256,12 @@ module _ (told : Verdict) (text : List ℕ) where
   pub broken_result : (command : Command) (input : List ℕ) → MayEnd command input (outcomes.Broken told) text
       → (mult : Mult) × (command ≡ commands.Check mult) × IsBroken input told × (text ≡ verdict_text told)
   broken_result (commands.Run workers mult) input end =
-      absurd (no_answers (commands.Run workers mult) (batch input) end)
+      absurd (no_answers (IsReplyBy (commands.Run workers mult)) (batch input) end)
+  broken_result (commands.Live workers mult) input end = absurd (no_answers IsLiveReply (live input) end)
   broken_result (commands.Rehearse schedule) input end =
-      absurd (no_answers (commands.Rehearse schedule) (batch input) end)
+      absurd (no_answers (IsReplyBy (commands.Rehearse schedule)) (batch input) end)
   broken_result (commands.Demo seed messages lanes) input end = absurd (not_broken end.outcome_is)
   broken_result (commands.Check mult) input end =
       let b = broken_judges input (front_batch input) refl end in
       (mult, refl, b.0, b.1)
-  broken_result (commands.Capsules mult) input end = absurd (no_exchanges (capsules input) end)
+  broken_result (commands.Capsules mult) input end = absurd (no_answers IsCapsuleReply (capsules input) end)

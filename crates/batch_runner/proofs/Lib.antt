@@ -3,3 +3,5 @@ pub mod Fronts
 pub mod Texts
 pub mod Rooms
 pub mod Replied
+pub mod Told
+pub mod LiveSetUp

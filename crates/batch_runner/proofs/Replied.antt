@@ -33,6 +33,7 @@ pub written_is_legal : (command : Command) (plan : Plan) (text : List ℕ) (verd
 written_is_legal (commands.Run workers mult) plan text verdict within is judged = judged.legal.1 is
 written_is_legal (commands.Rehearse schedule) plan text verdict within is judged =
     judged.legal.1 (rehearsal_replies plan schedule text within is)
+written_is_legal (commands.Live workers mult) plan text verdict within is judged = absurd is
 written_is_legal (commands.Demo seed messages lanes) plan text verdict within is judged = absurd is
 written_is_legal (commands.Check mult) plan text verdict within is judged = absurd is
 written_is_legal (commands.Capsules mult) plan text verdict within is judged = absurd is

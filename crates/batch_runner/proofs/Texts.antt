@@ -6,13 +6,16 @@ use Rattle.batch_plans.specs.declared.plan.Plan.{Plan}
 use Rattle.batch_plans.specs.declared.replies.KeyReply.{KeyReply}
 use Rattle.batch_plans.specs.declared.replies.ContextReply.{ContextReply}
 use Rattle.batch_plans.specs.declared.replies.Answers.{Answers}
+use Rattle.batch_plans.specs.Names.{line_count}
+use Rattle.reply_texts.specs.LiveText.{live_lines, live_text}
 use Rattle.reply_texts.specs.ReplyText.{reply_lines, answers_text}
 use Rattle.due_replies.specs.Standing.{AreOfLines}
 use Rattle.due_replies.specs.Runs.{run_text}
 use Rattle.context_table.specs.SetUp.{IsSetUp}
 use Rattle.context_core.specs.Rehearsals.{rehearsed, AreAnswersOf}
 use Rattle.lane_workers.specs.Gathered.{AreOfARun}
-use Rattle.context_table.specs.ReplyTo.{IsReply}
+use Rattle.lane_workers.specs.LiveGathered.{AreOfALiveRun}
+use Rattle.context_table.specs.ReplyTo.{IsReply, IsLiveReply}
 use Rattle.batch_runner.specs.Text.{IsRehearsal}
 
 -- keys and contexts are answered as the set-up says, and the lanes as the rehearsal over its contexts
@@ -63,4 +66,28 @@ is_reply plan keys contexts standing answers t = record {
   allowed = t.run.allowed;
   text_is = (λ i. concat (reply_lines plan.version (t.keys_are i) (t.contexts_are i) (t.run.lines i)
       answers.journals));
+}
+
+-- the same of lanes that add and retire contexts
+pub record IsServedLive (plan : Plan) (keys : List KeyReply) (contexts : List ContextReply)
+    (standing : List (Option ContextView)) (answers : Answers) : Type 0 where
+  pub set_up : IsSetUp plan keys contexts standing
+  pub run : AreOfALiveRun plan contexts standing answers.lanes answers.journals answers.notes
+  pub keys_are : answers.keys ≡ keys
+  pub contexts_are : answers.contexts ≡ contexts
+
+pub is_live_reply : (plan : Plan) (keys : List KeyReply) (contexts : List ContextReply)
+    (standing : List (Option ContextView)) (answers : Answers)
+    → IsServedLive plan keys contexts standing answers → IsLiveReply plan (live_text plan answers)
+is_live_reply plan keys contexts standing answers t = record {
+  keys = keys;
+  contexts = contexts;
+  standing = standing;
+  set_up = t.set_up;
+  journals = answers.journals;
+  guesses = t.run.guesses;
+  notes = answers.notes;
+  allowed = t.run.allowed;
+  text_is = (λ i. concat (live_lines (line_count plan) (t.keys_are i) (t.contexts_are i)
+      (t.run.lines i) answers.journals answers.notes));
 }

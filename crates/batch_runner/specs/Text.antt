@@ -10,7 +10,9 @@ use Rattle.reply_texts.specs.ReplyText.{bad_text}
 use Rattle.request_frames.specs.Batch.{batch, front_batch, BadAt, BeginsWith, FrontBadAt}
 use Rattle.due_replies.specs.Runs.{run_text}
 use Rattle.context_table.specs.SetUp.{IsSetUp}
-use Rattle.context_table.specs.ReplyTo.{IsReply}
+use Rattle.context_table.specs.ReplyTo.{IsReply, IsLiveReply}
+use Rattle.live_frames.specs.Live.{live}
+use Rattle.live_frames.specs.Live.{BadAt as BadLiveAt}
 use Rattle.context_core.specs.Rehearsals.{rehearsed}
 use Rattle.result_verdicts.specs.declared.verdicts.Verdict.{Verdict}
 use Rattle.result_verdicts.specs.declared.verdicts.Verdict.TheVariants.{Legal}
@@ -36,6 +38,14 @@ pub record IsTold (bad : BadBatch) (outcome : Outcome) (text : List ℕ) : Type 
   pub outcome_is : outcome ≡ IsBad bad.line bad.reason
   pub text_is : text ≡ bad_text bad
 
+-- ---- an input in the command's grammar
+
+-- what it spells is answered by a text that replies to it, or its first bad line is told
+abbrev pub AnswersBy : {P : Type 0} → (P → List ℕ → Type 0) → Result P BadBatch → Outcome → List ℕ
+    → Type 0
+AnswersBy IsReplyTo (Ok plan) outcome text = (outcome ≡ Done) × IsReplyTo plan text
+AnswersBy IsReplyTo (Err bad) outcome text = IsTold bad outcome text
+
 -- ---- `run` and `rehearse`: a batch is answered
 
 -- `rehearse`: the text replies to the plan's set-up, and to its calls where the lanes take their steps
@@ -50,6 +60,7 @@ pub record IsRehearsal (plan : Plan) (schedule text : List ℕ) : Type 0 where
 -- a command that replies to a plan
 abbrev pub AnswersBatches : Command → Type 0
 AnswersBatches (commands.Run workers mult) = Unit {0}
+AnswersBatches (commands.Live workers mult) = ⊥
 AnswersBatches (commands.Rehearse schedule) = Unit {0}
 AnswersBatches (commands.Demo seed messages lanes) = ⊥
 AnswersBatches (commands.Check mult) = ⊥
@@ -58,14 +69,19 @@ AnswersBatches (commands.Capsules mult) = ⊥
 -- it replies to the plan by this text: `run` by any that the plan may have
 abbrev pub IsReplyBy : Command → Plan → List ℕ → Type 0
 IsReplyBy (commands.Run workers mult) plan text = IsReply plan text
+IsReplyBy (commands.Live workers mult) plan text = ⊥
 IsReplyBy (commands.Rehearse schedule) plan text = IsRehearsal plan schedule text
 IsReplyBy (commands.Demo seed messages lanes) plan text = ⊥
 IsReplyBy (commands.Check mult) plan text = ⊥
 IsReplyBy (commands.Capsules mult) plan text = ⊥
 
 abbrev pub Answers : Command → Result Plan BadBatch → Outcome → List ℕ → Type 0
-Answers command (Ok plan) outcome text = (outcome ≡ Done) × IsReplyBy command plan text
-Answers command (Err bad) outcome text = IsTold bad outcome text
+Answers command read outcome text = AnswersBy (IsReplyBy command) read outcome text
+
+-- ---- `live`: a batch is answered whose lanes add and retire contexts
+
+abbrev pub AnswersLive : Result Plan BadBatch → Outcome → List ℕ → Type 0
+AnswersLive read outcome text = AnswersBy IsLiveReply read outcome text
 
 -- ---- `demo`: nothing is read
 
@@ -106,14 +122,14 @@ Judges (Err bad) input outcome text = IsTold bad outcome text
 -- ---- `capsules`: messages of RFC 9458 are answered
 
 abbrev pub Exchanges : Result CapsulePlan BadBatch → Outcome → List ℕ → Type 0
-Exchanges (Ok plan) outcome text = (outcome ≡ Done) × IsCapsuleReply plan text
-Exchanges (Err bad) outcome text = IsTold bad outcome text
+Exchanges read outcome text = AnswersBy IsCapsuleReply read outcome text
 
 -- ---- all commands
 
 -- a command that reads its input
 abbrev pub ReadsInput : Command → Type 0
 ReadsInput (commands.Run workers mult) = Unit {0}
+ReadsInput (commands.Live workers mult) = Unit {0}
 ReadsInput (commands.Rehearse schedule) = Unit {0}
 ReadsInput (commands.Demo seed messages lanes) = ⊥
 ReadsInput (commands.Check mult) = Unit {0}
@@ -123,6 +139,7 @@ ReadsInput (commands.Capsules mult) = Unit {0}
 -- and nothing is said of its input
 abbrev pub IsReadBy : Command → Option (List ℕ) → Option (List ℕ) → List ℕ → Type 0
 IsReadBy (commands.Run workers mult) old new input = IsInput old new input
+IsReadBy (commands.Live workers mult) old new input = IsInput old new input
 IsReadBy (commands.Rehearse schedule) old new input = IsInput old new input
 IsReadBy (commands.Demo seed messages lanes) old new input = new ≡ old
 IsReadBy (commands.Check mult) old new input = IsInput old new input
@@ -132,6 +149,7 @@ IsReadBy (commands.Capsules mult) old new input = IsInput old new input
 abbrev pub MayEnd : Command → List ℕ → Outcome → List ℕ → Type 0
 MayEnd (commands.Run workers mult) input outcome text =
     Answers (commands.Run workers mult) (batch input) outcome text
+MayEnd (commands.Live workers mult) input outcome text = AnswersLive (live input) outcome text
 MayEnd (commands.Rehearse schedule) input outcome text =
     Answers (commands.Rehearse schedule) (batch input) outcome text
 MayEnd (commands.Demo seed messages lanes) input outcome text =
@@ -143,6 +161,7 @@ MayEnd (commands.Capsules mult) input outcome text = Exchanges (capsules input) 
 -- the first bad line and its first reason, by the command's grammar
 abbrev pub IsBadFor : Command → List ℕ → ℕ → Reason → Type 0
 IsBadFor (commands.Run workers mult) input line reason = BadAt input line reason
+IsBadFor (commands.Live workers mult) input line reason = BadLiveAt input line reason
 IsBadFor (commands.Rehearse schedule) input line reason = BadAt input line reason
 IsBadFor (commands.Demo seed messages lanes) input line reason = ⊥
 IsBadFor (commands.Check mult) input line reason = FrontBadAt input line reason

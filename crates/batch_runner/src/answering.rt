@@ -1,7 +1,7 @@
 //! The answers to a plan.
 
 ghost use Rattle.std.specs.Prelude.{◌≡◌, ◌<◌, ◌≤◌, length, IfOk};
-ghost use Rattle.batch_plans.specs.Limits.{IsWithinLimits};
+ghost use Rattle.batch_plans.specs.Limits.{IsPlain, IsWithinLimits};
 ghost use Rattle.reply_texts.specs.ReplyText.{answers_text, IsAnswered};
 ghost use Rattle.due_replies.specs.Standing.{AreOfLines};
 ghost use Rattle.context_table.specs.SetUp.{IsSetUp};
@@ -22,8 +22,8 @@ use std::alloc::{AllocError, Global};
 use std::sync::Wait;
 use std::thread::Threads;
 
-// The set-up of a plan's keys and contexts. It is the same with each multiplier.
-fn set_up_by(alloc: Global, plan: &Plan, mult: Mult) -> Result<Setup, AllocError>
+/// The set-up of a plan's keys and contexts. It is the same with each multiplier.
+pub(crate) fn set_up_by(alloc: Global, plan: &Plan, mult: Mult) -> Result<Setup, AllocError>
     requires { IsWithinLimits plan.now }
     ensures set_up { IfOk result (λ s. IsSetUp plan.now s.keys s.contexts s.standing) }
     ensures keys { IfOk result (λ s. length s.keys ≡ length plan.now.keys) }
@@ -47,6 +47,7 @@ fn served_by<R: Threads + Wait + Sync, G: Gate + Sync>(
     gate: &G,
 ) -> Result<Answers, AllocError>
     requires within { IsWithinLimits plan.now }
+    requires plain { IsPlain plan.now }
     requires workers { (0 < workers) × (workers ≤ 16) }
     ensures text { IfOk result (λ answers. IsReply plan.now (answers_text plan.now answers)) }
     ensures answered { IfOk result (IsAnswered plan.now) }
@@ -68,7 +69,8 @@ fn rehearsed_by<R: Threads + Sync>(
     plan: &Plan,
     schedule: &[u8],
 ) -> Result<Answers, AllocError>
-    requires { IsWithinLimits plan.now }
+    requires within { IsWithinLimits plan.now }
+    requires plain { IsPlain plan.now }
     ensures text { IfOk result (λ answers.
         IsRehearsal plan.now schedule.now (answers_text plan.now answers)) }
     ensures answered { IfOk result (IsAnswered plan.now) }
@@ -93,6 +95,7 @@ pub(crate) fn answers_to<R: Threads + Wait + Sync, G: Gate + Sync>(
     gate: &G,
 ) -> Result<Answers, AllocError>
     requires plan { IsWithinLimits plan.now }
+    requires plain { IsPlain plan.now }
     requires command { IsWithin command.now }
     requires batch { AnswersBatches command.now }
     ensures text { IfOk result (λ answers.
@@ -102,6 +105,9 @@ pub(crate) fn answers_to<R: Threads + Wait + Sync, G: Gate + Sync>(
     match command {
         Command::Run { workers, mult } => served_by(rt, alloc, plan, *workers, *mult, gate),
         Command::Rehearse { schedule } => rehearsed_by(rt, alloc, plan, schedule.as_slice()),
-        Command::Demo { .. } | Command::Check { .. } | Command::Capsules { .. } => unreachable!(),
+        Command::Live { .. }
+        | Command::Demo { .. }
+        | Command::Check { .. }
+        | Command::Capsules { .. } => unreachable!(),
     }
 }

@@ -4,7 +4,7 @@ ghost use Rattle.std.specs.Prelude.{◌≡◌, ◌⊎◌, ◌≢◌, ℕ, List};
 ghost use Rattle.std.specs.Io.KnownBytes.{Appends};
 ghost use Rattle.batch_io.specs.Outside.{Rose};
 ghost use Rattle.field_text.specs.Printing.{AppendsPrefix};
-ghost use Rattle.batch_plans.specs.Limits.{IsWithinLimits};
+ghost use Rattle.batch_plans.specs.Limits.{IsPlain, IsWithinLimits};
 ghost use Rattle.request_frames.specs.Batch.{batch};
 ghost use Rattle.batch_words.specs.Words.{IsWithin};
 ghost use Rattle.batch_runner.specs.declared.outcomes.Outcome.{Outcome as Outcome_};
@@ -30,6 +30,7 @@ fn reply_to<R: Threads + Wait + Sync, K: Sink, G: Gate + Sync>(
     gate: &G,
 ) -> Outcome
     requires plan { IsWithinLimits plan.now }
+    requires plain { IsPlain plan.now }
     requires command { IsWithin command.now }
     requires batch { AnswersBatches command.now }
     ensures outcomes { (result ≡ Outcome.Done) ⊎ (result ≡ Outcome.WriteFault)

@@ -17,29 +17,13 @@ use batch_words::Mult;
 use capsule_frames::{CapsulePlan, read_capsules};
 use capsule_runs::{CapsuleAnswers, serve_capsules};
 use request_frames::ReadBatchFault;
-use ring_core::{Multiplier, Plain};
+use ring_core::Plain;
 use ring_karatsuba::Karatsuba;
 use ring_lanes::Lanes;
 use std::alloc::{AllocError, Global};
 use std::thread::Threads;
 
-// The replies to capsules.
-//
-// It moves contexts of 9 KiB: kept by itself for each multiplier, so that a frame has room for one's alone.
-#[inline(never)]
-fn served_with<R: Threads + Sync, M: Multiplier + Sync>(
-    rt: &R,
-    alloc: Global,
-    plan: &CapsulePlan,
-    mult: &M,
-) -> Result<CapsuleAnswers, AllocError>
-    requires { IsWithin plan.now }
-    ensures { IfOk result (λ a. AreReplies plan.now a.keys a.replies) }
-{
-    serve_capsules(rt, alloc, plan, mult)
-}
-
-// The same by the multiplier of this name. The replies are the same with each.
+// The replies to capsules, by the multiplier of this name. They are the same with each.
 fn served_by<R: Threads + Sync>(
     rt: &R,
     alloc: Global,
@@ -50,9 +34,9 @@ fn served_by<R: Threads + Sync>(
     ensures { IfOk result (λ a. AreReplies plan.now a.keys a.replies) }
 {
     match mult {
-        Mult::Plain => served_with(rt, alloc, plan, &Plain),
-        Mult::Karatsuba => served_with(rt, alloc, plan, &Karatsuba),
-        Mult::Lanes => served_with(rt, alloc, plan, &Lanes),
+        Mult::Plain => serve_capsules(rt, alloc, plan, &Plain),
+        Mult::Karatsuba => serve_capsules(rt, alloc, plan, &Karatsuba),
+        Mult::Lanes => serve_capsules(rt, alloc, plan, &Lanes),
     }
 }
 

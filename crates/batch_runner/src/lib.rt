@@ -22,6 +22,7 @@ mod demonstrating;
 mod exchanging;
 mod judging;
 mod laws;
+mod living;
 mod outcomes;
 mod reading;
 mod serving;
@@ -33,6 +34,8 @@ pub use serving::{serve_pure, serve_words};
 
 #[cfg(test)]
 mod hostile_tests;
+#[cfg(test)]
+mod live_tests;
 #[cfg(test)]
 mod runs;
 #[cfg(test)]

@@ -338,7 +338,7 @@ pub const BAD: [BadRun; 15] = [
     },
 ];
 
-// A command that answers no batch, its input and the text that it writes.
+// Another command than `run` and `rehearse`, its input and the text that it writes.
 pub struct Other {
     pub source: &'static str,
     pub words: &'static [&'static str],
@@ -347,7 +347,7 @@ pub struct Other {
     pub text: &'static str,
 }
 
-pub const OTHERS: [Other; 6] = [
+pub const OTHERS: [Other; 11] = [
     Other {
         source: "RFC 9180, A.1.1.1; the batch and its reply",
         words: &["check"],
@@ -397,5 +397,43 @@ pub const OTHERS: [Other; 6] = [
         input: "no input is read",
         outcome: Outcome::Done,
         text: "messages 1 opened 1 refused 0\nsha256 e2949e0ada9610f5a9a3f86ed8b2874de13668035dbe1b48d2f75e748c416ad0\n",
+    },
+    Other {
+        source: "RFC 9180, A.1.1.1: a context is called before it is added, then, and after it is retired",
+        words: &["live", "--workers", "1"],
+        input: "hpkebatch 2\nlane\nseal +0 436f756e742d30 4265617574792069732074727574682c20747275746820626561757479\nadd send 32 1 1 fe0e18c9f024ce43799ae393c7e8fe8fce9d218875e8227b0187c04e7d2ea1fc base 4f6465206f6e2061204772656369616e2055726e - - 9\nseal +0 436f756e742d30 4265617574792069732074727574682c20747275746820626561757479\nretire +0\nseal +0 436f756e742d30 4265617574792069732074727574682c20747275746820626561757479\nend\n",
+        outcome: Outcome::Done,
+        text: "hpkebatch 2\nlane 0\nrefused nocontext\nadded\nsealed 0 f938558b5d72f1a23810b4be2ab4f84331acc02fc97babc53a52ae8218a355a96d8770ac83d07bea87e13c512a\nretired\nrefused nocontext\njournal +0\n0 2 0 3\ntable\n0 0 0 0\n0 1 0 1\n0 2 1 2\n0 3 1 4\n0 4 0 5\nend\n",
+    },
+    Other {
+        source: "own: a name that no line adds is retired; it has no note",
+        words: &["live"],
+        input: "hpkebatch 2\nlane\nretire +1\nadd send 32 1 1 fe0e18c9f024ce43799ae393c7e8fe8fce9d218875e8227b0187c04e7d2ea1fc base 4f6465206f6e2061204772656369616e2055726e - - 9\nend\n",
+        outcome: Outcome::Done,
+        text: "hpkebatch 2\nlane 0\nrefused nocontext\nadded\njournal +0\ntable\n0 1 0 0\nend\n",
+    },
+    Other {
+        source: "own: contexts that are added with their psk inputs at fault",
+        words: &["live", "--mult", "lanes"],
+        input: "hpkebatch 2\nlane\nadd send 32 1 1 fe0e18c9f024ce43799ae393c7e8fe8fce9d218875e8227b0187c04e7d2ea1fc psk 4f6465206f6e2061204772656369616e2055726e - - 9\nadd send 32 1 1 fe0e18c9f024ce43799ae393c7e8fe8fce9d218875e8227b0187c04e7d2ea1fc base 4f6465206f6e2061204772656369616e2055726e 00 00 9\nadd send 32 1 1 fe0e18c9f024ce43799ae393c7e8fe8fce9d218875e8227b0187c04e7d2ea1fc psk 4f6465206f6e2061204772656369616e2055726e 00 - 9\nseal +0 436f756e742d30 4265617574792069732074727574682c20747275746820626561757479\nretire +1\nend\n",
+        outcome: Outcome::Done,
+        text: "hpkebatch 2\nlane 0\nrefused pskmissing\nrefused pskextra\nrefused pskpair\nrefused nocontext\nrefused nocontext\njournal +0\njournal +1\njournal +2\ntable\n0 3 0 0\n0 4 0 1\nend\n",
+    },
+    Other {
+        source: "RFC 9180, A.1.1.1 and A.1.1.2, and tools/reference: an opening of several messages doesn't find its context, and keeps no guess",
+        words: &["live", "--workers=1"],
+        input: "hpkebatch 2\nlane\nunsealall +0 436f756e742d30 f938558b5d72f1a23810b4be2ab4f84331acc02fc97babc53a52ae8218a355a96d8770ac83d07bea87e13c512a 436f756e742d30 f938558b5d72f1a23810b4be2ab4f84331acc02fc97babc53a52ae8218a355a96d8770ac83d07bea87e13c512a\nadd recv 32 1 1 fe0e18c9f024ce43799ae393c7e8fe8fce9d218875e8227b0187c04e7d2ea1fc base 4f6465206f6e2061204772656369616e2055726e - - 9\nunsealall +0 436f756e742d30 f938558b5d72f1a23810b4be2ab4f84331acc02fc97babc53a52ae8218a355a96d8770ac83d07bea87e13c512a 436f756e742d30 f938558b5d72f1a23810b4be2ab4f84331acc02fc97babc53a52ae8218a355a96d8770ac83d07bea87e13c512a\nexport +0 - 32\nend\n",
+        outcome: Outcome::Done,
+        text: "hpkebatch 2\nlane 0\nrefused nocontext\nadded\nopened 0 4265617574792069732074727574682c20747275746820626561757479\nfailed 1\nbatch 0 0\nexported 3853fe2b4035195a573ffc53856e77058e15d9ea064de3e59f4961d0095250ee\njournal +0\n0 2 0 3\n0 2 1 4\ntable\n0 0 0 0\n0 1 0 1\n0 2 1 2\n0 3 1 5\nend\n",
+    },
+    Other {
+        source: "own: a batch of version 1",
+        words: &["live"],
+        input: "hpkebatch 1\nend\n",
+        outcome: Outcome::BadBatch {
+            line: 1,
+            reason: Reason::Header,
+        },
+        text: "bad 1 header\n",
     },
 ];

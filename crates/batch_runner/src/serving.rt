@@ -21,6 +21,7 @@ use crate::batches::answer_batch;
 use crate::demonstrating::demonstrate;
 use crate::exchanging::exchange;
 use crate::judging::judge;
+use crate::living::answer_live;
 use crate::outcomes::Outcome;
 use crate::reading::{ReadStop, read_input};
 use batch_io::{Gate, PureSink, PureSource, Sink, Source};
@@ -52,6 +53,9 @@ fn answer_input<R: Threads + Wait + Sync, K: Sink, G: Gate + Sync>(
 {
     match command {
         Command::Run { .. } => answer_batch(rt, alloc, input, command, sink, gate),
+        Command::Live { workers, mult } => {
+            answer_live(rt, alloc, input, *workers, *mult, sink, gate)
+        }
         Command::Rehearse { .. } => answer_batch(rt, alloc, input, command, sink, gate),
         Command::Check { mult } => judge(rt, alloc, input, *mult, sink),
         Command::Capsules { mult } => exchange(rt, alloc, input, *mult, sink),
@@ -150,6 +154,7 @@ fn obey<R: Threads + Wait + Sync, S: Source, K: Sink, G: Gate + Sync>(
             lanes,
         } => demonstrate(rt, alloc, *seed, *messages, *lanes, sink, gate),
         Command::Run { .. } => answer(rt, alloc, command, source, sink, gate),
+        Command::Live { .. } => answer(rt, alloc, command, source, sink, gate),
         Command::Rehearse { .. } => answer(rt, alloc, command, source, sink, gate),
         Command::Check { .. } => answer(rt, alloc, command, source, sink, gate),
         Command::Capsules { .. } => answer(rt, alloc, command, source, sink, gate),
@@ -161,18 +166,19 @@ fn obey<R: Threads + Wait + Sync, S: Source, K: Sink, G: Gate + Sync>(
 ///
 /// The command grammar is `command_of` of batch_words, and what may come of an input is `MayEnd` of
 /// `specs/Text.antt`. For `run` a batch is answered by the replies along legal journals of its
-/// contexts, which the text itself prints; for `rehearse` by the replies along the journals of its
+/// contexts, which the text itself prints; for `live` along a legal table too, of the contexts that
+/// its lanes add, retire and look up; for `rehearse` by the replies along the journals of its
 /// schedule. `check` reads a batch and judges what stands behind it: it is done where that is a text
 /// that `run` may write for the batch, and else tells what is wrong. `capsules` answers messages of
 /// RFC 9458. Of an input outside the command's grammar its first bad line is told. `demo` reads
 /// nothing: it makes two batches itself, and tells how many messages were opened again.
 ///
 /// At most 67,108,865 bytes are taken, each turn of the reading takes one at least, and all memory
-/// that the answers of `run` and `rehearse` need is taken before the first call is answered. `run`
-/// serves the lanes by so many workers as the words ask for, on contexts that they share, and tells
-/// `gate` of each draw, each guess and each call that is answered; so does `demo`, by 4 workers. Both
-/// may wait. The other commands tell it nothing, and of them `capsules` alone starts threads, which
-/// are joined.
+/// that the answers of `run`, `live` and `rehearse` need is taken before the first call is answered.
+/// `run` and `live` serve the lanes by so many workers as the words ask for, on contexts that they
+/// share, and tell `gate` of each draw, each guess and each call that is answered; so does `demo`, by 4
+/// workers. These three may wait. The other commands tell it nothing, and of them `capsules` alone
+/// starts threads, which are joined.
 ///
 /// The input is what the source tells, and the text written what the sink tells; over ends that
 /// tell nothing the clauses speak of the outcomes and the counts of faults alone.

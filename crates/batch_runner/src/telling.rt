@@ -8,6 +8,7 @@ ghost use Rattle.std.specs.Io.KnownBytes.{Appends};
 ghost use Rattle.batch_io.specs.Outside.{Rose};
 ghost use Rattle.field_text.specs.Printing.{AppendsPrefix};
 ghost use Rattle.reply_texts.specs.ReplyText.{IsAnswered, answers_text, bad_text};
+ghost use Rattle.reply_texts.specs.LiveText.{live_text};
 ghost use Rattle.result_verdicts.specs.VerdictText.{verdict_text};
 ghost use Rattle.capsule_frames.specs.Text.{capsules_text};
 ghost use Rattle.demo_runs.specs.Demo.{report_text};
@@ -18,6 +19,7 @@ use batch_io::Sink;
 use capsule_frames::print_capsules;
 use capsule_runs::CapsuleAnswers;
 use demo_runs::{DemoReport, print_report};
+use live_frames::print_live;
 use request_frames::{Answers, BadBatch, Plan, Printed, print_answers, print_bad};
 use result_verdicts::{Verdict, print_verdict};
 
@@ -90,6 +92,24 @@ pub(crate) fn tell_report<K: Sink>(report: &DemoReport, sink: &mut K) -> Outcome
     ensures no_fault { result ≢ Outcome.WriteFault → K.faults sink.new ≡ K.faults sink.old }
 {
     match print_report(report, sink) {
+        Printed::Whole => Outcome::Done,
+        Printed::Failed => Outcome::WriteFault,
+    }
+}
+
+/// Writes the replies to a plan whose lanes add and retire contexts, which were answered.
+#[inline(never)]
+pub(crate) fn tell_live<K: Sink>(plan: &Plan, answers: &Answers, sink: &mut K) -> Outcome
+    requires { IsAnswered plan.now answers.now }
+    ensures outcomes { (result ≡ Outcome.Done) ⊎ (result ≡ Outcome.WriteFault) }
+    ensures whole { result ≢ Outcome.WriteFault
+        → Appends (K.written sink.old) (K.written sink.new) (live_text plan.now answers.now) }
+    ensures cut { result ≡ Outcome.WriteFault → AppendsPrefix (K.written sink.old)
+        (K.written sink.new) (live_text plan.now answers.now) }
+    ensures failed { result ≡ Outcome.WriteFault → Rose (K.faults sink.old) (K.faults sink.new) }
+    ensures no_fault { result ≢ Outcome.WriteFault → K.faults sink.new ≡ K.faults sink.old }
+{
+    match print_live(plan, answers, sink) {
         Printed::Whole => Outcome::Done,
         Printed::Failed => Outcome::WriteFault,
     }

@@ -7,7 +7,7 @@ use std::alloc::Global;
 use std::test::Fail;
 
 // A turn of a gate that holds a lane is one load: so many are enough on a busy machine.
-const MOST_TURNS: u64 = 1_000_000_000;
+pub const MOST_TURNS: u64 = 1_000_000_000;
 
 // Source: RFC 9180, A.1.1.1. Lane 0 is held when it has guessed 0, until lane 1 has opened message 0:
 // so its own message 1 is opened at the number 1, outside of its table.
@@ -79,7 +79,7 @@ fn sixteen_lanes(alloc: Global) -> Result<String, Fail> {
 }
 
 // The numbers of all `sealed` lines, in the order of the text.
-fn sealed_numbers(alloc: Global, text: &[u8]) -> Result<Vec<u64>, Fail> {
+pub fn sealed_numbers(alloc: Global, text: &[u8]) -> Result<Vec<u64>, Fail> {
     let mut numbers = Vec::new(alloc);
     let text = str::from_utf8(text)?;
     for line in text.lines() {

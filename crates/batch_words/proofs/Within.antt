@@ -7,9 +7,9 @@ use Rattle.std.specs.Str.Parse.{digits_value}
 use Rattle.std.proofs.lemmas.Bool.{leb-true}
 use Rattle.std.proofs.lemmas.List.Elements.{All-cons, All-nil}
 use Rattle.decimal_text.specs.Decimals.{decimal_from_to, is_decimal}
-use Rattle.batch_words.specs.Words.{IsWithin, Setting, are_of, capsules, check, demo, is_comma, lanes, mult, numbers, only_mult, options, options_with, rehearse, run, schedule, settings, value_of, workers}
+use Rattle.batch_words.specs.Words.{IsWithin, Setting, are_of, capsules, check, demo, is_comma, lanes, live, mult, numbers, only_mult, options, options_with, rehearse, run, schedule, settings, value_of, workers}
 use Rattle.batch_words.specs.declared.commands.Command.{Command}
-use Rattle.batch_words.specs.declared.commands.Command.TheVariants.{Capsules, Check, Demo, Rehearse, Run}
+use Rattle.batch_words.specs.declared.commands.Command.TheVariants.{Capsules, Check, Demo, Live, Rehearse, Run}
 use Rattle.batch_words.specs.declared.commands.Mult.{Mult}
 use Rattle.batch_words.specs.declared.options.Options.{Options}
 use Rattle.batch_words.proofs.Steps.{before_some}
@@ -102,15 +102,15 @@ options_within names words given e = go (settings words) e
         inner true e = with_within (value_of (codes "--workers") s) (value_of (codes "--mult") s) given e
         inner false e = cc
 
-run_within : (words : List (List ℕ)) (c : Command) → run words ≡ Some c → IsWithin c
-run_within words c e = go (options (codes "--workers" ∷ codes "--mult" ∷ []) words) refl e
+with_workers : (make : Options → Command) → ((given : Options) → (1 ≤ given.workers) × (given.workers ≤ 16) → IsWithin (make given))
+    → (words : List (List ℕ)) (c : Command) → option_map make (options (codes "--workers" ∷ codes "--mult" ∷ []) words) ≡ Some c → IsWithin c
+with_workers make each words c e = go (options (codes "--workers" ∷ codes "--mult" ∷ []) words) refl e
   where
-    go : (o : Option Options) → options (codes "--workers" ∷ codes "--mult" ∷ []) words ≡ o
-        → option_map (λ given. Run given.workers given.mult) o ≡ Some c → IsWithin c
+    go : (o : Option Options) → options (codes "--workers" ∷ codes "--mult" ∷ []) words ≡ o → option_map make o ≡ Some c → IsWithin c
     go None is e = cc
     go (Some given) is e =
-        let same : Run given.workers given.mult ≡ c = cc in
-        subst IsWithin same (options_within (codes "--workers" ∷ codes "--mult" ∷ []) words given is)
+        let same : make given ≡ c = cc in
+        subst IsWithin same (each given (options_within (codes "--workers" ∷ codes "--mult" ∷ []) words given is))
 
 numbers_within : (seed messages lanes : List ℕ) (c : Command) → numbers seed messages lanes ≡ Some c → IsWithin c
 numbers_within seed messages texts c e =
@@ -154,7 +154,11 @@ capsules_read words (Some c) is = of_mult Capsules (only_mult words) c (λ m. tt
 
 pub run_read : (words : List (List ℕ)) (o : Option Command) → o ≡ run words → IfSome o IsWithin
 run_read words None is = tt
-run_read words (Some c) is = run_within words c (sym is)
+run_read words (Some c) is = with_workers (λ given. Run given.workers given.mult) (λ given few. few) words c (sym is)
+
+pub live_read : (words : List (List ℕ)) (o : Option Command) → o ≡ live words → IfSome o IsWithin
+live_read words None is = tt
+live_read words (Some c) is = with_workers (λ given. Live given.workers given.mult) (λ given few. few) words c (sym is)
 
 pub rehearse_read : (words : List (List ℕ)) (o : Option Command) → o ≡ rehearse words → IfSome o IsWithin
 rehearse_read words None is = tt

@@ -3,7 +3,7 @@ use Rattle.std.specs.Prelude.{ℕ, ◌≤◌, ◌-◌, ◌^◌, All, ◌==◌, �
 use Rattle.std.specs.List.{list_any, slice_split, before_first, after_first}
 use Rattle.std.specs.Str.{bytes_eq}
 use Rattle.batch_words.specs.declared.commands.Command.{Command}
-use Rattle.batch_words.specs.declared.commands.Command.TheVariants.{Run, Rehearse, Demo, Check, Capsules}
+use Rattle.batch_words.specs.declared.commands.Command.TheVariants.{Run, Live, Rehearse, Demo, Check, Capsules}
 use Rattle.batch_words.specs.declared.commands.Mult.{Mult}
 use Rattle.batch_words.specs.declared.commands.Mult.TheVariants.{Plain, Karatsuba, Lanes}
 use Rattle.batch_words.specs.declared.options.Options.{Options}
@@ -108,6 +108,11 @@ abbrev pub run : List (List ℕ) → Option Command
 run words = option_map (λ given. Run given.workers given.mult)
     (options (codes "--workers" ∷ codes "--mult" ∷ []) words)
 
+-- after `live`: as after `run`
+abbrev pub live : List (List ℕ) → Option Command
+live words = option_map (λ given. Live given.workers given.mult)
+    (options (codes "--workers" ∷ codes "--mult" ∷ []) words)
+
 -- after `rehearse`: SCHEDULE
 abbrev pub rehearse : List (List ℕ) → Option Command
 rehearse [] = None
@@ -145,14 +150,16 @@ abbrev pub command_of : List (List ℕ) → Option Command
 command_of [] = None
 command_of (word ∷ more) =
     if bytes_eq word (codes "run") then run more
+    else (if bytes_eq word (codes "live") then live more
     else (if bytes_eq word (codes "rehearse") then rehearse more
     else (if bytes_eq word (codes "demo") then demo more
     else (if bytes_eq word (codes "check") then check more
-    else (if bytes_eq word (codes "capsules") then capsules more else None))))
+    else (if bytes_eq word (codes "capsules") then capsules more else None)))))
 
 -- the numbers of a command are within their ranges
 abbrev pub IsWithin : Command → Type 0
 IsWithin (Run workers mult) = (1 ≤ workers) × (workers ≤ 16)
+IsWithin (Live workers mult) = (1 ≤ workers) × (workers ≤ 16)
 IsWithin (Rehearse schedule) = (length schedule ≤ 65536) × All (λ lane. lane ≤ 15) schedule
 IsWithin (Demo seed messages lanes) =
     (1 ≤ messages) × (messages ≤ 65536) × (1 ≤ lanes) × (lanes ≤ 16)

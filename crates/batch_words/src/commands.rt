@@ -10,6 +10,12 @@ pub enum Command {
         workers: u32,
         mult: Mult,
     },
+    /// `live`: read a batch whose lanes add and retire contexts and answer it, with so many workers, from
+    /// 1 to 16.
+    Live {
+        workers: u32,
+        mult: Mult,
+    },
     /// `rehearse`: read a batch and answer it on one thread, in the order of a schedule.
     Rehearse {
         schedule: Schedule,

@@ -2,7 +2,7 @@
 
 ghost use Rattle.std.specs.Prelude.{◌≡◌, IfOk, IfSome, map};
 ghost use Rattle.std.specs.String.{string_bytes};
-ghost use Rattle.batch_words.specs.Words.{IsWithin, capsules, check, command_of, demo, numbers};
+ghost use Rattle.batch_words.specs.Words.{IsWithin, capsules, check, command_of, demo, live, numbers};
 ghost use Rattle.batch_words.specs.Words.{only_mult, rehearse, run};
 
 use crate::commands::{Command, Mult};
@@ -20,10 +20,10 @@ const MOST_LANES: u64 = 16;
 
 /// The command that the words spell, or none where they are not in the grammar.
 ///
-/// `words` are those of the command line without the program's name. The first is `run`, `rehearse`,
-/// `demo`, `check` or `capsules`.
+/// `words` are those of the command line without the program's name. The first is `run`, `live`,
+/// `rehearse`, `demo`, `check` or `capsules`.
 ///
-/// After `run` there may stand `--workers W` and `--mult M`, each at most once, in either order, as
+/// After `run` and after `live` there may stand `--workers W` and `--mult M`, each at most once, in either order, as
 /// two words or as one word with `=`. W is a decimal from 1 to 16 without leading zeros, and 4 where
 /// the option does not stand. M is `plain`, `karatsuba` or `lanes`, and `plain` where the option
 /// does not stand.
@@ -47,6 +47,7 @@ pub fn read_words(alloc: Global, words: &[String]) -> Result<Option<Command>, Ou
     };
     match first.as_str() {
         "run" => read_run(alloc, rest),
+        "live" => read_live(alloc, rest),
         "rehearse" => read_rehearse(alloc, rest),
         "demo" => read_demo(alloc, rest),
         "check" => read_check(alloc, rest),
@@ -61,6 +62,17 @@ fn read_run(alloc: Global, words: &[String]) -> Result<Option<Command>, OutOfMem
 {
     let options = read_options(alloc, &["workers", "mult"], words)?;
     Ok(options.map(|options| Command::Run {
+        workers: options.workers,
+        mult: options.mult,
+    }))
+}
+
+// The words after `live`.
+fn read_live(alloc: Global, words: &[String]) -> Result<Option<Command>, OutOfMemory>
+    ensures { IfOk result (λ command. command ≡ live (map string_bytes words.now)) }
+{
+    let options = read_options(alloc, &["workers", "mult"], words)?;
+    Ok(options.map(|options| Command::Live {
         workers: options.workers,
         mult: options.mult,
     }))

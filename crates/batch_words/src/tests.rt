@@ -2,8 +2,9 @@ use crate::{Command, Mult, Schedule, read_words};
 use std::alloc::{AllocError, Global};
 use std::test::Fail;
 
-// Own, by hand, from the rules of the command grammar: words that spell a run, and what they say.
-const RUNS: [(&[&str], u32, Mult); 15] = [
+// Own, by hand, from the rules of the command grammar: words that spell a run or, with another first
+// word, a run of `live`, and what they say.
+const RUNS: [(&[&str], u32, Mult); 20] = [
     (&["run"], 4, Mult::Plain),
     (&["run", "--workers", "1"], 1, Mult::Plain),
     (&["run", "--workers", "9"], 9, Mult::Plain),
@@ -31,6 +32,11 @@ const RUNS: [(&[&str], u32, Mult); 15] = [
         16,
         Mult::Karatsuba,
     ),
+    (&["live"], 4, Mult::Plain),
+    (&["live", "--workers", "1"], 1, Mult::Plain),
+    (&["live", "--workers=16"], 16, Mult::Plain),
+    (&["live", "--mult", "karatsuba"], 4, Mult::Karatsuba),
+    (&["live", "--mult=lanes", "--workers", "9"], 9, Mult::Lanes),
 ];
 
 // Own, by hand, from the same rules: words that spell a rehearsal, and its lanes.
@@ -66,7 +72,7 @@ const MULTS: [(&[&str], Mult); 6] = [
 ];
 
 // Own, by hand, from the same rules: words that spell no command.
-const NO_COMMANDS: [&[&str]; 104] = [
+const NO_COMMANDS: [&[&str]; 110] = [
     // no words, or another command
     &[],
     &[""],
@@ -132,6 +138,12 @@ const NO_COMMANDS: [&[&str]; 104] = [
     &["run", "--workers", "--workers=4"],
     &["run", "--mult=plain", "--mult", "plain"],
     &["run", "--mult", "plain", "--workers=4", "--mult=lanes"],
+    &["live", "--workers", "17"],
+    &["live", "--mult", "fast"],
+    &["live", "run"],
+    &["live", "-"],
+    &["live", "--workers=4", "--workers=4"],
+    &["lives"],
     // another schedule
     &["rehearse"],
     &["rehearse", ""],
@@ -182,13 +194,14 @@ const NO_COMMANDS: [&[&str]; 104] = [
 ];
 
 // Words with a word `--`, which `clap` alone would take.
-const DASHES: [&[&str]; 12] = [
+const DASHES: [&[&str]; 13] = [
     &["--", "run"],
     &["run", "--"],
     &["run", "--workers", "--", "4"],
     &["run", "--workers=4", "--"],
     &["run", "--", "--workers", "4"],
     &["run", "--mult", "plain", "--"],
+    &["live", "--"],
     &["rehearse", "--"],
     &["rehearse", "--", "0"],
     &["rehearse", "0", "--"],
@@ -205,10 +218,11 @@ fn strings(alloc: Global, words: &[&str]) -> Result<Vec<String>, AllocError> {
     Ok(strings)
 }
 
-// The workers and the multiplier of a run.
-fn run_of(command: Option<Command>) -> Option<(u32, Mult)> {
+// The workers and the multiplier of a command of this name.
+fn run_of(command: Option<Command>, name: &str) -> Option<(u32, Mult)> {
     match command {
-        Some(Command::Run { workers, mult }) => Some((workers, mult)),
+        Some(Command::Run { workers, mult }) if name == "run" => Some((workers, mult)),
+        Some(Command::Live { workers, mult }) if name == "live" => Some((workers, mult)),
         _ => None,
     }
 }
@@ -227,7 +241,11 @@ fn words_of_a_run_are_read(rt: HostRuntime) -> Result<(), Fail> {
     for (words, workers, mult) in &RUNS {
         let (words, workers, mult) = (*words, *workers, *mult);
         let read = read_words(alloc, &strings(alloc, words)?)?;
-        assert_eq!(rt; run_of(read), Some((workers, mult)), "{words:?}");
+        assert_eq!(rt;
+            run_of(read, words.first().copied().unwrap_or("")),
+            Some((workers, mult)),
+            "{words:?}"
+        );
     }
     Ok(())
 }

@@ -1,7 +1,10 @@
 ghost use Rattle.std.specs.Prelude.{◌≡◌, []};
 ghost use Rattle.call_places.specs.Entries.{last_of};
 
-use crate::{Act, Entry, Item, Listed, Mark, Place, Span, Step, later_entries_change_no_number};
+use crate::{
+    Act, Entry, Item, Listed, Mark, Place, Span, Step, a_name_is_live_until_it_is_retired,
+    a_note_changes_its_own_name, later_entries_change_no_number,
+};
 use std::collections::LinkedList;
 use std::test::Fail;
 
@@ -87,6 +90,8 @@ fn a_log_is_listed_and_shows_its_last_entry(rt: HostRuntime) -> Result<(), Fail>
         call = call.wrapping_add(1);
     }
     later_entries_change_no_number(&log.entries, &log.entries);
+    a_note_changes_its_own_name();
+    a_name_is_live_until_it_is_retired();
     Ok(())
 }
 

@@ -1,4 +1,3 @@
-pub mod Stamps
 pub mod Adding
 pub mod Blocks
 pub mod OneMore

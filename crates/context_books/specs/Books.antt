@@ -1,9 +1,10 @@
 -- What contracts see of a book, and what a draw adds to it.
-use Rattle.std.specs.Prelude.{ℕ, ◌≡◌, ◌+◌, ◌<◌, ◌≤◌, nat_lt, Bool, if◌then◌else◌, List, length, slice_index, sum}
+use Rattle.std.specs.Prelude.{ℕ, ◌≡◌, ◌<◌, ◌≤◌, nat_lt, Bool, if◌then◌else◌, List, length, slice_index, sum}
 use Rattle.call_places.specs.declared.entries.Entry.{Entry}
 use Rattle.call_places.specs.declared.entries.Step.{Step}
 use Rattle.call_places.specs.declared.entries.Step.TheVariants.{Sealed, SealLimit, Opened, Failed, OpenLimit, Note}
 use Rattle.call_places.specs.Entries.{own, seq_of, StampsRise}
+use Rattle.call_places.specs.Quotas.{AreLeft}
 use Rattle.legal_journals.specs.Entries.{AtNumbers}
 use Rattle.context_books.specs.declared.book.Draw.{Draw}
 use Rattle.context_books.specs.declared.book.Draw.TheVariants.{Number, Limit}
@@ -58,10 +59,7 @@ pub record IsBook (limit seq : ℕ) (quotas left : List ℕ) (entries : List Ent
   pub seq_is : seq ≡ seq_of entries
   pub most : seq ≤ limit
   pub limits : KeepsLimit limit entries
-  pub lanes : length left ≡ length quotas
-  pub each : (lane : ℕ) → lane < length quotas
-      → slice_index left lane + length (own lane entries) ≡ slice_index quotas lane
-  pub all : sum left + length entries ≡ sum quotas
+  pub places : AreLeft quotas left entries
   pub few : sum quotas ≤ 65536
   pub room : sum quotas ≤ capacity
   pub rise : StampsRise entries

@@ -69,6 +69,8 @@ module _ (plan : Plan) (contexts : List (Option ContextView)) where
       same (calls.Unseal context item) e = context_is _ context e
       same (calls.UnsealAll context first count) e = context_is _ context e
       same (calls.Export context exporter size) e = absurd (let f : None ≡ Some (c, x) = e in cc)
+      same (calls.Add name) e = absurd (let f : None ≡ Some (c, x) = e in cc)
+      same (calls.Retire name) e = absurd (let f : None ≡ Some (c, x) = e in cc)
 
   calls_there : (calls : List CallLine) (k i c : ℕ) (x : Item)
       → item_in_call (slice_get (map (ask_of plan contexts) calls) k) i ≡ Some (c, x)

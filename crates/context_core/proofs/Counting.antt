@@ -63,6 +63,8 @@ module _ (plan : Plan) (contexts : List (Option ContextView)) where
         length-take count (drop first plan.items),
       )
   ask_size (calls.Export context exporter size) None = omega arith
+  ask_size (calls.Add name) None = omega arith
+  ask_size (calls.Retire name) None = omega arith
 
   pub asks_size : (calls : List CallLine)
       → sum_by size (map (ask_of plan contexts) calls) ≤ sum_by items_of calls

@@ -494,6 +494,8 @@ module _ (plan : Plan) (contexts : List (Option ContextView)) (within : IsWithin
             guesses_all due l asks k of.guess of.guesses c _ at
             ∙ ap (λ n. moved_to (lane_at asks k core_steps.HasGuess (due n) of.guesses) []) same
         from (calls.Export c exporter size) o at same = absurd o
+        from (calls.Add name) o at same = absurd o
+        from (calls.Retire name) o at same = absurd o
 
     pub guessed_follows : (new : Lane) (guess : ℕ) → lane.stage ≡ Fresh
         → new.call ≡ k → new.stage ≡ Guessed guess → new.progress ≡ lane.progress
@@ -653,6 +655,10 @@ module _ (plan : Plan) (contexts : List (Option ContextView)) (within : IsWithin
       opened_done (calls.Seal c item) is new mid puts kept rows steps next fresh =
           absurd (subst IsOpening is opening)
       opened_done (calls.Export c exporter size) is new mid puts kept rows steps next fresh =
+          absurd (subst IsOpening is opening)
+      opened_done (calls.Add name) is new mid puts kept rows steps next fresh =
+          absurd (subst IsOpening is opening)
+      opened_done (calls.Retire name) is new mid puts kept rows steps next fresh =
           absurd (subst IsOpening is opening)
       opened_done (calls.Unseal c item) is new mid puts kept rows steps next fresh =
           let aad = span_bytes plan.pool item.aad in

@@ -1,5 +1,5 @@
 -- The small batches of the tests are within the limits.
-use Rattle.std.proofs.Common.{◌≡◌, ◌<◌, ◌≤◌, ◌^◌, ℕ, ◌+◌, ◌&&◌, Bool, true, List, [], ◌∷◌, length, sym, refl, subst, arith, None, inr, eqb-true}
+use Rattle.std.proofs.Common.{◌≡◌, ◌<◌, ◌≤◌, ◌^◌, ℕ, ◌+◌, ◌&&◌, Bool, true, List, [], ◌∷◌, length, sym, refl, ap, ◌∙◌, ◌*◌, subst, arith, None, inr, eqb-true}
 use Rattle.std.specs.Prelude.{nat_le, nat_eq}
 use Rattle.std.specs.List.{All, list_all}
 use Rattle.std.proofs.lemmas.List.Elements.{All-nil, All-cons}
@@ -8,10 +8,18 @@ use Rattle.call_places.specs.declared.spans.Item.{Item}
 use Rattle.key_schedule.specs.declared.modes.Role.{Role}
 use Rattle.key_schedule.specs.declared.modes.Role.TheVariants.{Sender, Recipient}
 use Rattle.legal_journals.proofs.Truths.{and_left, and_right, le_true}
+use Rattle.hkdf_labelled.specs.declared.suites.Kdf.{Kdf}
+use Rattle.hkdf_labelled.specs.declared.suites.Kdf.TheVariants.{Sha256}
+use Rattle.hkdf_labelled.specs.Suites.{hash_size}
+use Rattle.hpke_context.specs.Contexts.{ContextView, export_limit}
 use Rattle.batch_plans.specs.declared.plan.Plan.{Plan}
 use Rattle.batch_plans.specs.declared.plan.CallLine.{CallLine}
-use Rattle.batch_plans.specs.declared.plan.CallLine.TheVariants.{Seal, Unseal, UnsealAll, Export}
-use Rattle.batch_plans.specs.Limits.{most_plaintext, most_ciphertext, IsField, IsItemWithin, IsCallWithin, IsContextWithin, IsKeyWithin, IsWithinLimits, all_items, all_sizes, all_texts}
+use Rattle.batch_plans.specs.declared.plan.CallLine.TheVariants.{Seal, Unseal, UnsealAll, Export, Add, Retire}
+use Rattle.batch_plans.specs.declared.replies.KeyReply.{KeyReply}
+use Rattle.batch_plans.specs.declared.replies.ContextReply.{ContextReply}
+use Rattle.batch_plans.specs.declared.replies.Answers.{Answers}
+use Rattle.batch_plans.specs.Room.{room_for}
+use Rattle.batch_plans.specs.Limits.{most_plaintext, most_ciphertext, IsField, IsItemWithin, IsCallWithin, IsContextWithin, IsKeyWithin, IsPlain, IsPlainCall, IsWithinLimits, all_items, all_sizes, all_texts}
 use Rattle.context_core.specs.Tests.{is_small_span, is_small_item, is_small_call, are_small, no_span, line_of, two_lines}
 
 all_of : {X : Type 0} (test : X → Bool) (P : X → Type 0) → ((x : X) → test x ≡ true → P x)
@@ -64,6 +72,28 @@ small_call (Export context exporter size) passed =
           (and_right (nat_le context 1) (is_small_span exporter) both),
       omega arith,
     )
+small_call (Add name) passed = absurd cc
+small_call (Retire name) passed = absurd cc
+
+plain_call : (call : CallLine) → is_small_call call ≡ true → IsPlainCall call
+plain_call (Seal context item) passed =
+    let low = le_true context 1 (and_left (nat_le context 1) (is_small_item item) passed) in
+    omega arith
+plain_call (Unseal context item) passed =
+    let low = le_true context 1 (and_left (nat_le context 1) (is_small_item item) passed) in
+    omega arith
+plain_call (UnsealAll context first count) passed =
+    let front = nat_le context 1 && nat_le 1 count in
+    let both = and_left front (nat_le (first + count) 14) passed in
+    let low = le_true context 1 (and_left (nat_le context 1) (nat_le 1 count) both) in
+    omega arith
+plain_call (Export context exporter size) passed =
+    let front = nat_le context 1 && is_small_span exporter in
+    let both = and_left front (nat_le size 65535) passed in
+    let low = le_true context 1 (and_left (nat_le context 1) (is_small_span exporter) both) in
+    omega arith
+plain_call (Add name) passed = absurd cc
+plain_call (Retire name) passed = absurd cc
 
 no_field : (most : ℕ) → IsField most 1024 no_span
 no_field most = record { in_pool = omega arith; size = omega arith }
@@ -91,6 +121,7 @@ module _ (pool : List ℕ) (limit : ℕ) (items : List Item) (lanes : List (List
     contexts = two_lines limit;
     items = items;
     lanes = lanes;
+    added = 0;
   }
 
   pub small_plan : IsWithinLimits plan
@@ -126,6 +157,7 @@ module _ (pool : List ℕ) (limit : ℕ) (items : List Item) (lanes : List (List
         pool = omega arith;
         keys = omega arith;
         contexts = omega arith;
+        added = omega arith;
         lanes = omega arith;
         items = omega arith;
         exported = omega arith;
@@ -137,3 +169,40 @@ module _ (pool : List ℕ) (limit : ℕ) (items : List Item) (lanes : List (List
         call_lines = subst (λ n. All (All (IsCallWithin (length items) n)) lanes) (sym size)
             (subst (λ n. All (All (IsCallWithin n 1024)) lanes) (sym count) call_lines);
       }
+
+  -- no context is added or retired
+  pub plain_plan : IsPlain plan
+  plain_plan =
+      let rest = nat_eq (length items) 14 && (list_all (λ calls. list_all is_small_call calls) lanes
+      && (nat_le (length lanes) 2 && (nat_le (all_items lanes) 14 && (nat_le (all_sizes lanes) 65535
+      && nat_le (all_texts items lanes) 1024)))) in
+      let small = list_all (λ calls. list_all is_small_call calls) lanes in
+      let behind = nat_le (length lanes) 2 && (nat_le (all_items lanes) 14
+      && (nat_le (all_sizes lanes) 65535 && nat_le (all_texts items lanes) 1024)) in
+      let calls = and_left small behind (and_right (nat_eq (length items) 14) (small && behind)
+      (and_right (list_all is_small_item items) rest passed)) in
+      record {
+        added = refl;
+        calls = all_of (λ calls. list_all is_small_call calls) (All IsPlainCall)
+            (λ calls ok. all_of is_small_call IsPlainCall plain_call calls ok) lanes calls;
+      }
+
+-- ---- the room for such a plan
+
+export_limit_is : (view : ContextView) → view.suite.kdf ≡ Sha256 → export_limit view ≡ 8160
+export_limit_is view is = ap (λ (kdf : Kdf). 255 * hash_size kdf) is
+
+-- the room for a plan whose contexts stay, by the contexts that stand
+pub plain_room : (plan : Plan) (answers : Answers) (keys : List KeyReply)
+    (replies : List ContextReply) (first second : ContextView)
+    → answers ≡ room_for plan keys replies (8160 ∷ 8160 ∷ [])
+    → first.suite.kdf ≡ Sha256 → second.suite.kdf ≡ Sha256
+    → answers ≡ room_for plan answers.keys answers.contexts
+    (export_limit first ∷ export_limit second ∷ [])
+plain_room plan answers keys replies first second made first_is second_is =
+    let limits : List ℕ = 8160 ∷ 8160 ∷ [] in
+    let limits_are : export_limit first ∷ export_limit second ∷ [] ≡ limits =
+    (λ i. export_limit_is first first_is i ∷ export_limit_is second second_is i ∷ []) in
+    made
+    ∙ (λ i. room_for plan (sym (ap (λ (a : Answers). a.keys) made) i)
+    (sym (ap (λ (a : Answers). a.contexts) made) i) (sym limits_are i))

@@ -55,6 +55,8 @@ IsSeal (calls.Seal context item) = Unit {0}
 IsSeal (calls.Unseal context item) = ⊥
 IsSeal (calls.UnsealAll context first count) = ⊥
 IsSeal (calls.Export context exporter size) = ⊥
+IsSeal (calls.Add name) = ⊥
+IsSeal (calls.Retire name) = ⊥
 
 -- an opening of several messages keeps its guess
 abbrev pub with_guess : Progress → CallLine → Guess → Progress
@@ -62,6 +64,8 @@ with_guess p (calls.Seal context item) guess = p
 with_guess p (calls.Unseal context item) guess = p
 with_guess p (calls.UnsealAll context first count) guess = with_batch p guess
 with_guess p (calls.Export context exporter size) guess = p
+with_guess p (calls.Add name) guess = p
+with_guess p (calls.Retire name) guess = p
 
 -- ---- the run of a state of the core
 

@@ -128,6 +128,7 @@ impl Lane {
                 export(&mut self.progress, context, exporter_context, size);
                 self.call += 1;
             }
+            CallLine::Add { .. } | CallLine::Retire { .. } => unreachable!(),
         }
     }
 

@@ -2,7 +2,7 @@
 
 ghost use Rattle.std.specs.Prelude.{◌≡◌, ◌≤◌, ◌∷◌, [], IfOk, IsTrue, length};
 ghost use Rattle.key_schedule.specs.declared.modes.Role.TheVariants.{Sender, Recipient};
-ghost use Rattle.batch_plans.specs.Limits.{IsWithinLimits};
+ghost use Rattle.batch_plans.specs.Limits.{IsPlain, IsWithinLimits};
 ghost use Rattle.context_core.specs.Tests.{line_of, two_lines, IsOfTests, are_small};
 
 use crate::rehearse;
@@ -168,6 +168,7 @@ fn plan_of(alloc: Global, limit: u64, first: &[CallLine], second: &[CallLine]) -
     requires limit { 1 ≤ limit }
     requires small { IsTrue (are_small ITEMS (first.now ∷ second.now ∷ [])) }
     ensures within { IfOk result (λ plan. IsWithinLimits plan) }
+    ensures plain { IfOk result (λ plan. IsPlain plan) }
     ensures keys { IfOk result (λ plan. plan.keys ≡ []) }
     ensures contexts { IfOk result (λ plan. plan.contexts ≡ two_lines limit) }
 {
@@ -183,6 +184,7 @@ fn plan_of(alloc: Global, limit: u64, first: &[CallLine], second: &[CallLine]) -
         contexts,
         items,
         lanes,
+        added: 0,
     })
 }
 

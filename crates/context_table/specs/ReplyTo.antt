@@ -1,10 +1,12 @@
 -- The replies that a plan may have.
 use Rattle.std.specs.Prelude.{◌≡◌, ℕ, List, Option}
+use Rattle.call_places.specs.declared.entries.Entry.{Entry}
 use Rattle.call_places.specs.declared.entries.Mark.{Mark}
 use Rattle.hpke_context.specs.Contexts.{ContextView}
 use Rattle.batch_plans.specs.declared.plan.Plan.{Plan}
 use Rattle.batch_plans.specs.declared.replies.KeyReply.{KeyReply}
 use Rattle.batch_plans.specs.declared.replies.ContextReply.{ContextReply}
+use Rattle.due_replies.specs.Live.{IsAllowedLive, live_run_text}
 use Rattle.due_replies.specs.Runs.{IsAllowed, run_text}
 use Rattle.context_table.specs.SetUp.{IsSetUp}
 
@@ -28,4 +30,31 @@ pub record IsReply (plan : Plan) (text : List ℕ) : Type 0 where
     contexts = standing;
     journals = journals;
     guesses = guesses;
+  })
+
+-- The same of a plan whose lanes add and retire contexts. The text prints the table too, whose notes
+-- are one legal history with the journals.
+pub record IsLiveReply (plan : Plan) (text : List ℕ) : Type 0 where
+  pub keys : List KeyReply
+  pub contexts : List ContextReply
+  pub standing : List (Option ContextView)
+  pub set_up : IsSetUp plan keys contexts standing
+  pub journals : List (List Mark)
+  pub guesses : List (List ℕ)
+  pub notes : List Entry
+  pub allowed : IsAllowedLive (record {
+    plan = plan;
+    replies = contexts;
+    standing = standing;
+    journals = journals;
+    guesses = guesses;
+    notes = notes;
+  })
+  pub text_is : text ≡ live_run_text keys (record {
+    plan = plan;
+    replies = contexts;
+    standing = standing;
+    journals = journals;
+    guesses = guesses;
+    notes = notes;
   })

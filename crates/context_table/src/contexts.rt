@@ -151,9 +151,27 @@ fn parts(outcome: Result<Standing, ContextRefusal>) -> (ContextReply, Option<Con
     }
 }
 
-// Puts a context into the next slot, or leaves that empty.
+// The context of these parts.
 //
-// It moves contexts of 9 KiB: kept by itself, so that no caller's frame has room for them.
+// It makes the tables of a key, 9 KiB: kept by itself, as all that moves contexts, so that no frame
+// below it has room for them.
+#[inline(never)]
+fn slot(parts: Option<ContextParts>) -> Option<Context>
+    ensures { result ≡ parts }
+{
+    Some(parts?.into_context())
+}
+
+// Puts a context into the next slot, or leaves that empty.
+#[inline(never)]
+fn push(slots: &mut Vec<Option<Context>>, slot: Option<Context>) -> Result<(), OutOfMemory>
+    ensures { OnOk result (slots.new.items ≡ slots.old.items ++ slot ∷ []) }
+{
+    slots.push(slot)?;
+    Ok(())
+}
+
+// Puts the context of these parts into the next slot.
 #[inline(never)]
 fn push_slot(
     slots: &mut Vec<Option<Context>>,
@@ -161,11 +179,7 @@ fn push_slot(
 ) -> Result<(), OutOfMemory>
     ensures { OnOk result (slots.new.items ≡ slots.old.items ++ parts ∷ []) }
 {
-    match parts {
-        Some(parts) => slots.push(Some(parts.into_context()))?,
-        None => slots.push(None)?,
-    }
-    Ok(())
+    push(slots, slot(parts))
 }
 
 /// The replies to context lines, and the contexts that stand, each in the slot of its number.

@@ -123,6 +123,7 @@ fn plan_of(
         contexts: PlainList::from_vec(contexts),
         items: PlainList::from_vec(Vec::new(alloc)),
         lanes: PlainList::from_vec(Vec::new(alloc)),
+        added: 0,
     }
 }
 

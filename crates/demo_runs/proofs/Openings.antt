@@ -10,7 +10,7 @@ use Rattle.legal_journals.proofs.Places.{not_same, same}
 use Rattle.batch_plans.specs.declared.plan.CallLine.{CallLine}
 use Rattle.batch_plans.specs.declared.plan.CallLine.TheVariants.{UnsealAll}
 use Rattle.batch_plans.specs.declared.replies.Reply.{Reply}
-use Rattle.batch_plans.specs.declared.replies.Reply.TheVariants.{Blank, Sealed, Opened, Failed, Limit, Exported, Refused}
+use Rattle.batch_plans.specs.declared.replies.Reply.TheVariants.{Blank, Sealed, Opened, Failed, Limit, Exported, Refused, Added, Retired}
 use Rattle.batch_plans.specs.declared.replies.Batch.{Batch as Guess}
 use Rattle.reply_texts.specs.Lines.{reply_line, batch_line}
 use Rattle.reply_texts.specs.ReplyText.{calls_lines, guess_line}
@@ -41,6 +41,8 @@ no_batch_reply pool (Failed number) g m e = let f = heads _ _ _ _ e in omega ari
 no_batch_reply pool Limit g m e = let f = heads _ _ _ _ e in omega arith
 no_batch_reply pool (Exported text) g m e = let f = heads _ _ _ _ e in omega arith
 no_batch_reply pool (Refused refusal) g m e = let f = heads _ _ _ _ e in omega arith
+no_batch_reply pool Added g m e = let f = heads _ _ _ _ e in omega arith
+no_batch_reply pool Retired g m e = let f = heads _ _ _ _ e in omega arith
 
 -- ---- what a lane of openings is answered
 
@@ -113,6 +115,8 @@ module _ (pool : List ℕ) where
   no_batch_one first m calls (Failed number ∷ replies) later h = other m (Failed number) replies calls later h
   no_batch_one first m calls (Limit ∷ replies) later h = other m Limit replies calls later h
   no_batch_one first m calls (Exported text ∷ replies) later h = other m (Exported text) replies calls later h
+  no_batch_one first m calls (Added ∷ replies) later h = other m Added replies calls later h
+  no_batch_one first m calls (Retired ∷ replies) later h = other m Retired replies calls later h
   no_batch_one first m calls (Refused refusal ∷ replies) later h = first_reply (Refused refusal) (lines_by calls replies []) h
 
   no_batch : (calls : List CallLine) (replies : List Reply) → AreOpenings calls → IsBatchHead (lines_by calls replies []) → ⊥
@@ -174,4 +178,7 @@ module _ (pool : List ℕ) where
   call_parted context first m n g x calls (Limit ∷ replies) guesses rest all e = served m n g x calls (Limit ∷ replies) guesses rest all e
   call_parted context first m n g x calls (Exported text ∷ replies) guesses rest all e =
       served m n g x calls (Exported text ∷ replies) guesses rest all e
+  call_parted context first m n g x calls (Added ∷ replies) guesses rest all e = served m n g x calls (Added ∷ replies) guesses rest all e
+  call_parted context first m n g x calls (Retired ∷ replies) guesses rest all e =
+      served m n g x calls (Retired ∷ replies) guesses rest all e
   call_parted context first m n g x calls (Refused refusal ∷ replies) guesses rest all e = absurd (not_refused m n g x _ _ rest e)

@@ -1,7 +1,7 @@
 //! A batch is served as `run` serves it without options.
 
 ghost use Rattle.std.specs.Prelude.{◌≡◌, length, IfOk};
-ghost use Rattle.batch_plans.specs.Limits.{IsWithinLimits};
+ghost use Rattle.batch_plans.specs.Limits.{IsWithinLimits, IsPlain};
 ghost use Rattle.reply_texts.specs.ReplyText.{IsAnswered};
 ghost use Rattle.due_replies.specs.Standing.{AreOfLines};
 ghost use Rattle.lane_workers.specs.Gathered.{AreOfARun};
@@ -27,6 +27,7 @@ pub(crate) fn serve<R: Threads + Wait + Sync, G: Gate + Sync>(
     gate: &G,
 ) -> Result<Answers, AllocError>
     requires within { IsWithinLimits plan.now }
+    requires plain { IsPlain plan.now }
     requires keys { length setup.keys ≡ length plan.now.keys }
     requires contexts { length setup.contexts ≡ length plan.now.contexts }
     requires lines { AreOfLines plan.now.contexts setup.standing }

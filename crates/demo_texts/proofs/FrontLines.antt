@@ -1,5 +1,5 @@
 -- The first five lines.
-use Rattle.std.proofs.Common.{◌≡◌, ℕ, suc, zero, ◌/◌, ◌%◌, ◌^◌, ◌<◌, ◌==◌, true, List, [], ◌∷◌, ◌++◌, length, codes, replicate, Ok, Some, refl, sym, ap, ◌∙◌, append_assoc, append-nil, arith}
+use Rattle.std.proofs.Common.{◌≡◌, ℕ, suc, zero, ◌/◌, ◌%◌, ◌^◌, ◌<◌, ◌==◌, true, false, List, [], ◌∷◌, ◌++◌, length, codes, replicate, Ok, Some, refl, sym, ap, ◌∙◌, append_assoc, append-nil, arith}
 use Rattle.std.specs.Int.{bytes_high_first, byte_at}
 use Rattle.hex.specs.Hex.{encode_lower, decode_pairs, IsBytes}
 use Rattle.hex.proofs.OnLiterals.{hex_on_literals}
@@ -52,7 +52,7 @@ rand_pieces : (hex : List ℕ) → pieces_of hex ≡ hex ∷ []
 rand_pieces hex e = rw e refl
 
 rand_read : (plan : Plan) (hex bs : List ℕ) → bytes 32 [] hex ≡ Ok (pooled [] bs) → (length bs == 32) ≡ true
-    → with_line plan Rand (hex ∷ []) ≡ Ok (record plan { seed = Some bs })
+    → with_line false plan Rand (hex ∷ []) ≡ Ok (record plan { seed = Some bs })
 unfolding with_rand rand next
 rand_read plan hex bs read size = rw (read, size) refl
 
@@ -79,7 +79,7 @@ reads_rand seed =
 abbrev with_pair : ℕ → Plan
 with_pair seed = record (with_seed seed) { keys = Generate ∷ [] }
 
-key_read : (seed : ℕ) → with_line (with_seed seed) (Key keys.Generate) [] ≡ Ok (with_pair seed)
+key_read : (seed : ℕ) → with_line false (with_seed seed) (Key keys.Generate) [] ≡ Ok (with_pair seed)
 unfolding with_key
 key_read seed = refl
 
@@ -96,7 +96,7 @@ abbrev schedule_fields : List (List ℕ)
 schedule_fields = codes "base" ∷ codes "64656d6f" ∷ codes "-" ∷ codes "-" ∷ codes "65536" ∷ []
 
 sender_read : (seed : ℕ)
-    → with_line (with_pair seed) (Context contexts.Send) (codes "1" ∷ codes "1" ∷ codes "0" ∷ schedule_fields)
+    → with_line false (with_pair seed) (Context contexts.Send) (codes "1" ∷ codes "1" ∷ codes "0" ∷ schedule_fields)
     ≡ Ok (with_sender seed)
 unfolding with_context send schedule next hex_on_literals decode_pairs
 sender_read seed = refl
@@ -110,7 +110,7 @@ reads_sender seed =
     (Context contexts.Send) refl refl refl refl (sender_read seed))
 
 recipient_read : (seed : ℕ)
-    → with_line (with_sender seed) (Context contexts.Recv)
+    → with_line false (with_sender seed) (Context contexts.Recv)
     (codes "1" ∷ codes "1" ∷ codes "0" ∷ codes "@0" ∷ schedule_fields)
     ≡ Ok (set_up_plan seed)
 unfolding with_context recv schedule next hex_on_literals decode_pairs

@@ -1,5 +1,5 @@
 -- Lines that open ciphertexts.
-use Rattle.std.proofs.Common.{◌≡◌, ℕ, suc, ◌+◌, ◌*◌, ◌%◌, ◌<◌, ◌≤◌, nat_le, nat_lt, true, List, [], ◌∷◌, ◌++◌, length, map, codes, Ok, refl, sym, ap, ◌∙◌, append_assoc, append-nil, length-append, arith}
+use Rattle.std.proofs.Common.{◌≡◌, ℕ, suc, ◌+◌, ◌*◌, ◌%◌, ◌<◌, ◌≤◌, nat_le, nat_lt, true, false, List, [], ◌∷◌, ◌++◌, length, map, codes, Ok, refl, sym, ap, ◌∙◌, append_assoc, append-nil, length-append, arith}
 use Rattle.std.specs.Prelude.{sum_by}
 use Rattle.std.proofs.lemmas.List.Sums.{sum_by-cons}
 use Rattle.std.specs.List.{flat_map}
@@ -108,7 +108,7 @@ length-pairs [] = refl
 length-pairs (ct ∷ cts) = omega (arith, length-pairs cts)
 
 form_read : (pool : List ℕ) (cts : List (List ℕ)) → AreCiphertexts cts → 0 < length cts
-    → unseal_all pool (codes "1" ∷ flat_map pair_of cts) ≡ Ok (1, made pool cts, grown pool cts)
+    → unseal_all false pool (codes "1" ∷ flat_map pair_of cts) ≡ Ok (1, made pool cts, grown pool cts)
 unfolding unseal_all next
 form_read pool cts are some =
     let size = length-pairs cts in
@@ -145,7 +145,7 @@ with_opening plan cts =
 
 opening_read : (plan : Plan) (cts : List (List ℕ)) → AreCiphertexts cts → 0 < length cts → length cts ≤ 256
     → all_items plan.lanes + length cts ≤ 65536 → all_sizes plan.lanes ≡ 0
-    → with_line plan (Call words.UnsealAll) (codes "1" ∷ flat_map pair_of cts) ≡ Ok (with_opening plan cts)
+    → with_line false plan (Call words.UnsealAll) (codes "1" ∷ flat_map pair_of cts) ≡ Ok (with_opening plan cts)
 unfolding with_several counted
 opening_read plan cts are some few items sizes =
     let count = length-made plan.pool cts in

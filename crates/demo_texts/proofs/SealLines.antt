@@ -1,5 +1,5 @@
 -- Lanes that seal.
-use Rattle.std.proofs.Common.{◌≡◌, ℕ, suc, ◌+◌, ◌<◌, ◌≤◌, nat_le, true, List, [], ◌∷◌, ◌++◌, length, map, codes, Ok, refl, sym, ap, subst, ◌∙◌, append_assoc, append-nil, length-append, arith}
+use Rattle.std.proofs.Common.{◌≡◌, ℕ, suc, ◌+◌, ◌<◌, ◌≤◌, nat_le, true, false, List, [], ◌∷◌, ◌++◌, length, map, codes, Ok, refl, sym, ap, subst, ◌∙◌, append_assoc, append-nil, length-append, arith}
 use Rattle.std.specs.Prelude.{sum_by}
 use Rattle.std.specs.List.{flat_map, AllByRecursion, All}
 use Rattle.std.proofs.lemmas.List.{map-append, length-map, drop_at}
@@ -104,17 +104,17 @@ with_seal plan = record plan { pool = plan.pool ++ sealed_text; lanes = add_call
 abbrev hex_of_text : List ℕ
 hex_of_text = codes "000102030405060708090a0b0c0d0e0f101112131415161718191a1b1c1d1e1f202122232425262728292a2b2c2d2e2f303132333435363738393a3b3c3d3e3f"
 
-form_read : (pool : List ℕ) → seal pool (codes "0" ∷ codes "-" ∷ hex_of_text ∷ [])
+form_read : (pool : List ℕ) → seal false pool (codes "0" ∷ codes "-" ∷ hex_of_text ∷ [])
     ≡ Ok (Seal 0 (record { aad = span (length pool) 0; text = span (length (pool ++ [])) 64 }), (pool ++ []) ++ sealed_text)
 unfolding one_item item next hex_on_literals decode_pairs
 form_read pool = refl
 
-form_same : (pool : List ℕ) → seal pool (codes "0" ∷ codes "-" ∷ hex_of_text ∷ [])
+form_same : (pool : List ℕ) → seal false pool (codes "0" ∷ codes "-" ∷ hex_of_text ∷ [])
     ≡ Ok (Seal 0 (record { aad = span (length pool) 0; text = span (length pool) 64 }), pool ++ sealed_text)
 form_same pool = rw append-nil at (form_read pool)
 
 seal_read : (plan : Plan) → all_items plan.lanes + 1 ≤ 65536 → all_sizes plan.lanes ≡ 0
-    → with_line plan (Call words.Seal) (codes "0" ∷ codes "-" ∷ hex_of_text ∷ []) ≡ Ok (with_seal plan)
+    → with_line false plan (Call words.Seal) (codes "0" ∷ codes "-" ∷ hex_of_text ∷ []) ≡ Ok (with_seal plan)
 unfolding with_one counted
 seal_read plan few sizes =
     let items : nat_le (all_items plan.lanes + 1) 65536 ≡ true = le-leb _ _ few in
@@ -201,7 +201,7 @@ some_seals seed done k total plan (j ∷ js) s few =
 abbrev pub with_one_lane : Plan → Plan
 with_one_lane plan = record plan { lanes = plan.lanes ++ [] ∷ [] }
 
-lane_read : (plan : Plan) → length plan.lanes + 1 ≤ 16 → with_line plan Lane [] ≡ Ok (with_one_lane plan)
+lane_read : (plan : Plan) → length plan.lanes + 1 ≤ 16 → with_line false plan Lane [] ≡ Ok (with_one_lane plan)
 unfolding with_lane
 lane_read plan few =
     let test : nat_le (length plan.lanes + 1) 16 ≡ true = le-leb _ _ few in

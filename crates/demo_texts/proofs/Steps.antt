@@ -40,7 +40,7 @@ reads_line plan new text line cut read = record {
 pub line_is : (plan new : Plan) (line piece : List ℕ) (pieces : List (List ℕ)) (word : LineWord)
     → pieces_of line ≡ piece ∷ pieces → bytes_eq piece (codes "end") ≡ false
     → line_word plan.version piece ≡ Ok word → may_stand word plan ≡ true
-    → with_line plan word pieces ≡ Ok new → line_after batch_lines plan line ≡ Ok (More, new)
+    → with_line false plan word pieces ≡ Ok new → line_after batch_lines plan line ≡ Ok (More, new)
 unfolding line_after next
 line_is plan new line piece pieces word cut no_end word_is stands read =
     rw (cut, no_end, word_is, stands, read) refl

@@ -60,6 +60,7 @@ set_up_plan seed =
       contexts = sender_line ∷ recipient_line ∷ [];
       items = [];
       lanes = [];
+      added = 0;
     }
 
 -- a plan that begins with these lines

@@ -1,7 +1,7 @@
 //! The plans that the texts spell.
 
 ghost use Rattle.std.specs.Prelude.{◌≡◌, ◌<◌, ◌≤◌, length, IfOk};
-ghost use Rattle.batch_plans.specs.Limits.{IsWithinLimits};
+ghost use Rattle.batch_plans.specs.Limits.{IsWithinLimits, IsPlain};
 ghost use Rattle.request_frames.specs.Batch.{Spells};
 ghost use Rattle.demo_texts.specs.Texts.{sealing_text, opening_text};
 ghost use Rattle.demo_texts.specs.Plans.{IsSealingPlan, IsOpeningPlan};
@@ -25,6 +25,7 @@ pub fn sealing_batch(
     ensures spelled { IfOk result (Spells (sealing_text seed messages lanes)) }
     ensures plan { IfOk result (IsSealingPlan seed messages lanes) }
     ensures limits { IfOk result IsWithinLimits }
+    ensures plain { IfOk result IsPlain }
 {
     let text = sealing_text(alloc, seed, messages, lanes)?;
     match read_batch(alloc, text.as_bytes()) {
@@ -44,6 +45,7 @@ pub fn opening_batch(
     ensures spelled { IfOk result (Spells (opening_text seed cts.now)) }
     ensures plan { IfOk result (IsOpeningPlan seed cts.now) }
     ensures limits { IfOk result IsWithinLimits }
+    ensures plain { IfOk result IsPlain }
 {
     see_ciphertexts(cts);
     let text = opening_text(alloc, seed, cts)?;

@@ -204,6 +204,8 @@ done_stands run lane number k (calls.UnsealAll context first count) within done 
       omega arith,
     )
 done_stands run lane number k (calls.Export context exporter size) within done low at free = tt
+done_stands run lane number k (calls.Add name) within done low at free = tt
+done_stands run lane number k (calls.Retire name) within done low at free = tt
 
 -- ---- the lines of the calls that are done
 

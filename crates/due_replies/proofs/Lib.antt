@@ -4,3 +4,6 @@ pub mod Staying
 pub mod Placed
 pub mod Done
 pub mod CallLines
+pub mod LookedUp
+pub mod FoundLive
+pub mod NeverLive

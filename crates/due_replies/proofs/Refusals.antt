@@ -8,6 +8,8 @@ use Rattle.hpke_context.specs.Contexts.{ContextView, export_limit}
 use Rattle.batch_plans.specs.Calls.{context_role, context_of, refusal_by, standing_line, refusal_at, refusal}
 use Rattle.batch_plans.specs.declared.plan.ContextLine.{ContextLine}
 use Rattle.batch_plans.specs.declared.plan.CallLine.{CallLine}
+use Rattle.batch_plans.specs.declared.plan.CallLine.TheVariants.{Add, Retire}
+use Rattle.batch_plans.specs.declared.replies.CallRefusal.TheVariants.{NoContext}
 use Rattle.due_replies.specs.Standing.{standing_at, refusal_on, call_refusal, limit_of, export_limits, IsOfLine, AreOfLines}
 
 -- each hash has bytes
@@ -54,3 +56,21 @@ pub refusal_agrees : (lines : List ContextLine) (contexts : List (Option Context
     → refusal lines (export_limits contexts) call ≡ call_refusal contexts call
 refusal_agrees lines contexts call t =
     at_number lines contexts (context_of call) call t.count t.each
+
+-- ---- no context serves a line that adds or retires one
+
+pub added_refused : (contexts : List (Option ContextView)) (name : ℕ)
+    → call_refusal contexts (Add name) ≡ Some NoContext
+added_refused contexts name = on_any (standing_at contexts name)
+  where
+    on_any : (o : Option ContextView) → refusal_on o (Add name) ≡ Some NoContext
+    on_any None = refl
+    on_any (Some context) = refl
+
+pub retired_refused : (contexts : List (Option ContextView)) (name : ℕ)
+    → call_refusal contexts (Retire name) ≡ Some NoContext
+retired_refused contexts name = on_any (standing_at contexts name)
+  where
+    on_any : (o : Option ContextView) → refusal_on o (Retire name) ≡ Some NoContext
+    on_any None = refl
+    on_any (Some context) = refl

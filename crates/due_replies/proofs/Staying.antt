@@ -9,7 +9,7 @@ use Rattle.legal_journals.specs.Legal.{reply_of, number_of}
 use Rattle.legal_journals.specs.Guesses.{guess_at, missed}
 use Rattle.legal_journals.proofs.Members.{In}
 use Rattle.batch_plans.specs.declared.plan.CallLine.{CallLine}
-use Rattle.batch_plans.specs.declared.plan.CallLine.TheVariants.{Seal, Unseal, UnsealAll, Export}
+use Rattle.batch_plans.specs.declared.plan.CallLine.TheVariants.{Seal, Unseal, UnsealAll, Export, Add, Retire}
 use Rattle.batch_plans.specs.declared.replies.CallRefusal.{CallRefusal}
 use Rattle.reply_texts.specs.Lines.{batch_line}
 use Rattle.due_replies.specs.Standing.{call_refusal}
@@ -35,6 +35,8 @@ CallStands run lane number (UnsealAll context first count) =
     ((p : Place) → In p (block lane number 0 count) → In p (journal_of run context))
     × (guesses_before run lane number < length (guesses_of run lane))
 CallStands run lane number (Export context exporter size) = Unit {0}
+CallStands run lane number (Add name) = Unit {0}
+CallStands run lane number (Retire name) = Unit {0}
 
 -- each journal has places alone that its context serves
 abbrev pub JournalsAreServed : Run → Type 0
@@ -114,6 +116,8 @@ module _ (lane : ℕ) (run later : Run) (grows : Grows lane run later)
       (guess_at (lane_of (asks_of run) lane) (guesses_of later lane) number)
       (guess_stays number stands.1) stands.0
   served_stay number (Export context exporter size) stands = refl
+  served_stay number (Add name) stands = refl
+  served_stay number (Retire name) stands = refl
 
   unless_stay : (number : ℕ) (call : CallLine) (refusal : Option CallRefusal)
       → (refusal ≡ None → CallStands run lane number call)

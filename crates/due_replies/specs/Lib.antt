@@ -2,3 +2,4 @@ pub mod Standing
 pub mod Asks
 pub mod Runs
 pub mod Lanes
+pub mod Live

@@ -84,6 +84,8 @@ served_lines run lane number (calls.UnsealAll context first count) =
     (guess_at (lane_of (asks_of run) lane) (guesses_of run lane) number)
 served_lines run lane number (calls.Export context exporter size) =
     export_line (standing_at run.contexts context) (span_bytes run.plan.pool exporter) size ∷ []
+served_lines run lane number (calls.Add name) = []
+served_lines run lane number (calls.Retire name) = []
 
 -- a call that is refused has one line
 abbrev pub lines_unless : Option CallRefusal → List (List ℕ) → List (List ℕ)

@@ -10,4 +10,4 @@
 
 mod laws;
 
-pub use laws::refusals_agree;
+pub use laws::{a_refused_context_is_never_live, a_served_call_was_live, refusals_agree};

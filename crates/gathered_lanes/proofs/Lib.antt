@@ -1,5 +1,6 @@
 pub mod Entries
 pub mod Contexts
+pub mod Shown
 pub mod Gathering
 pub mod Serving
 pub mod Stamping

@@ -23,7 +23,8 @@ fn words<R: Env + Alloc<A = Global>>(rt: &R) -> io::Result<Vec<String>> {
 }
 
 const USAGE: &'static str = "usage: hpkebatch run [--workers W] [--mult plain|karatsuba|lanes] | \
-    rehearse SCHEDULE | demo SEED MESSAGES LANES | check [--mult M] | capsules [--mult M]";
+    live [--workers W] [--mult M] | rehearse SCHEDULE | demo SEED MESSAGES LANES | \
+    check [--mult M] | capsules [--mult M]";
 
 // What standard error is told of an outcome.
 fn message(outcome: &Outcome) -> Option<&'static str> {

@@ -1,9 +1,9 @@
 -- How many items a call asks of a context, and what quotas come to.
-use Rattle.std.proofs.Common.{◌≡◌, ◌≢◌, ◌<◌, ◌≤◌, ◌+◌, ℕ, zero, suc, List, map, refl, ap, ◌∙◌, arith, Option, Some, None, inl, inr, if◌then◌else◌, eq-eqb, ne_eqb}
+use Rattle.std.proofs.Common.{◌≡◌, ◌≢◌, ◌<◌, ◌≤◌, ◌+◌, ◌^◌, ℕ, All, zero, suc, List, map, refl, ap, ◌∙◌, arith, Option, Some, None, inl, inr, if◌then◌else◌, eq-eqb, ne_eqb}
 use Rattle.std.specs.Prelude.{sum, sum_by}
 use Rattle.std.specs.List.{range_with_len}
 use Rattle.std.proofs.lemmas.Bool.{cases_eq}
-use Rattle.std.proofs.lemmas.List.Sums.{sum-map, sum_by-cons, sum_by-le-sum_by}
+use Rattle.std.proofs.lemmas.List.Sums.{sum-map, sum_by-cons, sum_by-le-sum_by, get_or-le-sum_by}
 use Rattle.hpke_context.specs.Contexts.{ContextView}
 use Rattle.batch_plans.specs.declared.plan.ContextLine.{ContextLine}
 use Rattle.batch_plans.specs.declared.plan.Plan.{Plan}
@@ -24,6 +24,8 @@ IsCounted (calls.Seal context item) = Unit {0}
 IsCounted (calls.Unseal context item) = Unit {0}
 IsCounted (calls.UnsealAll context first count) = Unit {0}
 IsCounted (calls.Export context exporter size) = ⊥
+IsCounted (calls.Add name) = ⊥
+IsCounted (calls.Retire name) = ⊥
 
 module _ (lines : List ContextLine) (contexts : List (Option ContextView))
     (t : AreOfLines lines contexts) (number : ℕ) where
@@ -42,6 +44,8 @@ module _ (lines : List ContextLine) (contexts : List (Option ContextView))
       ap (λ r. items_at (if_served r c) number count)
       (refusal_agrees lines contexts (calls.UnsealAll c first count) t)
   counted (calls.Export c exporter size) is = absurd is
+  counted (calls.Add name) is = absurd is
+  counted (calls.Retire name) is = absurd is
 
   not_asked : (o : Option CallRefusal) (c items : ℕ) → c ≢ number
       → items_at (if_served o c) number items ≡ 0
@@ -57,6 +61,8 @@ module _ (lines : List ContextLine) (contexts : List (Option ContextView))
   other_context (calls.UnsealAll c first count) ne =
       counted (calls.UnsealAll c first count) tt ∙ not_asked _ c count ne
   other_context (calls.Export c exporter size) ne = refl
+  other_context (calls.Add name) ne = refl
+  other_context (calls.Retire name) ne = refl
 
   pub refused_call : (call : CallLine) (why : CallRefusal) → call_refusal contexts call ≡ Some why
       → items_on lines limits number call ≡ 0
@@ -67,6 +73,8 @@ module _ (lines : List ContextLine) (contexts : List (Option ContextView))
   refused_call (calls.UnsealAll c first count) why is =
       counted (calls.UnsealAll c first count) tt ∙ ap (λ r. items_at (if_served r c) number count) is
   refused_call (calls.Export c exporter size) why is = refl
+  refused_call (calls.Add name) why is = refl
+  refused_call (calls.Retire name) why is = refl
 
   pub served_call : (call : CallLine) → IsCounted call → call_refusal contexts call ≡ None
       → context_of call ≡ number → items_on lines limits number call ≡ items_of call
@@ -76,6 +84,13 @@ module _ (lines : List ContextLine) (contexts : List (Option ContextView))
       ∙ ap (λ b. if b then items_of call else 0) (eq-eqb (context_of call) number same)
 
 -- ---- sums
+
+-- a lane has few items
+pub lanes_few : (plan : Plan) → IsWithinLimits plan
+    → All (λ calls. sum_by items_of calls < 2 ^ 32) plan.lanes
+lanes_few plan within k d low =
+    let one = get_or-le-sum_by (λ (calls : List CallLine). sum_by items_of calls) plan.lanes k d low in
+    omega (arith, one, within.items)
 
 pub quotas_few : (plan : Plan) (contexts : List (Option ContextView)) (number : ℕ)
     → IsWithinLimits plan → sum (map (lane_quota plan contexts number) plan.lanes) ≤ 65536

@@ -68,6 +68,8 @@ module _ (plan : Plan) (contexts : List (Option ContextView)) (t : AreOfLines pl
       ∙ ap (λ r. items_at (if_served r c) number n) (sym is)
       ∙ sym (counted plan.contexts contexts t number call tt)
   on_call l k (calls.Export c exporter size) None is within = refl
+  on_call l k (calls.Add name) None is within = refl
+  on_call l k (calls.Retire name) None is within = refl
 
   on_calls : (l k : ℕ) (calls : List CallLine)
       → All (IsCallWithin (length plan.items) (length plan.pool)) calls

@@ -1,14 +1,15 @@
 //! The quotas of the lanes.
 
-ghost use Rattle.std.specs.Prelude.{ℕ, ◌≡◌, ◌<◌, ◌^◌, List, IfOk, map, sum_by};
+ghost use Rattle.std.specs.Prelude.{ℕ, ◌≡◌, ◌<◌, ◌^◌, All, List, IfOk, map, sum_by};
 ghost use Rattle.batch_plans.specs.declared.plan.ContextLine.{ContextLine};
+ghost use Rattle.batch_plans.specs.declared.plan.Plan.{Plan};
 ghost use Rattle.batch_plans.specs.Limits.{IsWithinLimits, items_of};
 ghost use Rattle.batch_plans.specs.Calls.{items_on};
 ghost use Rattle.due_replies.specs.Standing.{AreOfLines, export_limits};
 ghost use Rattle.lane_quotas.specs.Quotas.{lane_quota};
 
 use crate::contexts::refusal_of;
-use batch_plans::{CallLine, Plan, context_of, items_of};
+use batch_plans::{CallLine, LaneLines, Plan, context_of, items_of};
 use hpke_context::Context;
 use std::alloc::{AllocError, Global};
 
@@ -24,7 +25,7 @@ fn items_on(contexts: &[Option<Context>], number: u32, call: &CallLine) -> u32
         return 0;
     }
     match call {
-        CallLine::Export { .. } => 0,
+        CallLine::Export { .. } | CallLine::Add { .. } | CallLine::Retire { .. } => 0,
         CallLine::Seal { .. } | CallLine::Unseal { .. } | CallLine::UnsealAll { .. } => items_of(
             call,
         ),
@@ -45,7 +46,27 @@ fn quota(contexts: &[Option<Context>], number: u32, calls: &[CallLine]) -> u32
     sum
 }
 
-/// The quotas of all lanes on the context of this number: how many entries each may add to its book.
+/// The quotas of some lanes on the context of this number: how many entries each may add to its
+/// book.
+pub fn quotas_of(
+    alloc: Global,
+    lanes: &LaneLines,
+    contexts: &[Option<Context>],
+    number: u32,
+) -> Result<Vec<u32>, AllocError>
+    requires few { All (λ calls. sum_by items_of calls < 2 ^ 32) lanes.now }
+    requires standing { (lines : List ContextLine) × AreOfLines lines contexts.now }
+    ensures { IfOk result (λ quotas. (plan : Plan) → AreOfLines plan.contexts contexts.now
+        → quotas.items ≡ map (lane_quota plan contexts.now number) lanes.now) }
+{
+    let mut quotas = Vec::new(alloc);
+    'lanes: for calls in lanes.as_slice() {
+        quotas.push(quota(contexts, number, calls.as_slice()))?;
+    }
+    Ok(quotas)
+}
+
+/// The quotas of all lanes of a plan on the context of this number.
 pub fn quotas(
     alloc: Global,
     plan: &Plan,
@@ -57,9 +78,5 @@ pub fn quotas(
     ensures { IfOk result (λ quotas.
         quotas.items ≡ map (lane_quota plan.now contexts.now number) plan.now.lanes) }
 {
-    let mut quotas = Vec::new(alloc);
-    'lanes: for calls in plan.lanes.as_slice() {
-        quotas.push(quota(contexts, number, calls.as_slice()))?;
-    }
-    Ok(quotas)
+    quotas_of(alloc, &plan.lanes, contexts, number)
 }

@@ -16,5 +16,5 @@ mod counting;
 mod journals;
 
 pub use contexts::{refusal_of, standing};
-pub use counting::quotas;
+pub use counting::{quotas, quotas_of};
 pub use journals::write_journals;

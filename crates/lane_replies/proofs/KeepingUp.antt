@@ -6,7 +6,7 @@ use Rattle.hpke_context.specs.Contexts.{ContextView}
 use Rattle.legal_journals.proofs.OneLane.{taken_more}
 use Rattle.batch_plans.specs.declared.plan.Plan.{Plan}
 use Rattle.batch_plans.specs.declared.plan.CallLine.{CallLine}
-use Rattle.batch_plans.specs.declared.plan.CallLine.TheVariants.{Seal, Unseal, UnsealAll, Export}
+use Rattle.batch_plans.specs.declared.plan.CallLine.TheVariants.{Seal, Unseal, UnsealAll, Export, Add, Retire}
 use Rattle.batch_plans.specs.declared.replies.CallRefusal.{CallRefusal}
 use Rattle.batch_plans.specs.declared.replies.Reply.TheVariants.{Refused}
 use Rattle.batch_plans.specs.declared.replies.Batch.{Batch}
@@ -117,6 +117,8 @@ module _ (run : Run) (of_lines : AreOfLines run.plan.contexts run.contexts) (lan
       step (Unseal context item) none = refl
       step (UnsealAll context first count) none = absurd (omega (arith, none))
       step (Export context exporter size) none = refl
+      step (Add name) none = refl
+      step (Retire name) none = refl
 
   -- a seal, an unseal or an export is answered
   pub keeps_up_one : (old new : Progress) (line : List ℕ) → KeepsUp run lane number old

@@ -81,6 +81,8 @@ opening_count plan (calls.UnsealAll context first count) opening within =
     let size = length-drop first plan.items in
     length-take-le count (drop first plan.items) (omega arith)
 opening_count plan (calls.Export context exporter size) opening within = absurd opening
+opening_count plan (calls.Add name) opening within = absurd opening
+opening_count plan (calls.Retire name) opening within = absurd opening
 
 pub opening_few : (plan : Plan) (call : CallLine)
     → IsCallWithin (length plan.items) (length plan.pool) call → items_of call ≤ 65536
@@ -88,6 +90,8 @@ opening_few plan (calls.Seal context item) within = omega arith
 opening_few plan (calls.Unseal context item) within = omega arith
 opening_few plan (calls.UnsealAll context first count) within = omega arith
 opening_few plan (calls.Export context exporter size) within = omega arith
+opening_few plan (calls.Add name) within = omega arith
+opening_few plan (calls.Retire name) within = omega arith
 
 in_pool : (most pool : ℕ) (item : Item) → IsItemWithin most pool item → ItemIsInPool pool item
 in_pool most pool item t = (t.aad.in_pool, t.text.in_pool)
@@ -107,6 +111,8 @@ opening_spans plan (calls.UnsealAll context first count) limits within =
     (λ item. in_pool most_ciphertext (length plan.pool) item) plan.items limits.item_list))
 opening_spans plan (calls.Export context exporter size) limits within =
     All-nil (ItemIsInPool (length plan.pool))
+opening_spans plan (calls.Add name) limits within = All-nil (ItemIsInPool (length plan.pool))
+opening_spans plan (calls.Retire name) limits within = All-nil (ItemIsInPool (length plan.pool))
 
 pub opening_asks : (plan : Plan) (call : CallLine) → IsOpening call
     → items_in (asked_by plan call) ≡ unseals plan.pool (opening_items plan call)
@@ -114,6 +120,8 @@ opening_asks plan (calls.Seal context item) opening = absurd opening
 opening_asks plan (calls.Unseal context item) opening = refl
 opening_asks plan (calls.UnsealAll context first count) opening = refl
 opening_asks plan (calls.Export context exporter size) opening = absurd opening
+opening_asks plan (calls.Add name) opening = absurd opening
+opening_asks plan (calls.Retire name) opening = absurd opening
 
 pub opening_context : (plan : Plan) (call : CallLine) → IsOpening call
     → context_in (asked_by plan call) ≡ context_of call
@@ -121,6 +129,8 @@ opening_context plan (calls.Seal context item) opening = absurd opening
 opening_context plan (calls.Unseal context item) opening = refl
 opening_context plan (calls.UnsealAll context first count) opening = refl
 opening_context plan (calls.Export context exporter size) opening = absurd opening
+opening_context plan (calls.Add name) opening = absurd opening
+opening_context plan (calls.Retire name) opening = absurd opening
 
 pub opening_room : (plan : Plan) (call : CallLine) → IsOpening call
     → Rattle.std.specs.List.sum_by opened_room (opening_items plan call)
@@ -131,6 +141,8 @@ opening_room plan (calls.Unseal context item) opening =
     omega arith in e)
 opening_room plan (calls.UnsealAll context first count) opening = refl
 opening_room plan (calls.Export context exporter size) opening = absurd opening
+opening_room plan (calls.Add name) opening = absurd opening
+opening_room plan (calls.Retire name) opening = absurd opening
 
 pub span_size : (pool : List ℕ) (span : Span) → IsInPool (length pool) span
     → length (span_bytes pool span) ≡ span.len

@@ -4,7 +4,7 @@ use Rattle.std.specs.List.{All}
 use Rattle.std.proofs.lemmas.List.{take-take, map-append}
 use Rattle.std.proofs.lemmas.List.Elements.{All-append, All-weaker, All-nil, All-cons}
 use Rattle.batch_plans.specs.declared.replies.Reply.{Reply}
-use Rattle.batch_plans.specs.declared.replies.Reply.TheVariants.{Blank, Sealed, Opened, Failed, Limit, Exported, Refused}
+use Rattle.batch_plans.specs.declared.replies.Reply.TheVariants.{Blank, Sealed, Opened, Failed, Limit, Exported, Refused, Added, Retired}
 use Rattle.batch_plans.specs.Replies.{IsInRange}
 use Rattle.batch_plans.specs.Progress.{Progress, with_reply}
 use Rattle.legal_journals.proofs.Lists.{append-nil}
@@ -26,6 +26,8 @@ in_more size more (Failed number) fits range = tt
 in_more size more Limit fits range = tt
 in_more size more (Exported text) fits range = omega arith
 in_more size more (Refused refusal) fits range = tt
+in_more size more Added fits range = tt
+in_more size more Retired fits range = tt
 
 pub all_in_more : (size more : ℕ) (replies : List Reply) → size ≤ more
     → All (IsInRange size) replies → All (IsInRange more) replies

@@ -83,7 +83,7 @@ refusal_here contexts call number o is found =
     step None found = ap view_in (sym found)
     step (Some s) found = ap view_in (sym found)
 
-one_counter : (x y : Bor CounterView) → Some x ≡ Some y → x ≡ y
+pub one_counter : (x y : Bor CounterView) → Some x ≡ Some y → x ≡ y
 one_counter x y e = cc
 
 pub one_seat : (x y : SeatView) → Some x ≡ Some y → x ≡ y
@@ -253,7 +253,7 @@ module _ (plan : Plan) (contexts : List (Option SharedView)) (counter : Option (
           ∙ length-append (on n (all_asked lane 0 (take k asks))) (on n (asked lane k a) ++ on n rest)
           ∙ ap (λ i. length (on n (all_asked lane 0 (take k asks))) + i)
           (length-append (on n (asked lane k a)) (on n rest) ∙ ap (λ i. i + length (on n rest)) mine) in
-          let quota : slice_index s.lock.terms.quotas lane ≡ length (lane_places n lane asks) =
+          let quota : length (lane_places n lane asks) ≤ slice_index s.lock.terms.quotas lane =
           here.quotas lane may.there in
           omega arith
 

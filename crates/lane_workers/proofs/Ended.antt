@@ -33,6 +33,7 @@ use Rattle.lane_workers.specs.Turns.{views}
 use Rattle.lane_replies.specs.LaneCalls as lanes
 use Rattle.lane_workers.specs.Lanes.{asks_of, Says, LaneIsAt}
 use Rattle.lane_workers.specs.Returned.{IsGiven, IsReturned}
+use Rattle.lane_workers.specs.LiveReturned.{HasAllAnswers}
 use Rattle.lane_workers.proofs.Told.{told_now, tells_now}
 
 module _ (plan : Plan) (contexts : List (Option SharedView)) (counter : Option (Bor CounterView)) where
@@ -41,18 +42,16 @@ module _ (plan : Plan) (contexts : List (Option SharedView)) (counter : Option (
 
   -- ---- before its first call
 
-  pub begins : (w : LaneWork) (answers : LaneAnswers)
+  -- with room for its calls, whatever room that is
+  pub begins_in : (w : LaneWork) (answers : LaneAnswers)
       → IsGiven plan contexts counter w.lane w.passes.items w.seat answers
-      → w.progress ≡ begun answers
+      → HasAnswered [] [] w.progress
+      → HasRoomFor plan (export_limits stand) (lanes.lane_calls plan w.lane) w.progress
       → All (λ call. items_of call ≤ w.table.room) (lanes.lane_calls plan w.lane)
       → All (λ call. items_of call ≤ length w.steps.items) (lanes.lane_calls plan w.lane)
       → w.checks ≡ 0 → LaneIsAt plan contexts counter w.lane 0 w
-  begins w answers t progress rows steps checks =
-      let calls = lanes.lane_calls plan w.lane in
-      let room = lane_room plan (export_limits stand) calls in
-      let start : w.progress ≡ begun room = progress ∙ ap begun t.room in
+  begins_in w answers t answered room rows steps checks =
       let unseen : seen_of w.passes.items ≡ λ c. [] = (λ i c. t.unseen c i) in
-      let within = lane_within plan t.within w.lane [] t.there in
       record {
         lane_is = refl;
         given = [];
@@ -82,14 +81,27 @@ module _ (plan : Plan) (contexts : List (Option SharedView)) (counter : Option (
               (sym (t.unseen c))
               (lane_fresh (batch_of plan stand) c (cipher_at stand c) w.lane told.replies);
           openings = λ c call messages low. absurd (omega arith);
-          answered = subst (HasAnswered [] []) (sym start) (answered_begun room);
+          answered = answered;
         };
-        room = subst (HasRoomFor plan (export_limits stand) calls) (sym start)
-            (room_begun plan (export_limits stand) calls within);
+        room = room;
         rows = rows;
         steps = steps;
         checks = (let c = checks in omega arith);
       }
+
+  pub begins : (w : LaneWork) (answers : LaneAnswers)
+      → IsGiven plan contexts counter w.lane w.passes.items w.seat answers
+      → w.progress ≡ begun answers
+      → All (λ call. items_of call ≤ w.table.room) (lanes.lane_calls plan w.lane)
+      → All (λ call. items_of call ≤ length w.steps.items) (lanes.lane_calls plan w.lane)
+      → w.checks ≡ 0 → LaneIsAt plan contexts counter w.lane 0 w
+  begins w answers t progress =
+      let calls = lanes.lane_calls plan w.lane in
+      let room = lane_room plan (export_limits stand) calls in
+      let start : w.progress ≡ begun room = progress ∙ ap begun t.room in
+      begins_in w answers t (subst (HasAnswered [] []) (sym start) (answered_begun room))
+      (subst (HasRoomFor plan (export_limits stand) calls) (sym start)
+      (room_begun plan (export_limits stand) calls (lane_within plan t.within w.lane [] t.there)))
 
   -- ---- after its last
 
@@ -111,6 +123,9 @@ module _ (plan : Plan) (contexts : List (Option SharedView)) (counter : Option (
     none_left = room_ended plan (export_limits stand) w.progress
         (subst (λ cs. HasRoomFor plan (export_limits stand) cs w.progress)
         (Rattle.std.proofs.Math.Seq.drop-length calls) t.room)
+
+    pub all_answers : HasAllAnswers w
+    all_answers = record { replies = none_left.0; batches = none_left.1 }
 
     same_count : length asks ≡ length calls
     same_count =

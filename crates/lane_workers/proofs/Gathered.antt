@@ -1,259 +1,82 @@
 -- From all lanes that were served and all contexts that are closed to one run.
-use Rattle.std.proofs.Common.{◌≡◌, ℕ, zero, suc, ◌+◌, ◌<◌, ◌≤◌, true, false, List, [], ◌∷◌, ◌++◌, length, map, Option, Some, None, sym, refl, ap, ◌∙◌, subst, arith}
-use Rattle.std.specs.Prelude.{slice_get, slice_index_or, IsPermutation, flat_map}
+use Rattle.std.proofs.Common.{◌≡◌, ℕ, ◌+◌, ◌<◌, true, false, List, [], length, map, Option, ap, ◌∙◌, subst, arith}
+use Rattle.std.specs.Prelude.{slice_index_or, IsPermutation, flat_map}
 use Rattle.std.specs.List.{range_with_len}
 use Rattle.std.proofs.lemmas.List.{length-map}
 use Rattle.std.proofs.lemmas.List.FromFn.{length-map-range_with_len}
-use Rattle.call_places.specs.declared.entries.Place.{Place}
 use Rattle.call_places.specs.declared.entries.Entry.{Entry}
 use Rattle.call_places.specs.Entries.{stamps_of, mark_of}
-use Rattle.call_places.specs.Messages.{sealed_messages}
 use Rattle.turn_lock.specs.Passes.{PassView}
-use Rattle.hpke_context.specs.Answers.{Item}
 use Rattle.hpke_context.specs.Contexts.{ContextView}
-use Rattle.legal_journals.specs.Batches.{Batch, Ask, block, place, unseal, items_in, context_in, item_of, lane_of}
-use Rattle.legal_journals.specs.Entries.{entry_places}
-use Rattle.legal_journals.specs.Guesses.{AllGuessed, guess_at, missed_in}
-use Rattle.legal_journals.specs.Histories.{places}
-use Rattle.legal_journals.specs.Legal.{Legal, OpensOn, reply_of}
-use Rattle.legal_journals.proofs.Members.{got}
-use Rattle.legal_journals.proofs.Runs.{item_here}
-use Rattle.gathered_lanes.proofs.Gathering.{one_history, legal_journal, guessed, missed_is, replies_are}
-use Rattle.gathered_lanes.specs.Lanes.{Showing, LaneIsShown, Closes, AllShown, journal}
+use Rattle.gathered_lanes.proofs.Gathering.{one_history}
+use Rattle.gathered_lanes.specs.Lanes.{Closes, AllShown}
 use Rattle.batch_plans.specs.declared.plan.Plan.{Plan}
 use Rattle.batch_plans.specs.declared.plan.CallLine.{CallLine}
-use Rattle.batch_plans.specs.declared.replies.LaneAnswers.{LaneAnswers}
 use Rattle.batch_plans.specs.declared.plan.CallLine.TheVariants as calls
-use Rattle.batch_plans.specs.declared.replies.CallRefusal.{CallRefusal}
-use Rattle.batch_plans.specs.Limits.{items_from, IsCallWithin, IsWithinLimits}
-use Rattle.reply_texts.specs.Lines.{batch_line}
-use Rattle.reply_texts.specs.ReplyText.{numbered, all_lines, answered_lines, has_stamps}
-use Rattle.due_replies.specs.Standing.{call_refusal}
-use Rattle.due_replies.specs.Asks.{ask_of, ask_unless, asked_by, batch_of, cipher_at}
-use Rattle.due_replies.specs.Runs.{Run, journal_of, guesses_of, answer_line, answer_line_of, place_line, lines_unless, served_lines, call_lines, lane_call_lines, LegalFor, IsAllowed}
-use Rattle.due_replies.proofs.Done.{ask_at, length-messages}
-use Rattle.lane_workers.specs.Served.{Told, told_served, told_lines, seen_of, LaneIsServed}
+use Rattle.batch_plans.specs.declared.replies.LaneAnswers.{LaneAnswers}
+use Rattle.batch_plans.specs.Limits.{IsCallWithin, IsWithinLimits}
+use Rattle.reply_texts.specs.ReplyText.{all_lines, answered_lines, has_stamps}
+use Rattle.due_replies.specs.Asks.{batch_of, cipher_at}
+use Rattle.due_replies.specs.Runs.{Run, call_lines, lane_call_lines, LegalFor, IsAllowed}
+use Rattle.lane_workers.specs.Served.{Told, told_lines, seen_of, LaneIsServed}
+use Rattle.lane_workers.proofs.Showing as showing
+use Rattle.lane_workers.proofs.Showing.{LaneTells, HasItems, numbered_same}
 use Rattle.lane_replies.specs.LaneCalls.{lane_calls}
 use Rattle.lane_replies.proofs.Within.{line_within}
 
-numbered_same : {X Y : Type 0} (f g : ℕ → X → Y) (start : ℕ) (xs : List X)
-    → ((k : ℕ) (x : X) → slice_get xs k ≡ Some x → f (start + k) x ≡ g (start + k) x)
-    → numbered f start xs ≡ numbered g start xs
-numbered_same f g start [] same = refl
-numbered_same {X = X} {Y = Y} f g start (x ∷ xs) same =
-    let none : start + 0 ≡ start = omega arith in
-    let first : f start x ≡ g start x = subst (λ n. f n x ≡ g n x) none (same 0 x refl) in
-    let rest = numbered_same f g (start + 1) xs
-    (λ k y at. let next : start + suc k ≡ start + 1 + k = omega arith in
-    subst (λ n. f n y ≡ g n y) next (same (suc k) y at)) in
-    (λ i. first i ∷ rest i)
+pub has_items : (items pool : ℕ) (call : CallLine) → IsCallWithin items pool call
+    → HasItems items call
+has_items items pool (calls.Seal context item) within = tt
+has_items items pool (calls.Unseal context item) within = tt
+has_items items pool (calls.UnsealAll context first count) within = within.3
+has_items items pool (calls.Export context exporter size) within = tt
+has_items items pool (calls.Add name) within = tt
+has_items items pool (calls.Retire name) within = tt
 
 module _ (plan : Plan) (contexts : List (Option ContextView))
     (passes : ℕ → List (Option PassView)) (answers : ℕ → LaneAnswers)
     (served : (lane : ℕ) → LaneIsServed plan contexts lane (passes lane) (answers lane))
     (books : List (List Entry)) where
-  abbrev batch : Batch
-  batch = batch_of plan contexts
-
   abbrev told : ℕ → Told
   told lane = (served lane).told
 
-  -- what all lanes show
-  abbrev pub showing : Showing
-  showing =
-      record {
-        seen = λ lane context. seen_of (passes lane) context;
-        books = books;
-        replies = λ p. (served p.lane).told.replies p;
-        guesses = λ lane. (served lane).told.guesses;
-        misses = λ lane. (served lane).told.misses;
-      }
+  abbrev seen : ℕ → ℕ → List Entry
+  seen lane context = seen_of (passes lane) context
 
-  lane_is_shown : (lane : ℕ) → LaneIsShown batch (cipher_at contexts) showing lane
-  lane_is_shown lane =
+  tells : (lane : ℕ) → LaneTells plan contexts lane (told lane) (seen lane)
+  tells lane =
       let t = served lane in
-      record {
-        each = λ context. let s = t.shows context in record {
-          places = s.places;
-          answered = λ i e at mine. let r = s.answered i e at mine in record {
-            item = r.item;
-            of_place = r.of_place;
-            step = r.step;
-            reply = ap (λ j. (told j).replies e.place) mine ∙ r.reply;
-          };
-        };
-        openings = t.openings;
-        in_order = t.in_order;
-      }
-
-  pub all_shown : ((context : ℕ) → Closes (length plan.lanes)
-      (λ lane. seen_of (passes lane) context) (slice_index_or books context []))
-      → (count : ℕ) → IsPermutation (flat_map stamps_of books) (range_with_len 0 count)
-      → AllShown batch (cipher_at contexts) showing
-  all_shown closes count given = record {
-    lanes = λ lane low. lane_is_shown lane;
-    closes = λ context. subst (λ n. Closes n (λ lane. seen_of (passes lane) context)
-        (slice_index_or books context []))
-        (sym (length-map plan.lanes (map (ask_of plan contexts)))) (closes context);
-    count = count;
-    given = given;
-  }
-
-  -- ---- the run that they make
+      record { shows = t.shows; openings = t.openings; in_order = t.in_order }
 
   -- the journals with their stamps, and each lane's guesses
   abbrev pub run_of : Run
-  run_of =
-      record {
-        plan = plan;
-        contexts = contexts;
-        journals = map (map mark_of) books;
-        guesses = map (λ lane. (served lane).told.guesses) (range_with_len 0 (length plan.lanes));
-      }
+  run_of = showing.run_of plan contexts told seen books
 
-  journal_is : (context : ℕ) → journal_of run_of context ≡ journal showing context
-  journal_is context = ap places (marks_there books context)
-      ∙ places-marks (slice_index_or books context [])
-    where
-      marks_there : (bs : List (List Entry)) (c : ℕ)
-          → slice_index_or (map (map mark_of) bs) c [] ≡ map mark_of (slice_index_or bs c [])
-      marks_there [] c = refl
-      marks_there (b ∷ bs) zero = refl
-      marks_there (b ∷ bs) (suc c) = marks_there bs c
-
-      places-marks : (es : List Entry) → places (map mark_of es) ≡ entry_places es
-      places-marks [] = refl
-      places-marks (e ∷ es) = ap (λ ps. e.place ∷ ps) (places-marks es)
-
-  guesses_are : (lane : ℕ) → lane < length plan.lanes → guesses_of run_of lane ≡ (told lane).guesses
-  guesses_are lane low = from (length plan.lanes) 0 lane low
-      ∙ ap (λ l. (told l).guesses) (let e : 0 + lane ≡ lane = omega arith in e)
-    where
-      from : (n start l : ℕ) → l < n
-          → slice_index_or (map (λ i. (served i).told.guesses) (range_with_len start n)) l []
-          ≡ (served (start + l)).told.guesses
-      from zero start l low = absurd (omega arith)
-      from (suc n) start zero low = ap (λ i. (served i).told.guesses)
-          (let e : start ≡ start + 0 = omega arith in e)
-      from (suc n) start (suc l) low = from n (start + 1) l (omega arith)
-          ∙ ap (λ i. (served i).told.guesses)
-          (let e : start + 1 + l ≡ start + suc l = omega arith in e)
-
-  module _ (within : IsWithinLimits plan) (shown : AllShown batch (cipher_at contexts) showing)
+  module _ (within : IsWithinLimits plan) (closes : (context : ℕ) → Closes (length plan.lanes)
+      (λ lane. seen_of (passes lane) context) (slice_index_or books context []))
+      (stamps : ℕ) (given : IsPermutation (flat_map stamps_of books) (range_with_len 0 stamps))
       (count : length books ≡ length plan.contexts) where
+    all_shown : AllShown (batch_of plan contexts) (cipher_at contexts)
+        (showing.showing plan contexts told seen books)
+    all_shown = record {
+      lanes = showing.lanes plan contexts told seen books tells closes;
+      closes = showing.closed plan contexts told seen books tells closes;
+      count = stamps;
+      given = given;
+    }
+
     pub is_allowed : IsAllowed run_of
     is_allowed = record {
       journals = length-map books (map mark_of) ∙ count;
       lanes = length-map-range_with_len _ 0 (length plan.lanes);
-      legal = elim (has_stamps plan.version) as (λ b. LegalFor b batch run_of.journals) [
-        | true ↦ one_history batch (cipher_at contexts) showing shown
-        | false ↦ λ context. subst (Legal batch context) (sym (journal_is context))
-            (legal_journal batch (cipher_at contexts) showing shown context)
-      ];
-      guessed = λ lane low.
-          let all : length batch ≡ length plan.lanes =
-          length-map plan.lanes (map (ask_of plan contexts)) in
-          subst (λ (js : ℕ → List Place). AllGuessed batch (cipher_at contexts) js lane
-          (guesses_of run_of lane)) (λ i context. sym (journal_is context) i)
-          (subst (AllGuessed batch (cipher_at contexts) (journal showing) lane)
-          (sym (guesses_are lane low))
-          (guessed batch (cipher_at contexts) showing shown lane (omega arith)));
+      legal = elim (has_stamps plan.version)
+          as (λ b. LegalFor b (batch_of plan contexts) run_of.journals) [
+            | true ↦ one_history (batch_of plan contexts) (cipher_at contexts)
+                (showing.showing plan contexts told seen books) all_shown
+            | false ↦ showing.journal_legal plan contexts told seen books tells closes
+          ];
+      guessed = showing.guessed_so plan contexts told seen books tells closes;
     }
-
-    -- ---- the lines of a call
-
-    module _ (lane : ℕ) (low : lane < length plan.lanes) (k : ℕ) (call : CallLine)
-        (at : slice_get (lane_calls plan lane) k ≡ Some call) where
-      abbrev asks : List Ask
-      asks = lane_of batch lane
-
-      abbrev a : Ask
-      a = ask_of plan contexts call
-
-      asked_here : slice_get asks k ≡ Some a
-      asked_here = ask_at run_of lane k call at
-
-      -- an item that is served has the reply that the lane told
-      told_is_due : (c i : ℕ) (x : Item) → c ≡ context_in a → slice_get (items_in a) i ≡ Some x
-          → answer_line ((told lane).replies (place lane k i))
-          ≡ place_line run_of c (place lane k i)
-      told_is_due c i x is there =
-          let p = place lane k i in
-          let at_place : item_of batch p ≡ Some (context_in a, x) =
-          item_here batch lane k i a x asked_here there in
-          let stands = ((legal_journal batch (cipher_at contexts) showing shown c).served p).1
-          (x, subst (λ j. item_of batch p ≡ Some (j, x)) (sym is) at_place) in
-          sym (ap (λ js. answer_line_of (reply_of batch (cipher_at contexts c) js p)) (journal_is c)
-          ∙ ap answer_line_of (replies_are batch (cipher_at contexts) showing shown c p stands))
-
-      block_lines : (f g : Place → List ℕ) (n i : ℕ)
-          → ((j : ℕ) → i ≤ j → j < i + n → f (place lane k j) ≡ g (place lane k j))
-          → map f (block lane k i n) ≡ map g (block lane k i n)
-      block_lines f g zero i same = refl
-      block_lines f g (suc n) i same =
-          let first = same i (omega arith) (omega arith) in
-          let rest = block_lines f g n (i + 1) (λ j up down. same j (omega arith) (omega arith)) in
-          (λ h. first h ∷ rest h)
-
-      lines_here : (refusal : Option CallRefusal) → call_refusal contexts call ≡ refusal
-          → (x : CallLine) → call ≡ x → told_lines plan contexts (told lane) lane k x
-          ≡ call_lines run_of lane k x
-      lines_here (Some why) refused x is =
-          let r : call_refusal contexts x ≡ Some why = ap (call_refusal contexts) (sym is) ∙ refused in
-          ap (λ o. lines_unless o (told_served plan contexts (told lane) lane k x)) r
-          ∙ sym (ap (λ o. lines_unless o (served_lines run_of lane k x)) r)
-      lines_here None free (calls.Export context exporter size) is = refl
-      lines_here None free (calls.Seal context item) is =
-          let x = calls.Seal context item in
-          let r : call_refusal contexts x ≡ None = ap (call_refusal contexts) (sym is) ∙ free in
-          let a_is : a ≡ asked_by plan x =
-          ap (λ o. ask_unless o (asked_by plan call)) free ∙ ap (asked_by plan) is in
-          ap (λ o. lines_unless o (told_served plan contexts (told lane) lane k x)) r
-          ∙ ap (λ line. line ∷ []) (told_is_due context 0 _ (sym (ap context_in a_is))
-          (ap (λ b. slice_get (items_in b) 0) a_is))
-          ∙ sym (ap (λ o. lines_unless o (served_lines run_of lane k x)) r)
-      lines_here None free (calls.Unseal context item) is =
-          let x = calls.Unseal context item in
-          let r : call_refusal contexts x ≡ None = ap (call_refusal contexts) (sym is) ∙ free in
-          let a_is : a ≡ asked_by plan x =
-          ap (λ o. ask_unless o (asked_by plan call)) free ∙ ap (asked_by plan) is in
-          ap (λ o. lines_unless o (told_served plan contexts (told lane) lane k x)) r
-          ∙ ap (λ line. line ∷ []) (told_is_due context 0 _ (sym (ap context_in a_is))
-          (ap (λ b. slice_get (items_in b) 0) a_is))
-          ∙ sym (ap (λ o. lines_unless o (served_lines run_of lane k x)) r)
-      lines_here None free (calls.UnsealAll context first many) is =
-          let x = calls.UnsealAll context first many in
-          let r : call_refusal contexts x ≡ None = ap (call_refusal contexts) (sym is) ∙ free in
-          let a_is : a ≡ asked_by plan x =
-          ap (λ o. ask_unless o (asked_by plan call)) free ∙ ap (asked_by plan) is in
-          let fit = subst (IsCallWithin (length plan.items) (length plan.pool)) is
-          (line_within plan lane k call within low at) in
-          let size : length (items_in a) ≡ many = ap (λ b. length (items_in b)) a_is
-          ∙ length-messages plan.items plan.pool first many fit.3 in
-          let replies = block_lines (λ p. answer_line ((told lane).replies p))
-          (place_line run_of context) many 0 (λ j up down.
-          let item = got (items_in a) j (omega arith) in
-          told_is_due context j item.0 (sym (ap context_in a_is)) item.1) in
-          let opens : OpensOn batch context lane k many = (
-            sealed_messages plan.pool (items_from plan.items first many),
-            asked_here ∙ ap Some a_is,
-            sym (length-map (sealed_messages plan.pool (items_from plan.items first many)) unseal)
-                ∙ length-messages plan.items plan.pool first many fit.3,
-          ) in
-          let all : length batch ≡ length plan.lanes =
-          length-map plan.lanes (map (ask_of plan contexts)) in
-          let guess : guess_at asks (told lane).guesses k
-          ≡ guess_at asks (guesses_of run_of lane) k =
-          ap (λ gs. guess_at asks gs k) (sym (guesses_are lane low)) in
-          let misses : guess_at asks (told lane).misses k ≡ missed_in batch (cipher_at contexts context)
-          (journal_of run_of context) lane k many (guess_at asks (guesses_of run_of lane) k) =
-          sym (missed_is batch (cipher_at contexts) showing shown lane (omega arith) context k many
-          opens)
-          ∙ (λ h. missed_in batch (cipher_at contexts context) (sym (journal_is context) h) lane k many
-          (guess h)) in
-          ap (λ o. lines_unless o (told_served plan contexts (told lane) lane k x)) r
-          ∙ (λ h. replies h ++ batch_line (guess h) (misses h) ∷ [])
-          ∙ sym (ap (λ o. lines_unless o (served_lines run_of lane k x)) r)
 
     -- the answers of a lane have the lines that are due
     pub lines_are_due : (lane : ℕ) → lane < length plan.lanes
@@ -265,4 +88,5 @@ module _ (plan : Plan) (contexts : List (Option ContextView))
         (call_lines run_of lane) 0 (lane_calls plan lane)
         (λ k call at. subst (λ i. told_lines plan contexts (told lane) lane i call
         ≡ call_lines run_of lane i call) (let e : k ≡ 0 + k = omega arith in e)
-        (lines_here lane low k call at (call_refusal contexts call) refl call refl)))
+        (showing.told_is_called plan contexts told seen books tells closes lane low k call at
+        (has_items _ _ call (line_within plan lane k call within low at)))))

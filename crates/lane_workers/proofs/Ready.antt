@@ -55,6 +55,8 @@ opens_by r x limit (calls.Seal context item) opening e = absurd opening
 opens_by r x limit (calls.Unseal context item) opening e = e
 opens_by r x limit (calls.UnsealAll context first count) opening e = e
 opens_by r x limit (calls.Export context exporter size) opening e = absurd opening
+opens_by r x limit (calls.Add name) opening e = absurd opening
+opens_by r x limit (calls.Retire name) opening e = absurd opening
 
 module _ (plan : Plan) (contexts : List (Option SharedView)) (counter : Option (Bor CounterView))
     (k : ℕ) (call : CallLine) (s : SharedView) (w : LaneWork)

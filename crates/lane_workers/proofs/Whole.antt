@@ -22,12 +22,12 @@ use Rattle.due_replies.specs.Asks.{ask_of, batch_of}
 use Rattle.due_replies.specs.Runs.{lane_call_lines}
 use Rattle.lane_workers.specs.Served.{Told, told_lines, LaneIsServed}
 use Rattle.lane_workers.specs.Gathered.{no_answers, AllLanesServed, AllClosed, AreOfARun}
-use Rattle.lane_workers.proofs.Gathered.{all_shown, is_allowed, lines_are_due, run_of}
+use Rattle.lane_workers.proofs.Gathered.{is_allowed, lines_are_due, run_of}
 
 abbrev nothing_told : Told
 nothing_told = record { replies = λ p. At_limit; guesses = []; misses = [] }
 
-nobody : (plan : Plan) (contexts : List (Option ContextView)) (lane : ℕ) → length plan.lanes ≤ lane
+pub nobody : (plan : Plan) (contexts : List (Option ContextView)) (lane : ℕ) → length plan.lanes ≤ lane
     → LaneIsServed plan contexts lane [] no_answers
 nobody plan contexts lane high =
     let batch = batch_of plan contexts in
@@ -58,21 +58,28 @@ nobody plan contexts lane high =
     no_ask : (a : Ask) → None ≡ Some a → ⊥
     no_ask a at = cc
 
-joined : (f : ℕ → List CallLine → List (List ℕ)) (lanes : List (List CallLine))
+-- the lines of all lanes, where each lane's are these
+pub joined : (lines : List CallLine → LaneAnswers → List (List ℕ))
+    (all : List (List CallLine) → List LaneAnswers → List (List (List ℕ)))
+    → ((answers : List LaneAnswers) → all [] answers ≡ [])
+    → ((calls : List CallLine) (lanes : List (List CallLine)) (a : LaneAnswers)
+    (answers : List LaneAnswers)
+    → all (calls ∷ lanes) (a ∷ answers) ≡ lines calls a ∷ all lanes answers)
+    → (f : ℕ → List CallLine → List (List ℕ)) (lanes : List (List CallLine))
     (answers : List LaneAnswers) (start : ℕ) → length answers ≡ length lanes
     → ((i : ℕ) → i < length lanes
-    → answered_lines (slice_index_or lanes i []) (slice_index_or answers i no_answers)
+    → lines (slice_index_or lanes i []) (slice_index_or answers i no_answers)
     ≡ f (start + i) (slice_index_or lanes i []))
-    → lanes_lines lanes answers ≡ numbered f start lanes
-joined f [] answers start count each = refl
-joined f (calls ∷ lanes) [] start count each = absurd (omega arith)
-joined f (calls ∷ lanes) (a ∷ answers) start count each =
-    let none : start + 0 ≡ start = omega arith in
-    let first = each 0 (omega arith) ∙ ap (λ i. f i calls) none in
-    let rest = joined f lanes answers (start + 1) (omega arith)
+    → all lanes answers ≡ numbered f start lanes
+joined lines all none more f [] answers start count each = none answers
+joined lines all none more f (calls ∷ lanes) [] start count each = absurd (omega arith)
+joined lines all none more f (calls ∷ lanes) (a ∷ answers) start count each =
+    let here : start + 0 ≡ start = omega arith in
+    let first = each 0 (omega arith) ∙ ap (λ i. f i calls) here in
+    let rest = joined lines all none more f lanes answers (start + 1) (omega arith)
     (λ i low. each (suc i) (omega arith) ∙ ap (λ j. f j (slice_index_or lanes i []))
     (let e : start + suc i ≡ start + 1 + i = omega arith in e)) in
-    (λ h. first h ∷ rest h)
+    more calls lanes a answers ∙ (λ h. first h ∷ rest h)
 
 pub whole : (plan : Plan) (contexts : List (Option ContextView))
     (passes : List (List (Option PassView))) (answers : List LaneAnswers)
@@ -93,15 +100,15 @@ whole plan contexts passes answers books within t closed =
           (sym (get_or_past passes lane [] (let e = t.passes_count in omega arith)))
           (nobody plan contexts lane high))
     ] in
-    let shown = all_shown plan contexts passes_of answers_of served books closed.closes closed.stamps
-    closed.given in
     let run = run_of plan contexts passes_of answers_of served books in
     record {
       guesses = run.guesses;
-      allowed = is_allowed plan contexts passes_of answers_of served books within shown closed.count;
-      lines = joined (lane_call_lines run) plan.lanes answers 0 t.answers_count
-          (λ i low. lines_are_due plan contexts passes_of answers_of served books within shown
-          closed.count i low
+      allowed = is_allowed plan contexts passes_of answers_of served books within closed.closes
+          closed.stamps closed.given closed.count;
+      lines = joined answered_lines lanes_lines (λ some. refl) (λ calls lanes a more. refl)
+          (lane_call_lines run) plan.lanes answers 0 t.answers_count
+          (λ i low. lines_are_due plan contexts passes_of answers_of served books within
+          closed.closes closed.stamps closed.given closed.count i low
           ∙ ap (λ j. lane_call_lines run j (slice_index_or plan.lanes i []))
           (let e : i ≡ 0 + i = omega arith in e));
     }

@@ -25,16 +25,22 @@ abbrev pub IsDone : Plan → List (Option SharedView) → Option (Bor CounterVie
 IsDone plan contexts counter w =
     LaneIsAt plan contexts counter w.lane (length (lane_calls plan w.lane)) w
 
+-- each lane of a list
+abbrev pub Each : {L : Type 0} → (L → Type 0) → List L → Type 0
+Each P [] = Unit {0}
+Each P (w ∷ ws) = P w × Each P ws
+
+-- each lane of a list, by the one of another list that it was
+abbrev pub EachServed : {L : Type 0} → (L → L → Type 0) → List L → List L → Type 0
+EachServed P [] [] = Unit {0}
+EachServed P [] (v ∷ vs) = ⊥
+EachServed P (w ∷ ws) [] = ⊥
+EachServed P (w ∷ ws) (v ∷ vs) = P w v × EachServed P ws vs
+
 abbrev pub AllFresh : Plan → List (Option SharedView) → Option (Bor CounterView) → List LaneWork
     → Type 0
-AllFresh plan contexts counter [] = Unit {0}
-AllFresh plan contexts counter (w ∷ ws) =
-    IsFresh plan contexts counter w × AllFresh plan contexts counter ws
+AllFresh plan contexts counter ws = Each (IsFresh plan contexts counter) ws
 
 abbrev pub AllServed : Plan → List (Option SharedView) → Option (Bor CounterView) → List LaneWork
     → List LaneWork → Type 0
-AllServed plan contexts counter [] [] = Unit {0}
-AllServed plan contexts counter [] (v ∷ vs) = ⊥
-AllServed plan contexts counter (w ∷ ws) [] = ⊥
-AllServed plan contexts counter (w ∷ ws) (v ∷ vs) =
-    IsServed plan contexts counter w v × AllServed plan contexts counter ws vs
+AllServed plan contexts counter ws vs = EachServed (IsServed plan contexts counter) ws vs

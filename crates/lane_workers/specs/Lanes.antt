@@ -105,8 +105,9 @@ pub record IsShared (plan : Plan) (contexts : List (Option ContextView))
     (counter : Option (Bor CounterView)) (number : ℕ) (s : SharedView) : Type 0 where
   pub limit : s.lock.terms.limit ≡ s.context.limit
   pub lanes : length s.lock.terms.quotas ≡ length plan.lanes
-  pub quotas : (lane : ℕ) → lane < length plan.lanes → slice_index s.lock.terms.quotas lane
-      ≡ length (lane_places number lane (asks_of plan contexts lane))
+  pub quotas : (lane : ℕ) → lane < length plan.lanes
+      → length (lane_places number lane (asks_of plan contexts lane))
+      ≤ slice_index s.lock.terms.quotas lane
   pub counted : (stamps : Bor CounterView) × (counter ≡ Some stamps)
       × (s.lock.terms.counter ≡ stamps.now.id)
 

@@ -1,7 +1,12 @@
 pub mod Served
+pub mod LiveServed
 pub mod Turns
 pub mod Lanes
+pub mod Readings
 pub mod Groups
 pub mod Returned
 pub mod Gathered
+pub mod LiveGathered
+pub mod LiveLanes
+pub mod LiveReturned
 pub mod Handing

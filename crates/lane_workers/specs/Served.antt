@@ -41,6 +41,8 @@ told_served plan contexts told lane number (calls.UnsealAll context first count)
     ++ batch_line (guess_at asks told.guesses number) (guess_at asks told.misses number) ∷ []
 told_served plan contexts told lane number (calls.Export context exporter size) =
     export_line (standing_at contexts context) (span_bytes plan.pool exporter) size ∷ []
+told_served plan contexts told lane number (calls.Add name) = []
+told_served plan contexts told lane number (calls.Retire name) = []
 
 abbrev pub told_lines : Plan → List (Option ContextView) → Told → ℕ → ℕ → CallLine → List (List ℕ)
 told_lines plan contexts told lane number call =

@@ -15,7 +15,8 @@ ghost use Rattle.shared_context.specs.Stamped.{IsNote};
 ghost use Rattle.lane_replies.specs.LaneCalls.{opening_items, IsOpening};
 ghost use Rattle.lane_workers.specs.Turns.{shared_at, view_of, with_table, with_progress, CanTurn, Draws, Peeks, Commits, Opens};
 ghost use Rattle.lane_replies.specs.LaneCalls.{lane_calls};
-ghost use Rattle.lane_workers.specs.Lanes.{AreShared, LaneIsAt, MayAnswer, MayServe};
+ghost use Rattle.lane_workers.specs.Lanes.{AreShared, LaneIsAt};
+ghost use Rattle.lane_workers.specs.Readings.{Reading, MayAnswerAs, MayServeAs, IsOneOn};
 
 use crate::works::LaneWork;
 use aes_gcm::Checks;
@@ -42,7 +43,7 @@ pub(crate) struct Service<'a, R, G> {
 }
 
 // Why a call is refused on a context that may not stand.
-fn refusal_of(context: Option<&SharedContext>, call: &CallLine) -> Option<CallRefusal>
+pub(crate) fn refusal_of(context: Option<&SharedContext>, call: &CallLine) -> Option<CallRefusal>
     ensures { result ≡ refusal_on (view_of context.entry) call.now }
 {
     let Some(shared) = context else {
@@ -96,7 +97,7 @@ fn commit_front<R: Wait>(
 
 impl<R: Threads + Wait + Sync, G: Gate> Service<'_, R, G> {
     // The context of this number, where there is one and it stands.
-    fn standing(&self, number: u32) -> Option<&SharedContext>
+    pub(crate) fn standing(&self, number: u32) -> Option<&SharedContext>
         ensures { MatchOption result (shared_at self.now.contexts.now number ≡ None)
             (λ shared. shared_at self.now.contexts.now number ≡ Some shared.now) }
     {
@@ -215,10 +216,12 @@ impl<R: Threads + Wait + Sync, G: Gate> Service<'_, R, G> {
 
     // Seals a text at the number that is due.
     fn seal(&self, work: &mut LaneWork, shared: &SharedContext, number: u32, call: u32, item: &Item)
-        requires { MayServe self.now.plan.now self.now.contexts.now self.now.counter call
-            (CallLine.Seal number item.now) shared.now work.old }
-        ensures { LaneIsAt self.now.plan.now self.now.contexts.now self.now.counter work.old.lane
-            (call + 1) work.new }
+        requires { (r : Reading) × MayServeAs r self.now.plan.now self.now.contexts.now
+            self.now.counter call (CallLine.Seal number item.now) shared.now work.old }
+        ensures { (r : Reading) → MayServeAs r self.now.plan.now self.now.contexts.now
+            self.now.counter call (CallLine.Seal number item.now) shared.now work.old
+            → IsOneOn r self.now.contexts.now self.now.counter call
+            (CallLine.Seal number item.now) work.old work.new }
     {
         let drawn = self.draw(work, shared, number, call);
         let pool = self.plan.pool.as_slice();
@@ -228,8 +231,8 @@ impl<R: Threads + Wait + Sync, G: Gate> Service<'_, R, G> {
 
     // Opens the items of a call, and tells what it guessed.
     fn open(&self, work: &mut LaneWork, shared: &SharedContext, call: u32, line: &CallLine) -> Batch
-        requires may { MayServe self.now.plan.now self.now.contexts.now self.now.counter call
-            line.now shared.now work.old }
+        requires may { (r : Reading) × MayServeAs r self.now.plan.now self.now.contexts.now
+            self.now.counter call line.now shared.now work.old }
         requires opening { IsOpening line.now }
         ensures { Opens self.now.plan.now shared.now work.old work.new call line.now result.guess
             result.missed }
@@ -287,10 +290,11 @@ impl<R: Threads + Wait + Sync, G: Gate> Service<'_, R, G> {
 
     // A call that is served.
     fn serve_call(&self, work: &mut LaneWork, shared: &SharedContext, call: u32, line: &CallLine)
-        requires { MayServe self.now.plan.now self.now.contexts.now self.now.counter call line.now
-            shared.now work.old }
-        ensures { LaneIsAt self.now.plan.now self.now.contexts.now self.now.counter work.old.lane
-            (call + 1) work.new }
+        requires { (r : Reading) × MayServeAs r self.now.plan.now self.now.contexts.now
+            self.now.counter call line.now shared.now work.old }
+        ensures { (r : Reading) → MayServeAs r self.now.plan.now self.now.contexts.now
+            self.now.counter call line.now shared.now work.old
+            → IsOneOn r self.now.contexts.now self.now.counter call line.now work.old work.new }
     {
         match *line {
             CallLine::Seal { context, item } => self.seal(work, shared, context, call, &item),
@@ -302,15 +306,17 @@ impl<R: Threads + Wait + Sync, G: Gate> Service<'_, R, G> {
                 work.progress.put_batch(batch);
             }
             CallLine::Export { exporter, size, .. } => self.export(work, shared, exporter, size),
+            CallLine::Add { .. } | CallLine::Retire { .. } => unreachable!(),
         }
     }
 
     // A call, served or refused.
-    fn reply(&self, work: &mut LaneWork, call: u32, line: &CallLine)
-        requires { MayAnswer self.now.plan.now self.now.contexts.now self.now.counter call line.now
-            work.old }
-        ensures { LaneIsAt self.now.plan.now self.now.contexts.now self.now.counter work.old.lane
-            (call + 1) work.new }
+    pub(crate) fn reply(&self, work: &mut LaneWork, call: u32, line: &CallLine)
+        requires { (r : Reading) × MayAnswerAs r self.now.plan.now self.now.contexts.now
+            self.now.counter call line.now work.old }
+        ensures { (r : Reading) → MayAnswerAs r self.now.plan.now self.now.contexts.now
+            self.now.counter call line.now work.old
+            → IsOneOn r self.now.contexts.now self.now.counter call line.now work.old work.new }
     {
         let context = self.standing(context_of(line));
         if let Some(refusal) = refusal_of(context, line) {
@@ -324,10 +330,11 @@ impl<R: Threads + Wait + Sync, G: Gate> Service<'_, R, G> {
     }
 
     fn answer(&self, work: &mut LaneWork, call: u32, line: &CallLine)
-        requires { MayAnswer self.now.plan.now self.now.contexts.now self.now.counter call line.now
-            work.old }
-        ensures { LaneIsAt self.now.plan.now self.now.contexts.now self.now.counter work.old.lane
-            (call + 1) work.new }
+        requires { (r : Reading) × MayAnswerAs r self.now.plan.now self.now.contexts.now
+            self.now.counter call line.now work.old }
+        ensures { (r : Reading) → MayAnswerAs r self.now.plan.now self.now.contexts.now
+            self.now.counter call line.now work.old
+            → IsOneOn r self.now.contexts.now self.now.counter call line.now work.old work.new }
     {
         self.reply(work, call, line);
         self.gate.reached(work.lane, call, Point::Answered);

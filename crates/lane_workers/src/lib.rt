@@ -14,17 +14,27 @@
 //! [`served_lanes_make_a_run`] says that their answers and journals are, with some guesses, those of
 //! a run that is allowed.
 //!
-//! `serve` may wait for a turn. It takes no memory and refuses nothing. That a turn ever comes, and in
-//! which order lanes get theirs, is not said.
+//! A [`LiveLane`] adds and retires contexts while it is served, and looks one up before it calls it.
+//! It has a pass of the table of names (live_table) besides, and [`serve_live`] serves such lanes.
+//! What it shows is `LiveLaneIsServed` of `specs/LiveServed.antt`, and [`live_lanes_make_a_run`] says
+//! of all of them, of the closed contexts and of the closed table what the other law says.
+//!
+//! `serve` and `serve_live` may wait for a turn. They take no memory and refuse nothing. That a turn
+//! ever comes, and in which order lanes get theirs, is not said.
 #![tactic(auto)]
 
 mod calls;
 mod laws;
+mod live_calls;
+mod live_lane;
+mod live_serving;
 mod passes;
 mod serving;
 mod works;
 
-pub use laws::served_lanes_make_a_run;
+pub use laws::{live_lanes_make_a_run, served_lanes_make_a_run};
+pub use live_lane::LiveLane;
+pub use live_serving::serve_live;
 pub use passes::{put_passes, take_passes};
 pub use serving::serve;
 pub use works::{LanePasses, LaneWork, SharedList};

@@ -3,7 +3,7 @@
 ghost use Rattle.std.specs.Prelude.{◌<◌, ◌≤◌};
 ghost use Rattle.std.specs.Thread.{IsSync};
 ghost use Rattle.lane_workers.specs.Lanes.{AreShared};
-ghost use Rattle.lane_workers.specs.Groups.{AllFresh, AllServed};
+ghost use Rattle.lane_workers.specs.Groups.{IsFresh, IsServed, AllFresh, AllServed, Each, EachServed};
 
 use crate::calls::Service;
 use crate::works::{LaneWork, SharedList};
@@ -13,74 +13,98 @@ use stamp_counter::StampCounter;
 use std::sync::Wait;
 use std::thread::{Threads, join_mut};
 
-impl<R: Threads + Wait + Sync, G: Gate + Sync> Service<'_, R, G> {
-    // Serves the lanes in order.
-    fn serve_group(&self, lanes: &mut [LaneWork])
-        requires shared { AreShared self.now.plan.now self.now.contexts.now self.now.counter }
-        requires fresh { AllFresh self.now.plan.now self.now.contexts.now self.now.counter lanes.old }
-        ensures { AllServed self.now.plan.now self.now.contexts.now self.now.counter lanes.old
-            lanes.new }
-    {
-        let Some((first, rest)) = lanes.split_first_mut() else {
-            return;
-        };
-        self.serve_lane(first);
-        self.serve_group(rest);
-    }
+/// What lanes share while they are served, and how one of them is served.
+pub(crate) trait ServesLanes<L> {
+    // The lane may be served.
+    ghost may: { Self → L → Type 0 };
 
-    // Serves the lanes by so many workers, each of which has a group of lanes that stand side by side.
-    // The sizes of the groups differ by one at most.
-    #[cycle(serving)]
-    fn serve_by(&self, lanes: &mut [LaneWork], workers: u32)
-        requires workers { (0 < workers) × (workers ≤ 16) }
-        requires shared { AreShared self.now.plan.now self.now.contexts.now self.now.counter }
-        requires fresh { AllFresh self.now.plan.now self.now.contexts.now self.now.counter lanes.old }
-        ensures { AllServed self.now.plan.now self.now.contexts.now self.now.counter lanes.old
-            lanes.new }
-    {
-        if workers == 1 {
-            self.serve_group(lanes);
-            return;
-        }
-        let few = workers / 2;
-        let many = workers - few;
-        let size = lanes.len() / workers as usize;
-        let longer = lanes.len() % workers as usize;
-        let middle = (few as usize * size + longer.min(few as usize)).min(lanes.len());
-        let (front, back) = lanes.split_at_mut(middle);
-        self.serve_halves(front, few, back, many);
-    }
+    // The lane was served.
+    ghost served: { Self → L → L → Type 0 };
 
-    // The lanes of the front by so many workers, and those of the back by so many others.
-    #[cycle(serving)]
-    fn serve_halves(&self, front: &mut [LaneWork], few: u32, back: &mut [LaneWork], many: u32)
-        requires workers { (0 < few) × (few ≤ 16) × (0 < many) × (many ≤ 16) }
-        requires shared { AreShared self.now.plan.now self.now.contexts.now self.now.counter }
-        requires front { AllFresh self.now.plan.now self.now.contexts.now self.now.counter front.old }
-        requires back { AllFresh self.now.plan.now self.now.contexts.now self.now.counter back.old }
-        ensures front { AllServed self.now.plan.now self.now.contexts.now self.now.counter front.old
-            front.new }
-        ensures back { AllServed self.now.plan.now self.now.contexts.now self.now.counter back.old
-            back.new }
-    {
-        join_mut(
-            self.rt,
-            &mut ||
-                requires { IsSync R.row × IsSync G.row × (0 < few) × (few ≤ 16)
-                    × AreShared self.now.plan.now self.now.contexts.now self.now.counter
-                    × AllFresh self.now.plan.now self.now.contexts.now self.now.counter front.now }
-                ensures { AllServed self.entry.now.plan.now self.entry.now.contexts.now
-                    self.entry.now.counter front.entry.now front.exit.now }
-            { self.serve_by(front, few) },
-            &mut ||
-                requires { IsSync R.row × IsSync G.row × (0 < many) × (many ≤ 16)
-                    × AreShared self.now.plan.now self.now.contexts.now self.now.counter
-                    × AllFresh self.now.plan.now self.now.contexts.now self.now.counter back.now }
-                ensures { AllServed self.entry.now.plan.now self.entry.now.contexts.now
-                    self.entry.now.counter back.entry.now back.exit.now }
-            { self.serve_by(back, many) },
-        );
+    /// Serves a lane.
+    fn serve_one(&self, lane: &mut L)
+        requires { may self.now lane.old }
+        ensures { served self.now lane.old lane.new };
+}
+
+impl<R: Threads + Wait + Sync, G: Gate + Sync> ServesLanes<LaneWork> for Service<'_, R, G> {
+    ghost may = { λ s w. IsSync R.row × AreShared s.plan.now s.contexts.now s.counter
+        × IsFresh s.plan.now s.contexts.now s.counter w };
+
+    ghost served = { λ s w v. IsServed s.plan.now s.contexts.now s.counter w v };
+
+    fn serve_one(&self, lane: &mut LaneWork) {
+        self.serve_lane(lane);
     }
+}
+
+// Serves the lanes in order.
+fn serve_group<L, S: ServesLanes<L>>(service: &S, lanes: &mut [L])
+    requires { Each (S.may service.now) lanes.old }
+    ensures { EachServed (S.served service.now) lanes.old lanes.new }
+{
+    let Some((first, rest)) = lanes.split_first_mut() else {
+        return;
+    };
+    service.serve_one(first);
+    serve_group(service, rest);
+}
+
+// Serves the lanes by so many workers, each of which has a group of lanes that stand side by side.
+// The sizes of the groups differ by one at most.
+#[cycle(serving)]
+pub(crate) fn serve_by<R: Threads + Sync, L: Send, S: ServesLanes<L> + Sync>(
+    rt: &R,
+    service: &S,
+    lanes: &mut [L],
+    workers: u32,
+)
+    requires workers { (0 < workers) × (workers ≤ 16) }
+    requires may { Each (S.may service.now) lanes.old }
+    ensures { EachServed (S.served service.now) lanes.old lanes.new }
+{
+    if workers == 1 {
+        serve_group(service, lanes);
+        return;
+    }
+    let few = workers / 2;
+    let many = workers - few;
+    let size = lanes.len() / workers as usize;
+    let longer = lanes.len() % workers as usize;
+    let middle = (few as usize * size + longer.min(few as usize)).min(lanes.len());
+    let (front, back) = lanes.split_at_mut(middle);
+    serve_halves(rt, service, front, few, back, many);
+}
+
+// The lanes of the front by so many workers, and those of the back by so many others.
+#[cycle(serving)]
+fn serve_halves<R: Threads + Sync, L: Send, S: ServesLanes<L> + Sync>(
+    rt: &R,
+    service: &S,
+    front: &mut [L],
+    few: u32,
+    back: &mut [L],
+    many: u32,
+)
+    requires workers { (0 < few) × (few ≤ 16) × (0 < many) × (many ≤ 16) }
+    requires front { Each (S.may service.now) front.old }
+    requires back { Each (S.may service.now) back.old }
+    ensures front { EachServed (S.served service.now) front.old front.new }
+    ensures back { EachServed (S.served service.now) back.old back.new }
+{
+    join_mut(
+        rt,
+        &mut ||
+            requires { IsSync R.row × IsSync S.row × (0 < few) × (few ≤ 16)
+                × Each (S.may service.now) front.now }
+            ensures { EachServed (S.served service.entry.now) front.entry.now front.exit.now }
+        { serve_by(rt, service, front, few) },
+        &mut ||
+            requires { IsSync R.row × IsSync S.row × (0 < many) × (many ≤ 16)
+                × Each (S.may service.now) back.now }
+            ensures { EachServed (S.served service.entry.now) back.entry.now back.exit.now }
+        { serve_by(rt, service, back, many) },
+    );
 }
 
 /// Serves the lanes of a plan by so many workers.
@@ -109,5 +133,5 @@ pub fn serve<R: Threads + Wait + Sync, G: Gate + Sync>(
         counter,
         gate,
     };
-    service.serve_by(lanes, workers);
+    serve_by(rt, &service, lanes, workers);
 }

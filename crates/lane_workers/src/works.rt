@@ -9,6 +9,7 @@ ghost use Rattle.shared_context.specs.Calls.{SharedView};
 ghost use Rattle.lane_workers.specs.declared.works.LaneWork.{LaneWork};
 ghost use Rattle.lane_workers.specs.Groups.{IsFresh, IsDone};
 ghost use Rattle.lane_workers.specs.Returned.{IsGiven, IsReturned};
+ghost use Rattle.lane_workers.specs.LiveReturned.{IsPrepared, HasAllAnswers, GivesParts};
 
 use aes_gcm::Checks;
 use batch_plans::{CallLine, LaneAnswers, LaneProgress, PlainList, Plan, items_of};
@@ -69,6 +70,7 @@ impl LaneWork {
             (counter : Option (Bor CounterView))
             → IsGiven plan.now contexts counter lane passes seat answers
             → IsFresh plan.now contexts counter w) }
+        ensures prepared { IfOk result (IsPrepared plan.now lane passes seat answers) }
     {
         let most = most_items(plan.lanes.as_slice()[lane as usize].as_slice());
         let table = GuessTable::with_room(alloc, most)?;
@@ -84,13 +86,13 @@ impl LaneWork {
         })
     }
 
-    /// What the lane gives back, once it was served.
+    /// What the lane gives back, once all its replies and guesses were put.
     pub fn finish(self) -> (LanePasses, Option<StampSeat>, LaneAnswers)
-        requires { (plan : Plan) × (contexts : List (Option SharedView))
-            × (counter : Option (Bor CounterView)) × IsDone plan contexts counter self }
-        ensures { (plan : Plan) (contexts : List (Option SharedView))
+        requires { HasAllAnswers self }
+        ensures served { (plan : Plan) (contexts : List (Option SharedView))
             (counter : Option (Bor CounterView)) → IsDone plan contexts counter self
             → IsReturned plan contexts counter self.lane result.0 result.1 result.2 }
+        ensures parts { GivesParts self result.0 result.1 result.2 }
     {
         let LaneWork {
             passes,

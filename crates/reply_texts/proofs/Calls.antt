@@ -3,7 +3,7 @@ use Rattle.std.proofs.Common.{◌≡◌, ◌<◌, ℕ, List, [], ◌∷◌, ◌+
 use Rattle.std.proofs.Math.Seq.{take-append_seam, drop-append_seam}
 use Rattle.std.specs.Prelude.{slice_get, Some}
 use Rattle.batch_plans.specs.declared.plan.CallLine.{CallLine}
-use Rattle.batch_plans.specs.declared.plan.CallLine.TheVariants.{Seal, Unseal, UnsealAll, Export}
+use Rattle.batch_plans.specs.declared.plan.CallLine.TheVariants.{Seal, Unseal, UnsealAll, Export, Add, Retire}
 use Rattle.batch_plans.specs.declared.replies.CallRefusal.{CallRefusal}
 use Rattle.batch_plans.specs.declared.replies.Reply.{Reply}
 use Rattle.batch_plans.specs.declared.replies.Reply.TheVariants.{Refused}
@@ -27,6 +27,8 @@ HasReplies-one (Seal context item) reply single = one refl refl
 HasReplies-one (Unseal context item) reply single = one refl refl
 HasReplies-one (UnsealAll context first count) reply single = absurd (omega (arith, single))
 HasReplies-one (Export context exporter size) reply single = one refl refl
+HasReplies-one (Add name) reply single = one refl refl
+HasReplies-one (Retire name) reply single = one refl refl
 
 -- a call that is refused has one reply
 pub HasReplies-refused : (call : CallLine) (refusal : CallRefusal)
@@ -35,6 +37,8 @@ HasReplies-refused (Seal context item) refusal = one refl refl
 HasReplies-refused (Unseal context item) refusal = one refl refl
 HasReplies-refused (UnsealAll context first count) refusal = one refl refl
 HasReplies-refused (Export context exporter size) refusal = one refl refl
+HasReplies-refused (Add name) refusal = one refl refl
+HasReplies-refused (Retire name) refusal = one refl refl
 
 -- an opening of several messages that is served has a reply for each, and a guess
 pub HasReplies-opening : (context first count : ℕ) (replies : List Reply) (batch : Batch)

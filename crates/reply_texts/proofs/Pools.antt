@@ -8,7 +8,7 @@ use Rattle.call_places.specs.declared.spans.Span.{Span}
 use Rattle.call_places.specs.Spans.{span_bytes, IsInPool}
 use Rattle.batch_plans.specs.declared.plan.CallLine.{CallLine}
 use Rattle.batch_plans.specs.declared.replies.Reply.{Reply}
-use Rattle.batch_plans.specs.declared.replies.Reply.TheVariants.{Blank, Sealed, Opened, Failed, Limit, Exported, Refused}
+use Rattle.batch_plans.specs.declared.replies.Reply.TheVariants.{Blank, Sealed, Opened, Failed, Limit, Exported, Refused, Added, Retired}
 use Rattle.batch_plans.specs.declared.replies.Batch.{Batch}
 use Rattle.batch_plans.specs.Replies.{IsInRange}
 use Rattle.reply_texts.specs.Lines.{reply_line, served_line, exported_line}
@@ -42,6 +42,8 @@ module _ (size : ℕ) (a b : List ℕ) (same : take size a ≡ take size b) wher
   reply_line-same Limit fits = refl
   reply_line-same (Exported text) fits = ap exported_line (span_bytes-same text fits)
   reply_line-same (Refused refusal) fits = refl
+  reply_line-same Added fits = refl
+  reply_line-same Retired fits = refl
 
   pub reply_lines-same : (replies : List Reply) → All (IsInRange size) replies
       → map (reply_line a) replies ≡ map (reply_line b) replies

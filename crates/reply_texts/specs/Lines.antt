@@ -10,7 +10,7 @@ use Rattle.batch_plans.specs.declared.replies.ContextReply.{ContextReply}
 use Rattle.batch_plans.specs.declared.replies.ContextReply.TheVariants as contexts
 use Rattle.batch_plans.specs.declared.replies.CallRefusal.{CallRefusal}
 use Rattle.batch_plans.specs.declared.replies.Reply.{Reply}
-use Rattle.batch_plans.specs.declared.replies.Reply.TheVariants.{Blank, Sealed, Opened, Failed, Limit, Exported, Refused}
+use Rattle.batch_plans.specs.declared.replies.Reply.TheVariants.{Blank, Sealed, Opened, Failed, Limit, Exported, Refused, Added, Retired}
 use Rattle.reply_texts.specs.Words.{key_refusal_word, context_refusal_word, call_refusal_word}
 
 -- ---- keys and contexts
@@ -62,6 +62,13 @@ exported_line bytes = codes "exported " ++ hex_text bytes ++ codes "\n"
 abbrev pub refused_line : CallRefusal → List ℕ
 refused_line refusal = codes "refused " ++ call_refusal_word refusal ++ codes "\n"
 
+-- `added` and `retired`
+abbrev pub added_line : List ℕ
+added_line = codes "added\n"
+
+abbrev pub retired_line : List ℕ
+retired_line = codes "retired\n"
+
 -- the line of a reply, whose spans name bytes of the pool; a reply that was not given has none
 abbrev pub reply_line : List ℕ → Reply → List ℕ
 reply_line pool Blank = []
@@ -71,6 +78,8 @@ reply_line pool (Failed number) = failed_line number
 reply_line pool Limit = limit_line
 reply_line pool (Exported text) = exported_line (span_bytes pool text)
 reply_line pool (Refused refusal) = refused_line refusal
+reply_line pool Added = added_line
+reply_line pool Retired = retired_line
 
 -- `batch G M`: what an opening of several messages guessed, and how many of them it missed
 abbrev pub batch_line : ℕ → ℕ → List ℕ

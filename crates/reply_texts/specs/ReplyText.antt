@@ -7,7 +7,7 @@ use Rattle.field_text.specs.declared.faults.BadBatch.{BadBatch}
 use Rattle.batch_plans.specs.declared.replies.KeyReply.{KeyReply}
 use Rattle.batch_plans.specs.declared.replies.ContextReply.{ContextReply}
 use Rattle.batch_plans.specs.declared.replies.Reply.{Reply}
-use Rattle.batch_plans.specs.declared.replies.Reply.TheVariants.{Blank, Sealed, Opened, Failed, Limit, Exported, Refused}
+use Rattle.batch_plans.specs.declared.replies.Reply.TheVariants.{Blank, Sealed, Opened, Failed, Limit, Exported, Refused, Added, Retired}
 use Rattle.batch_plans.specs.declared.replies.Batch.{Batch}
 use Rattle.batch_plans.specs.declared.replies.LaneAnswers.{LaneAnswers}
 use Rattle.batch_plans.specs.declared.replies.Answers.{Answers}
@@ -29,6 +29,8 @@ is_refused (Some (Failed number)) = false
 is_refused (Some Limit) = false
 is_refused (Some (Exported text)) = false
 is_refused (Some (Refused refusal)) = true
+is_refused (Some Added) = false
+is_refused (Some Retired) = false
 
 -- how many of a lane's next replies are a call's: an opening of several messages has one for each,
 -- unless the next reply is a refusal
@@ -37,6 +39,8 @@ reply_count (lines.Seal context item) next = 1
 reply_count (lines.Unseal context item) next = 1
 reply_count (lines.UnsealAll context first count) next = if is_refused next then 1 else count
 reply_count (lines.Export context exporter size) next = 1
+reply_count (lines.Add name) next = 1
+reply_count (lines.Retire name) next = 1
 
 -- how many of a lane's next guesses are a call's
 abbrev pub batch_count : CallLine → Option Reply → ℕ
@@ -44,6 +48,8 @@ batch_count (lines.Seal context item) next = 0
 batch_count (lines.Unseal context item) next = 0
 batch_count (lines.UnsealAll context first count) next = if is_refused next then 0 else 1
 batch_count (lines.Export context exporter size) next = 0
+batch_count (lines.Add name) next = 0
+batch_count (lines.Retire name) next = 0
 
 -- ---- lanes
 

@@ -32,6 +32,9 @@ call_refusal_word calls.NoContext = codes "nocontext"
 call_refusal_word calls.Role = codes "role"
 call_refusal_word calls.NoCipher = codes "nocipher"
 call_refusal_word calls.ExportSize = codes "exportsize"
+call_refusal_word calls.PskPair = codes "pskpair"
+call_refusal_word calls.PskExtra = codes "pskextra"
+call_refusal_word calls.PskMissing = codes "pskmissing"
 
 -- why a line of a batch text is bad
 abbrev pub reason_word : Reason → List ℕ

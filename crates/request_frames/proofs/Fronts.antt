@@ -13,6 +13,8 @@ use Rattle.batch_plans.specs.declared.plan.Plan.{Plan}
 use Rattle.batch_plans.specs.Limits.{most_input}
 use Rattle.request_frames.specs.Batch.{batch, batch_lines, ended, front_batch, Spells, BadAt, BeginsWith, FrontBadAt}
 use Rattle.request_frames.specs.PlanText.{seed_text, key_text, context_text, lane_text, text_of}
+use Rattle.request_frames.specs.Added.{added_contexts}
+use Rattle.request_frames.proofs.AddedContexts.{line_contexts}
 use Rattle.request_frames.proofs.SpelledTexts.{whole_read, front_plan_read, front_found, ended_ok}
 
 -- the text of a plan ends with a line feed
@@ -23,7 +25,7 @@ record IsLines (text : List ℕ) : Type 0 where
 abbrev before_end : Plan → List ℕ
 before_end plan =
     codes "hpkebatch " ++ decimal plan.version ++ codes "\n" ++ seed_text plan.seed ++ flat_map (key_text plan.pool) plan.keys
-    ++ flat_map (context_text plan.pool) plan.contexts ++ flat_map (lane_text plan.pool plan.items) plan.lanes
+    ++ flat_map (context_text plan.pool) (line_contexts plan) ++ flat_map (lane_text plan.pool plan.items (added_contexts plan)) plan.lanes
 
 plan_lines : (plan : Plan) → IsLines (text_of plan)
 plan_lines plan = record { front = before_end plan ++ codes "end"; is = sym (append_assoc (before_end plan) (codes "end") (codes "\n")) }

@@ -16,7 +16,7 @@ use Rattle.batch_plans.specs.declared.plan.ContextKind.TheVariants as kinds
 use Rattle.batch_plans.specs.declared.plan.ContextLine.{ContextLine}
 use Rattle.batch_plans.specs.declared.plan.CallLine.{CallLine}
 use Rattle.batch_plans.specs.declared.plan.CallLine.TheVariants as calls
-use Rattle.batch_plans.specs.Limits.{most_input, most_keys, most_contexts, most_lanes, most_items, most_exported, most_field, most_ciphertext, items_of, size_of, items_from, text_size, all_items, all_sizes, all_texts, IsField, IsItemWithin, IsKeyWithin, IsEncWithin, IsKindWithin, IsContextWithin, IsCallWithin, IsWithinLimits}
+use Rattle.batch_plans.specs.Limits.{most_input, most_keys, most_contexts, most_lanes, most_items, most_exported, most_field, most_ciphertext, items_of, size_of, items_from, text_size, all_items, all_sizes, all_texts, IsField, IsItemWithin, IsKeyWithin, IsEncWithin, IsKindWithin, IsContextWithin, IsCallWithin, IsWithinLimits, IsPlainCall, IsPlain}
 use Rattle.request_frames.specs.Batch.{add_call, empty_plan}
 
 -- ---- one line, over a pool that is as long and items that are as many
@@ -59,6 +59,8 @@ call_grown items more n m (calls.Seal context item) many long h = (h.0, item_gro
 call_grown items more n m (calls.Unseal context item) many long h = (h.0, item_grown _ n m item long h.1)
 call_grown items more n m (calls.UnsealAll context first count) many long h = (h.0, h.1, h.2, omega (arith, h.3))
 call_grown items more n m (calls.Export context exporter size) many long h = (h.0, field_grown most_field n m exporter long h.1, h.2)
+call_grown items more n m (calls.Add name) many long h = h
+call_grown items more n m (calls.Retire name) many long h = h
 
 -- ---- sums over lanes
 
@@ -73,7 +75,7 @@ sums_more f (lane ∷ next ∷ more) call some =
     let all : List CallLine → ℕ = λ lane. sum_by f lane in
     omega (arith, sum_by-cons all lane (add_call (next ∷ more) call), sum_by-cons all lane (next ∷ more), sums_more f (next ∷ more) call (omega arith))
 
-lanes_more : (lanes : List (List CallLine)) (call : CallLine) → length (add_call lanes call) ≡ length lanes
+pub lanes_more : (lanes : List (List CallLine)) (call : CallLine) → length (add_call lanes call) ≡ length lanes
 lanes_more [] call = refl
 lanes_more (lane ∷ []) call = refl
 lanes_more (lane ∷ next ∷ more) call = omega (arith, lanes_more (next ∷ more) call)
@@ -108,6 +110,8 @@ text_same items more pool (calls.Seal context item) h = refl
 text_same items more pool (calls.Unseal context item) h = refl
 text_same items more pool (calls.UnsealAll context first count) h = ap (sum_by (λ (item : Item). item.text.len)) (items_stay items more first count h.3)
 text_same items more pool (calls.Export context exporter size) h = refl
+text_same items more pool (calls.Add name) h = refl
+text_same items more pool (calls.Retire name) h = refl
 
 texts_same : (items more : List Item) (pool : ℕ) (lanes : List (List CallLine)) → All (All (IsCallWithin (length items) pool)) lanes
     → all_texts (items ++ more) lanes ≡ all_texts items lanes
@@ -131,6 +135,7 @@ empty version is = record {
     pool = omega arith;
     keys = omega arith;
     contexts = omega arith;
+    added = omega arith;
     lanes = omega arith;
     items = omega arith;
     exported = omega arith;
@@ -152,6 +157,7 @@ with_pool plan pool long small h = record {
     pool = small;
     keys = h.limits.keys;
     contexts = h.limits.contexts;
+    added = h.limits.added;
     lanes = h.limits.lanes;
     items = h.limits.items;
     exported = h.limits.exported;
@@ -166,16 +172,18 @@ with_pool plan pool long small h = record {
   opened = h.opened;
 }
 
--- with this seed, these keys and these contexts
-with_set_up : (plan : Plan) (seed : Option (List ℕ)) (keys : List KeyLine) (contexts : List ContextLine) → length keys ≤ most_keys → length contexts ≤ most_contexts
+-- with this seed, these keys and these contexts, of which so many are added
+with_set_up : (plan : Plan) (seed : Option (List ℕ)) (keys : List KeyLine) (contexts : List ContextLine) (added : ℕ) → length keys ≤ most_keys
+    → length contexts ≤ most_contexts → added ≤ length contexts
     → All (IsKeyWithin seed (length plan.pool)) keys → All (IsContextWithin seed (length plan.pool)) contexts → IsBuilt plan
-    → IsBuilt (record plan { seed = seed; keys = keys; contexts = contexts })
-with_set_up plan seed keys contexts few_keys few_contexts key_lines context_lines h = record {
+    → IsBuilt (record plan { seed = seed; keys = keys; contexts = contexts; added = added })
+with_set_up plan seed keys contexts added few_keys few_contexts few_added key_lines context_lines h = record {
   limits = record {
     version = h.limits.version;
     pool = h.limits.pool;
     keys = few_keys;
     contexts = few_contexts;
+    added = few_added;
     lanes = h.limits.lanes;
     items = h.limits.items;
     exported = h.limits.exported;
@@ -192,7 +200,7 @@ with_set_up plan seed keys contexts few_keys few_contexts key_lines context_line
 -- with a seed, before the first key line and the first context line
 pub with_seed : (plan : Plan) (seed : List ℕ) → length plan.keys ≡ 0 → length plan.contexts ≡ 0 → IsBuilt plan → IsBuilt (record plan { seed = Some seed })
 with_seed plan seed no_key no_context h =
-    with_set_up plan (Some seed) plan.keys plan.contexts h.limits.keys h.limits.contexts
+    with_set_up plan (Some seed) plan.keys plan.contexts plan.added h.limits.keys h.limits.contexts h.limits.added
     (λ k d lt. absurd (omega (arith, lt, no_key))) (λ k d lt. absurd (omega (arith, lt, no_context))) h
 
 -- a key more
@@ -201,15 +209,26 @@ pub with_key : (plan : Plan) (key : KeyLine) → length plan.keys + 1 ≤ most_k
 with_key plan key few within h =
     let keys = plan.keys ++ key ∷ [] in
     let lines : All (IsKeyWithin plan.seed (length plan.pool)) keys = All-push (IsKeyWithin plan.seed (length plan.pool)) plan.keys key h.limits.key_lines within in
-    with_set_up plan plan.seed keys plan.contexts (omega (arith, few, length-append plan.keys (key ∷ []))) h.limits.contexts lines h.limits.context_lines h
+    with_set_up plan plan.seed keys plan.contexts plan.added (omega (arith, few, length-append plan.keys (key ∷ []))) h.limits.contexts h.limits.added lines h.limits.context_lines h
 
--- a context more
+-- a context more, so that so many are added
+more_contexts : (plan : Plan) (line : ContextLine) (added : ℕ) → length plan.contexts + 1 ≤ most_contexts → added ≤ length plan.contexts + 1
+    → IsContextWithin plan.seed (length plan.pool) line → IsBuilt plan → IsBuilt (record plan { contexts = plan.contexts ++ line ∷ []; added = added })
+more_contexts plan line added few few_added within h =
+    let contexts = plan.contexts ++ line ∷ [] in
+    let count : length contexts ≡ length plan.contexts + 1 = omega (arith, length-append plan.contexts (line ∷ [])) in
+    let lines : All (IsContextWithin plan.seed (length plan.pool)) contexts = All-push (IsContextWithin plan.seed (length plan.pool)) plan.contexts line h.limits.context_lines within in
+    with_set_up plan plan.seed plan.keys contexts added h.limits.keys (omega (arith, few, count)) (omega (arith, few_added, count)) h.limits.key_lines lines h
+
+-- a context line more
 pub with_context : (plan : Plan) (line : ContextLine) → length plan.contexts + 1 ≤ most_contexts → IsContextWithin plan.seed (length plan.pool) line → IsBuilt plan
     → IsBuilt (record plan { contexts = plan.contexts ++ line ∷ [] })
-with_context plan line few within h =
-    let contexts = plan.contexts ++ line ∷ [] in
-    let lines : All (IsContextWithin plan.seed (length plan.pool)) contexts = All-push (IsContextWithin plan.seed (length plan.pool)) plan.contexts line h.limits.context_lines within in
-    with_set_up plan plan.seed plan.keys contexts h.limits.keys (omega (arith, few, length-append plan.contexts (line ∷ []))) h.limits.key_lines lines h
+with_context plan line few within h = more_contexts plan line plan.added few (omega (arith, h.limits.added)) within h
+
+-- an added context more
+pub with_added : (plan : Plan) (line : ContextLine) → length plan.contexts + 1 ≤ most_contexts → IsContextWithin plan.seed (length plan.pool) line → IsBuilt plan
+    → IsBuilt (record plan { contexts = plan.contexts ++ line ∷ []; added = plan.added + 1 })
+with_added plan line few within h = more_contexts plan line (plan.added + 1) few (omega (arith, h.limits.added)) within h
 
 -- a lane more
 pub with_lane : (plan : Plan) → length plan.lanes + 1 ≤ most_lanes → IsBuilt plan → IsBuilt (record plan { lanes = plan.lanes ++ [] ∷ [] })
@@ -223,6 +242,7 @@ with_lane plan few h =
         pool = h.limits.pool;
         keys = h.limits.keys;
         contexts = h.limits.contexts;
+        added = h.limits.added;
         lanes = omega (arith, few, length-append plan.lanes ([] ∷ []));
         items = omega (arith, sums items_of, h.limits.items);
         exported = omega (arith, sums size_of, h.limits.exported);
@@ -255,6 +275,7 @@ with_call plan more call some items sizes texts few new within h =
         pool = h.limits.pool;
         keys = h.limits.keys;
         contexts = h.limits.contexts;
+        added = h.limits.added;
         lanes = omega (arith, lanes_more plan.lanes call, h.limits.lanes);
         items = omega (arith, sums_more items_of plan.lanes call some, items);
         exported = omega (arith, sums_more size_of plan.lanes call some, sizes);
@@ -267,3 +288,17 @@ with_call plan more call some items sizes texts few new within h =
       };
       opened = omega (arith, sums_more items_of plan.lanes call some, h.opened, length-append plan.items more, few);
     }
+
+-- ---- plans whose contexts stay
+
+pub plain_empty : (version : ℕ) → IsPlain (empty_plan version)
+plain_empty version = record { added = refl; calls = All-nil _ }
+
+-- a lane more
+pub plain_lane : (plan : Plan) → IsPlain plan → IsPlain (record plan { lanes = plan.lanes ++ [] ∷ [] })
+plain_lane plan h = record { added = h.added; calls = All-push (All IsPlainCall) plan.lanes [] h.calls (All-nil IsPlainCall) }
+
+-- a call more
+pub plain_call : (plan : Plan) (pool : List ℕ) (items : List Item) (call : CallLine) → IsPlainCall call → IsPlain plan
+    → IsPlain (record plan { pool = pool; items = items; lanes = add_call plan.lanes call })
+plain_call plan pool items call is h = record { added = h.added; calls = all_more IsPlainCall plan.lanes call h.calls is }

@@ -4,6 +4,7 @@ pub mod SpelledFields
 pub mod SpelledKeys
 pub mod SpelledContexts
 pub mod SpelledCalls
+pub mod AddedContexts
 pub mod Growth
 pub mod SpelledPlans
 pub mod Chains

@@ -1,5 +1,5 @@
 -- The pieces of a call line are those of what it spells.
-use Rattle.std.proofs.Common.{◌≡◌, ℕ, ◌+◌, ◌*◌, ◌%◌, ◌<◌, ◌≤◌, ◌==◌, ◌&&◌, nat_lt, List, [], ◌∷◌, ◌++◌, length, sum_by, codes, decimal, Ok, refl, sym, ap, subst, ◌∙◌, append_assoc, append-nil, lit<, arith}
+use Rattle.std.proofs.Common.{◌≡◌, ℕ, ◌+◌, ◌*◌, ◌%◌, ◌<◌, ◌≤◌, ◌==◌, ◌&&◌, nat_lt, Bool, false, List, [], ◌∷◌, ◌++◌, length, sum_by, codes, Ok, refl, sym, ap, subst, ◌∙◌, append_assoc, append-nil, lit<, arith}
 use Rattle.std.specs.List.{All, flat_map}
 use Rattle.std.proofs.lemmas.Bool.{and_parts, ltb-true}
 use Rattle.std.proofs.lemmas.List.Elements.{All-nil, All-cons}
@@ -10,10 +10,12 @@ use Rattle.field_text.specs.Fields.{number, bytes}
 use Rattle.field_text.proofs.Spellings.{ok_same, step_ok, test_ok, next_ok, exactly_ok, number_ok, bytes_ok, IsFront, IsFront-same, IsFront-then}
 use Rattle.field_text.proofs.SpelledLines.{no_piece}
 use Rattle.batch_plans.specs.declared.plan.CallLine.{CallLine}
-use Rattle.batch_plans.specs.Limits.{most_field, most_plaintext, most_ciphertext, text_size, IsItemWithin, IsCallWithin}
-use Rattle.request_frames.specs.Forms.{item, one_item, seal, unseal, export, pairs, unseal_all}
-use Rattle.request_frames.specs.PlanText.{item_pieces, call_pieces}
-use Rattle.request_frames.proofs.SpelledFields.{piece_is, front_length, field_within}
+use Rattle.batch_plans.specs.declared.plan.ContextLine.{ContextLine}
+use Rattle.batch_plans.specs.Limits.{most_field, most_plaintext, most_ciphertext, first_name, text_size, IsItemWithin, IsNumber, IsCallWithin, IsPlainCall}
+use Rattle.request_frames.specs.Forms.{ctx, item, one_item, seal, unseal, export, pairs, unseal_all}
+use Rattle.request_frames.specs.PlanText.{ctx_text, item_pieces, call_pieces}
+use Rattle.request_frames.specs.Added.{name_added}
+use Rattle.request_frames.proofs.SpelledFields.{ctx_ok, piece_is, front_length, field_within}
 
 -- ---- items
 
@@ -53,25 +55,28 @@ item_ok most pool pieces read e =
     e
 
 -- `CTX AAD TEXT`
-record IsOne (most : ℕ) (old : List ℕ) (read : ℕ × Item × List ℕ) (pieces : List (List ℕ)) : Type 0 where
-  context : read.0 ≤ 65535
+record IsOne (names : Bool) (most : ℕ) (old : List ℕ) (read : ℕ × Item × List ℕ) (pieces : List (List ℕ)) : Type 0 where
+  context : IsNumber read.0
+  plain : names ≡ false → read.0 < first_name
   grown : IsFront old read.2
-  spelled : (whole : List ℕ) → IsFront read.2 whole → decimal read.0 ∷ item_pieces whole read.1 ≡ pieces
+  spelled : (whole : List ℕ) → IsFront read.2 whole → ctx_text read.0 ∷ item_pieces whole read.1 ≡ pieces
   within : (size : ℕ) → length read.2 ≤ size → IsItemWithin most size read.1
   text : length old + read.1.text.len ≤ length read.2
 
-one_item_ok : (most : ℕ) (pool : List ℕ) (pieces : List (List ℕ)) (read : ℕ × Item × List ℕ) → one_item most pool pieces ≡ Ok read → IsOne most pool read pieces
+one_item_ok : (names : Bool) (most : ℕ) (pool : List ℕ) (pieces : List (List ℕ)) (read : ℕ × Item × List ℕ) → one_item names most pool pieces ≡ Ok read
+    → IsOne names most pool read pieces
 unfolding one_item
-one_item_ok most pool pieces read e =
+one_item_ok names most pool pieces read e =
     let counted = exactly_ok 3 pieces _ read e in
-    next_ok (number 0 65535) pieces _ read _
+    next_ok (ctx names) pieces _ read _
     (λ p1 context r1 cut1 read1 e.
     let found = step_ok (item most pool r1) _ read e in
     let one = item_ok most pool r1 found.0 found.1 in
-    let field1 = number_ok 0 65535 p1 context (lit< tt) read1 in
+    let field1 = ctx_ok names p1 context read1 in
     let last : found.0.1 ≡ [] = no_piece found.0.1 (omega (arith, counted.0, ap length cut1, one.count)) in
-    subst (λ (read : ℕ × Item × List ℕ). IsOne most pool read pieces) (ok_same _ _ found.2) record {
-      context = field1.most;
+    subst (λ (read : ℕ × Item × List ℕ). IsOne names most pool read pieces) (ok_same _ _ found.2) record {
+      context = field1.within;
+      plain = field1.plain;
       grown = one.grown;
       spelled = λ whole h.
           piece_is cut1 field1.spelled
@@ -84,56 +89,68 @@ one_item_ok most pool pieces read e =
 -- ---- calls of one item
 
 -- a call line that was read: the pool grew by the call's text at least, over each longer pool the line has
--- these pieces, and it is within its limits, whatever the plan's items are
-pub record IsCall (old new : List ℕ) (call : CallLine) (pieces : List (List ℕ)) : Type 0 where
+-- these pieces, and it is within its limits, whatever the plan's items and added contexts are. It adds no context,
+-- and is on the context of a context line where no line does
+pub record IsCall (names : Bool) (old new : List ℕ) (call : CallLine) (pieces : List (List ℕ)) : Type 0 where
   pub grown : IsFront old new
-  pub spelled : (whole : List ℕ) (items : List Item) → IsFront new whole → call_pieces whole items call ≡ pieces
+  pub spelled : (whole : List ℕ) (items : List Item) (added : List ContextLine) → IsFront new whole → call_pieces whole items added call ≡ pieces
   pub within : (items size : ℕ) → length new ≤ size → IsCallWithin items size call
+  pub plain : names ≡ false → IsPlainCall call
+  pub nameless : name_added call ≡ []
   pub text : (items : List Item) → length old + text_size items call ≤ length new
 
-pub seal_ok : (pool : List ℕ) (pieces : List (List ℕ)) (read : CallLine × List ℕ) → seal pool pieces ≡ Ok read → IsCall pool read.1 read.0 (codes "seal" ∷ pieces)
-seal_ok pool pieces read e =
-    let found = step_ok (one_item most_plaintext pool pieces) _ read e in
-    let one = one_item_ok most_plaintext pool pieces found.0 found.1 in
-    subst (λ (read : CallLine × List ℕ). IsCall pool read.1 read.0 (codes "seal" ∷ pieces)) (ok_same _ _ found.2) record {
+pub seal_ok : (names : Bool) (pool : List ℕ) (pieces : List (List ℕ)) (read : CallLine × List ℕ) → seal names pool pieces ≡ Ok read
+    → IsCall names pool read.1 read.0 (codes "seal" ∷ pieces)
+seal_ok names pool pieces read e =
+    let found = step_ok (one_item names most_plaintext pool pieces) _ read e in
+    let one = one_item_ok names most_plaintext pool pieces found.0 found.1 in
+    subst (λ (read : CallLine × List ℕ). IsCall names pool read.1 read.0 (codes "seal" ∷ pieces)) (ok_same _ _ found.2) record {
       grown = one.grown;
-      spelled = λ whole items h. ap (λ (pieces : List (List ℕ)). codes "seal" ∷ pieces) (one.spelled whole h);
+      spelled = λ whole items added h. ap (λ (pieces : List (List ℕ)). codes "seal" ∷ pieces) (one.spelled whole h);
       within = λ items size long. (one.context, one.within size long);
+      plain = one.plain;
+      nameless = refl;
       text = λ items. one.text;
     }
 
-pub unseal_ok : (pool : List ℕ) (pieces : List (List ℕ)) (read : CallLine × List ℕ) → unseal pool pieces ≡ Ok read → IsCall pool read.1 read.0 (codes "unseal" ∷ pieces)
-unseal_ok pool pieces read e =
-    let found = step_ok (one_item most_ciphertext pool pieces) _ read e in
-    let one = one_item_ok most_ciphertext pool pieces found.0 found.1 in
-    subst (λ (read : CallLine × List ℕ). IsCall pool read.1 read.0 (codes "unseal" ∷ pieces)) (ok_same _ _ found.2) record {
+pub unseal_ok : (names : Bool) (pool : List ℕ) (pieces : List (List ℕ)) (read : CallLine × List ℕ) → unseal names pool pieces ≡ Ok read
+    → IsCall names pool read.1 read.0 (codes "unseal" ∷ pieces)
+unseal_ok names pool pieces read e =
+    let found = step_ok (one_item names most_ciphertext pool pieces) _ read e in
+    let one = one_item_ok names most_ciphertext pool pieces found.0 found.1 in
+    subst (λ (read : CallLine × List ℕ). IsCall names pool read.1 read.0 (codes "unseal" ∷ pieces)) (ok_same _ _ found.2) record {
       grown = one.grown;
-      spelled = λ whole items h. ap (λ (pieces : List (List ℕ)). codes "unseal" ∷ pieces) (one.spelled whole h);
+      spelled = λ whole items added h. ap (λ (pieces : List (List ℕ)). codes "unseal" ∷ pieces) (one.spelled whole h);
       within = λ items size long. (one.context, one.within size long);
+      plain = one.plain;
+      nameless = refl;
       text = λ items. one.text;
     }
 
-pub export_ok : (pool : List ℕ) (pieces : List (List ℕ)) (read : CallLine × List ℕ) → export pool pieces ≡ Ok read → IsCall pool read.1 read.0 (codes "export" ∷ pieces)
+pub export_ok : (names : Bool) (pool : List ℕ) (pieces : List (List ℕ)) (read : CallLine × List ℕ) → export names pool pieces ≡ Ok read
+    → IsCall names pool read.1 read.0 (codes "export" ∷ pieces)
 unfolding export
-export_ok pool pieces read e =
+export_ok names pool pieces read e =
     let counted = exactly_ok 3 pieces _ read e in
-    next_ok (number 0 65535) pieces _ read _
+    next_ok (ctx names) pieces _ read _
     (λ p1 context r1 cut1 read1 e.
     next_ok (bytes most_field pool) r1 _ read _
     (λ p2 exporter r2 cut2 read2 e.
     next_ok (number 0 65535) r2 _ read _
     (λ p3 size r3 cut3 read3 e.
-    let field1 = number_ok 0 65535 p1 context (lit< tt) read1 in
+    let field1 = ctx_ok names p1 context read1 in
     let field2 = bytes_ok most_field pool p2 exporter read2 in
     let field3 = number_ok 0 65535 p3 size (lit< tt) read3 in
     let few = front_length pool exporter.pool field2.grown in
     let last : r3 ≡ [] = no_piece r3 (omega (arith, counted.0, ap length cut1, ap length cut2, ap length cut3)) in
-    subst (λ (read : CallLine × List ℕ). IsCall pool read.1 read.0 (codes "export" ∷ pieces)) (ok_same _ _ e) record {
+    subst (λ (read : CallLine × List ℕ). IsCall names pool read.1 read.0 (codes "export" ∷ pieces)) (ok_same _ _ e) record {
       grown = field2.grown;
-      spelled = λ whole items h.
+      spelled = λ whole items added h.
           ap (λ (pieces : List (List ℕ)). codes "export" ∷ pieces)
           (piece_is cut1 field1.spelled (piece_is cut2 (field2.spelled whole h) (piece_is cut3 field3.spelled (sym last))));
-      within = λ items longer long. (field1.most, field_within most_field pool p2 exporter longer field2 long, field3.most);
+      within = λ items longer long. (field1.within, field_within most_field pool p2 exporter longer field2 long, field3.most);
+      plain = field1.plain;
+      nameless = refl;
       text = λ items. omega (arith, few);
     })
     e) e)
@@ -187,28 +204,31 @@ pairs_ok pool before (aad ∷ text ∷ rest) read e =
     }
 
 -- `unsealall CTX AAD CT ..`
-pub record IsSeveral (old : List ℕ) (read : ℕ × List Item × List ℕ) (pieces : List (List ℕ)) : Type 0 where
-  pub context : read.0 ≤ 65535
+pub record IsSeveral (names : Bool) (old : List ℕ) (read : ℕ × List Item × List ℕ) (pieces : List (List ℕ)) : Type 0 where
+  pub context : IsNumber read.0
+  pub plain : names ≡ false → read.0 < first_name
   pub grown : IsFront old read.2
-  pub spelled : (whole : List ℕ) → IsFront read.2 whole → decimal read.0 ∷ flat_map (item_pieces whole) read.1 ≡ pieces
+  pub spelled : (whole : List ℕ) → IsFront read.2 whole → ctx_text read.0 ∷ flat_map (item_pieces whole) read.1 ≡ pieces
   pub within : (size : ℕ) → length read.2 ≤ size → All (IsItemWithin most_ciphertext size) read.1
   pub text : length old + sum_by (λ item. item.text.len) read.1 ≤ length read.2
   pub some : 1 ≤ length read.1
 
-pub unseal_all_ok : (pool : List ℕ) (pieces : List (List ℕ)) (read : ℕ × List Item × List ℕ) → unseal_all pool pieces ≡ Ok read → IsSeveral pool read pieces
+pub unseal_all_ok : (names : Bool) (pool : List ℕ) (pieces : List (List ℕ)) (read : ℕ × List Item × List ℕ) → unseal_all names pool pieces ≡ Ok read
+    → IsSeveral names pool read pieces
 unfolding unseal_all
-unseal_all_ok pool pieces read e =
+unseal_all_ok names pool pieces read e =
     let counted = test_ok (nat_lt 1 (length pieces) && (length pieces % 2 == 1)) pieces Fields _ read e in
     let many : 1 < length pieces = ltb-true 1 (length pieces) (and_parts _ _ counted.0).0 in
-    next_ok (number 0 65535) pieces _ read _
+    next_ok (ctx names) pieces _ read _
     (λ p1 context r1 cut1 read1 e.
     let found = step_ok (pairs pool [] r1) _ read e in
     let all = pairs_ok pool [] r1 found.0 found.1 in
-    let field1 = number_ok 0 65535 p1 context (lit< tt) read1 in
-    let IsRead : List Item → Type 0 = λ items. IsSeveral pool (context, items, found.0.1) pieces in
-    subst (λ (read : ℕ × List Item × List ℕ). IsSeveral pool read pieces) (ok_same _ _ found.2)
+    let field1 = ctx_ok names p1 context read1 in
+    let IsRead : List Item → Type 0 = λ items. IsSeveral names pool (context, items, found.0.1) pieces in
+    subst (λ (read : ℕ × List Item × List ℕ). IsSeveral names pool read pieces) (ok_same _ _ found.2)
     (subst IsRead (sym all.items) record {
-      context = field1.most;
+      context = field1.within;
+      plain = field1.plain;
       grown = all.grown;
       spelled = λ whole h. piece_is cut1 field1.spelled (all.spelled whole h);
       within = all.within;

@@ -1,5 +1,5 @@
 -- The pieces of a context line are those of what it spells.
-use Rattle.std.proofs.Common.{◌≡◌, ℕ, ◌≤◌, Bool, true, List, [], ◌∷◌, ◌++◌, length, drop, codes, decimal, Option, Ok, refl, sym, ap, subst, ◌∙◌, lit<, arith}
+use Rattle.std.proofs.Common.{◌≡◌, ℕ, ◌≤◌, Bool, false, true, List, [], ◌∷◌, ◌++◌, length, drop, codes, decimal, Option, Some, Ok, refl, sym, ap, subst, ◌∙◌, lit<, arith}
 use Rattle.std.specs.Prelude.{IsSome}
 use Rattle.hkdf_labelled.specs.Suites.{kdf_id, aead_id}
 use Rattle.hkdf_labelled.specs.declared.suites.Kdf.{Kdf}
@@ -17,7 +17,8 @@ use Rattle.request_frames.specs.declared.words.ContextWord.{ContextWord}
 use Rattle.request_frames.specs.declared.words.ContextWord.TheVariants.{Share, Send, Recv}
 use Rattle.request_frames.specs.Words.{word_text, draws, role, mode, kdf, aead}
 use Rattle.request_frames.specs.Forms.{schedule, share, send, recv, enc, is_reference, reference, enc_bytes, context}
-use Rattle.request_frames.specs.PlanText.{enc_text, schedule_pieces, context_pieces}
+use Rattle.request_frames.specs.PlanText.{enc_text, schedule_pieces, context_fields, context_pieces, added_pieces}
+use Rattle.request_frames.specs.Added.{IsShare}
 use Rattle.request_frames.proofs.SpelledFields.{role_ok, mode_ok, kdf_ok, aead_ok, reference_front, piece_is, front_length, field_within}
 
 -- ---- the end of each context line
@@ -119,6 +120,48 @@ share_ok pool pieces line new draws e =
     })
     e) e) e) e)
     counted.1
+
+-- the same fields behind `add`
+pub record IsAdded (old new : List ℕ) (line : ContextLine) (pieces : List (List ℕ)) : Type 0 where
+  pub grown : IsFront old new
+  pub spelled : (whole : List ℕ) → IsFront new whole → added_pieces whole (Some line) ≡ codes "add" ∷ pieces
+  pub within : (seed : Option (List ℕ)) (size : ℕ) → length new ≤ size → IsContextWithin seed size line
+  pub shared : IsShare line.kind
+
+fields_same : (one other : List ℕ) (xs ys : List (List ℕ)) → ◌≡◌ {A = List (List ℕ)} (one ∷ xs) (other ∷ ys) → xs ≡ ys
+fields_same one other xs ys e = ap (λ (pieces : List (List ℕ)). drop 1 pieces) e
+
+share_shared : (pool : List ℕ) (pieces : List (List ℕ)) (line : ContextLine) (new : List ℕ) → share pool pieces ≡ Ok (line, new) → IsShare line.kind
+unfolding share
+share_shared pool pieces line new e =
+    let counted = exactly_ok 10 pieces _ (line, new) e in
+    next_ok role pieces _ (line, new) _
+    (λ p1 role r1 cut1 read1 e.
+    next_ok (number 0 65535) r1 _ (line, new) _
+    (λ p2 kem r2 cut2 read2 e.
+    next_ok kdf r2 _ (line, new) _
+    (λ p3 kdf r3 cut3 read3 e.
+    next_ok aead r3 _ (line, new) _
+    (λ p4 aead r4 cut4 read4 e.
+    next_ok (bytes most_field pool) r4 _ (line, new) _
+    (λ p5 secret r5 cut5 read5 e.
+    let five : length r5 ≡ 5 = omega (arith, counted.0, ap length cut1, ap length cut2, ap length cut3, ap length cut4, ap length cut5) in
+    let rest = schedule_ok (kinds.Share role kem secret.span) kdf aead secret.pool r5 line new five e in
+    subst IsShare (sym rest.kind_is) tt)
+    e) e) e) e)
+    counted.1
+
+pub added_ok : (pool : List ℕ) (pieces : List (List ℕ)) (line : ContextLine) (new : List ℕ) → share pool pieces ≡ Ok (line, new) → IsAdded pool new line pieces
+added_ok pool pieces line new e =
+    let read = share_ok pool pieces line new false e in
+    record {
+      grown = read.grown;
+      spelled = λ whole h.
+          let fields : context_fields whole line line.kind ≡ pieces = fields_same _ _ _ _ (read.spelled whole h) in
+          ap (λ (pieces : List (List ℕ)). codes "add" ∷ pieces) fields;
+      within = λ seed size long. read.within seed size long (λ is. absurd cc);
+      shared = share_shared pool pieces line new e;
+    }
 
 send_ok : (pool : List ℕ) (pieces : List (List ℕ)) (line : ContextLine) (new : List ℕ) → send pool pieces ≡ Ok (line, new)
     → IsContext pool new true line (codes "send" ∷ pieces)

@@ -1,7 +1,7 @@
 -- The batch text: which bytes spell which plan, and which line of all other bytes is the first bad
 -- one, with its first reason. How a text of lines is judged says `Lines.antt` of field_text; here
 -- stands which lines there are, and what each adds to the plan of the lines before it.
-use Rattle.std.specs.Prelude.{◌≡◌, ℕ, ◌+◌, ◌-◌, ◌==◌, ◌&&◌, ◌||◌, not, nat_lt, nat_le, Bool, true, List, [], ◌∷◌, ◌++◌, length, Some, None, is_some, codes, Result, Ok, Err, if◌then◌else◌}
+use Rattle.std.specs.Prelude.{◌≡◌, ℕ, ◌+◌, ◌-◌, ◌==◌, ◌&&◌, ◌||◌, not, nat_lt, nat_le, Bool, false, true, List, [], ◌∷◌, ◌++◌, length, Some, None, is_some, codes, Result, Ok, Err, if◌then◌else◌}
 use Rattle.std.specs.List.{join_with_byte}
 use Rattle.std.specs.Str.{bytes_eq}
 use Rattle.field_text.specs.declared.reasons.Reason.{Reason}
@@ -102,26 +102,26 @@ with_one plan read = do
   counted (record plan { pool = pool }) call
 
 -- `unsealall ..`
-unfoldable pub with_several : Plan → List (List ℕ) → Result Plan Reason
-with_several plan pieces = do
-  (context, items, pool) ← unseal_all plan.pool pieces
+unfoldable pub with_several : Bool → Plan → List (List ℕ) → Result Plan Reason
+with_several names plan pieces = do
+  (context, items, pool) ← unseal_all names plan.pool pieces
   counted (record plan { pool = pool; items = plan.items ++ items })
       (calls.UnsealAll context (length plan.items) (length items))
 
 -- a call line
-abbrev pub with_call : Plan → CallWord → List (List ℕ) → Result Plan Reason
-with_call plan Seal pieces = with_one plan (seal plan.pool pieces)
-with_call plan Unseal pieces = with_one plan (unseal plan.pool pieces)
-with_call plan UnsealAll pieces = with_several plan pieces
-with_call plan Export pieces = with_one plan (export plan.pool pieces)
+abbrev pub with_call : Bool → Plan → CallWord → List (List ℕ) → Result Plan Reason
+with_call names plan Seal pieces = with_one plan (seal names plan.pool pieces)
+with_call names plan Unseal pieces = with_one plan (unseal names plan.pool pieces)
+with_call names plan UnsealAll pieces = with_several names plan pieces
+with_call names plan Export pieces = with_one plan (export names plan.pool pieces)
 
--- a line of each word
-abbrev pub with_line : Plan → LineWord → List (List ℕ) → Result Plan Reason
-with_line plan Rand pieces = with_rand plan pieces
-with_line plan (Key word) pieces = with_key plan word pieces
-with_line plan (Context word) pieces = with_context plan word pieces
-with_line plan Lane pieces = with_lane plan pieces
-with_line plan (Call word) pieces = with_call plan word pieces
+-- a line of each word, in a text whose lanes add contexts or in one whose contexts stay
+abbrev pub with_line : Bool → Plan → LineWord → List (List ℕ) → Result Plan Reason
+with_line names plan Rand pieces = with_rand plan pieces
+with_line names plan (Key word) pieces = with_key plan word pieces
+with_line names plan (Context word) pieces = with_context plan word pieces
+with_line names plan Lane pieces = with_lane plan pieces
+with_line names plan (Call word) pieces = with_call names plan word pieces
 
 -- ---- the whole text
 
@@ -136,6 +136,7 @@ empty_plan version =
       contexts = [];
       items = [];
       lanes = [];
+      added = 0;
     }
 
 -- the first line
@@ -145,14 +146,14 @@ header line =
     else if bytes_eq line (codes "hpkebatch 2") then Ok (empty_plan 2)
     else Err reasons.Header
 
--- the lines of a batch
+-- the lines of a batch, whose contexts stay
 abbrev pub batch_lines : Grammar Plan LineWord
 batch_lines =
     record {
       header = header;
       word = λ plan piece. line_word plan.version piece;
       may_stand = may_stand;
-      with_line = with_line;
+      with_line = with_line false;
     }
 
 -- the plan of a text, or its first bad line and first reason

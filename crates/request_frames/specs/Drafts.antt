@@ -1,5 +1,5 @@
 -- ---- for the proofs: the plan of the lines so far, as the code holds it
-use Rattle.std.specs.Prelude.{◌≡◌, ◌≤◌, false, List, [], ◌∷◌, ◌++◌, vec_len, if◌then◌else◌}
+use Rattle.std.specs.Prelude.{◌≡◌, ℕ, ◌≤◌, false, List, [], ◌∷◌, ◌++◌, vec_len, if◌then◌else◌}
 use Rattle.batch_plans.specs.declared.plan.Plan.{Plan}
 use Rattle.batch_plans.specs.declared.plan.CallLine.{CallLine}
 use Rattle.request_frames.specs.declared.draft.BatchDraft.{BatchDraft}
@@ -19,11 +19,17 @@ plan_of d =
       contexts = d.contexts.items;
       items = d.items.items;
       lanes = lanes_of d;
+      added = d.added;
     }
+
+-- the bytes of its bytes fields
+abbrev pub pool_size : BatchDraft → ℕ
+pool_size d = vec_len d.pool
 
 -- the counts that the draft keeps are those of its lanes, and within their limits, as its pool is
 pub record IsKept (d : BatchDraft) : Type 0 where
   pub pool : vec_len d.pool ≤ most_input
+  pub added : d.added ≤ vec_len d.contexts
   pub item_count : d.item_count ≡ all_items (lanes_of d)
   pub size_sum : d.size_sum ≡ all_sizes (lanes_of d)
   pub most_counted : d.item_count ≤ most_items

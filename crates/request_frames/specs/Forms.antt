@@ -1,12 +1,12 @@
 -- The lines of a batch without their first word: what each one spells. The bytes of each bytes
 -- field go to the end of the pool in turn.
-use Rattle.std.specs.Prelude.{ℕ, ◌%◌, ◌==◌, ◌&&◌, nat_lt, Bool, false, List, [], ◌∷◌, ◌++◌, length, drop, Result, Ok, Err, if◌then◌else◌}
+use Rattle.std.specs.Prelude.{ℕ, ◌+◌, ◌%◌, ◌==◌, ◌&&◌, nat_lt, Bool, false, List, [], ◌∷◌, ◌++◌, length, drop, Result, Ok, Err, if◌then◌else◌}
 use Rattle.call_places.specs.declared.spans.Span.{Span}
 use Rattle.call_places.specs.declared.spans.Item.{Item}
 use Rattle.hkdf_labelled.specs.declared.suites.Kdf.{Kdf}
 use Rattle.hkdf_labelled.specs.declared.suites.Aead.{Aead}
 use Rattle.field_text.specs.declared.reasons.Reason.{Reason}
-use Rattle.field_text.specs.declared.reasons.Reason.TheVariants.{Fields, Size}
+use Rattle.field_text.specs.declared.reasons.Reason.TheVariants.{Fields, Number, Size}
 use Rattle.field_text.specs.Fields.{◌>>=◌, next, exactly, number, bytes}
 use Rattle.batch_plans.specs.declared.plan.KeyLine.{KeyLine}
 use Rattle.batch_plans.specs.declared.plan.KeyLine.TheVariants as keys
@@ -22,7 +22,7 @@ use Rattle.request_frames.specs.declared.words.KeyWord.TheVariants.{Generate, Se
 use Rattle.request_frames.specs.declared.words.ContextWord.{ContextWord}
 use Rattle.request_frames.specs.declared.words.ContextWord.TheVariants.{Share, Send, Recv}
 use Rattle.request_frames.specs.Words.{role, mode, kdf, aead}
-use Rattle.batch_plans.specs.Limits.{most_field, most_plaintext, most_ciphertext}
+use Rattle.batch_plans.specs.Limits.{most_field, most_plaintext, most_ciphertext, first_name}
 
 -- ---- the seed
 
@@ -152,7 +152,28 @@ context Share pool pieces = share pool pieces
 context Send pool pieces = send pool pieces
 context Recv pool pieces = recv pool pieces
 
--- ---- call lines
+-- ---- the context of a call
+
+-- a piece that begins with `+`
+abbrev pub is_name : List ℕ → Bool
+is_name [] = false
+is_name (first ∷ more) = first == 43
+
+-- `+` and the number of an `add` line
+abbrev pub name : List ℕ → Result ℕ Reason
+name piece = if is_name piece then number 0 65535 (drop 1 piece) else Err Number
+
+-- the number by which a call names the context of an `add` line
+abbrev pub named : List ℕ → Result ℕ Reason
+named piece = do
+  name ← name piece
+  Ok (first_name + name)
+
+-- CTX: the number of a context line. Where lanes add contexts, a call may name one of those
+abbrev pub ctx : Bool → List ℕ → Result ℕ Reason
+ctx names piece = if names && is_name piece then named piece else number 0 65535 piece
+
+-- ---- call lines, in a text whose lanes add contexts or in one whose contexts stay
 
 -- `AAD TEXT`, with a text of so many bytes at most
 unfoldable pub item : ℕ
@@ -163,30 +184,31 @@ item most pool pieces = do
   Ok ((record { aad = aad.span; text = text.span }, text.pool), pieces)
 
 -- `CTX AAD TEXT`
-unfoldable pub one_item : ℕ → List ℕ → List (List ℕ) → Result (ℕ × Item × List ℕ) Reason
-one_item most pool pieces = do
+unfoldable pub one_item : Bool
+    → ℕ → List ℕ → List (List ℕ) → Result (ℕ × Item × List ℕ) Reason
+one_item names most pool pieces = do
   pieces ← exactly 3 pieces
-  (context, pieces) ← next (number 0 65535) pieces
+  (context, pieces) ← next (ctx names) pieces
   ((item, pool), pieces) ← item most pool pieces
   Ok (context, item, pool)
 
 -- `seal CTX AAD PT`
-abbrev pub seal : List ℕ → List (List ℕ) → Result (CallLine × List ℕ) Reason
-seal pool pieces = do
-  (context, item, pool) ← one_item most_plaintext pool pieces
+abbrev pub seal : Bool → List ℕ → List (List ℕ) → Result (CallLine × List ℕ) Reason
+seal names pool pieces = do
+  (context, item, pool) ← one_item names most_plaintext pool pieces
   Ok (Seal context item, pool)
 
 -- `unseal CTX AAD CT`: a ciphertext is 16 bytes longer than its plaintext (RFC 9180, 7.3)
-abbrev pub unseal : List ℕ → List (List ℕ) → Result (CallLine × List ℕ) Reason
-unseal pool pieces = do
-  (context, item, pool) ← one_item most_ciphertext pool pieces
+abbrev pub unseal : Bool → List ℕ → List (List ℕ) → Result (CallLine × List ℕ) Reason
+unseal names pool pieces = do
+  (context, item, pool) ← one_item names most_ciphertext pool pieces
   Ok (Unseal context item, pool)
 
 -- `export CTX BYTES LEN`
-unfoldable pub export : List ℕ → List (List ℕ) → Result (CallLine × List ℕ) Reason
-export pool pieces = do
+unfoldable pub export : Bool → List ℕ → List (List ℕ) → Result (CallLine × List ℕ) Reason
+export names pool pieces = do
   pieces ← exactly 3 pieces
-  (context, pieces) ← next (number 0 65535) pieces
+  (context, pieces) ← next (ctx names) pieces
   (exporter, pieces) ← next (bytes most_field pool) pieces
   (size, pieces) ← next (number 0 65535) pieces
   Ok (Export context exporter.span size, exporter.pool)
@@ -205,9 +227,10 @@ one_and_pairs pieces =
     if nat_lt 1 (length pieces) && (length pieces % 2 == 1) then Ok pieces else Err Fields
 
 -- `unsealall CTX AAD CT`, then any number of further pairs `AAD CT`
-unfoldable pub unseal_all : List ℕ → List (List ℕ) → Result (ℕ × List Item × List ℕ) Reason
-unseal_all pool pieces = do
+unfoldable pub unseal_all : Bool
+    → List ℕ → List (List ℕ) → Result (ℕ × List Item × List ℕ) Reason
+unseal_all names pool pieces = do
   pieces ← one_and_pairs pieces
-  (context, pieces) ← next (number 0 65535) pieces
+  (context, pieces) ← next (ctx names) pieces
   (items, pool) ← pairs pool [] pieces
   Ok (context, items, pool)

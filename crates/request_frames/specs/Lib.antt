@@ -1,6 +1,7 @@
 pub mod Words
 pub mod Forms
 pub mod Batch
+pub mod Added
 pub mod PlanText
 pub mod FieldFaults
 pub mod Drafts

@@ -7,35 +7,27 @@ ghost use Rattle.batch_plans.specs.Limits.{most_input, items_of, size_of};
 ghost use Rattle.request_frames.specs.Batch.{counted as counted_of, with_rand as rand_of};
 ghost use Rattle.request_frames.specs.Batch.{with_key as key_of, with_context as context_of};
 ghost use Rattle.request_frames.specs.Batch.{with_lane as lane_of, with_several as several_of};
-ghost use Rattle.request_frames.specs.Batch.{with_call as call_of};
-ghost use Rattle.request_frames.specs.Drafts.{plan_of, IsKept};
+ghost use Rattle.request_frames.specs.Batch.{with_call as call_of, with_line as line_of, may_stand};
+ghost use Rattle.request_frames.specs.Added.{with_added as added_of, with_retired as retired_of};
+ghost use Rattle.request_frames.specs.Drafts.{plan_of, pool_size, IsKept};
 
 use crate::draft::BatchDraft;
-use crate::words::{CallWord, ContextWord, KeyWord};
-use crate::{call_lines, contexts, key_lines};
+use crate::words::{CallWord, ContextWord, KeyWord, LineWord};
+use crate::{call_lines, contexts, key_lines, names};
 use batch_plans::limits::{
     MOST_CONTEXTS, MOST_EXPORTED, MOST_ITEMS, MOST_KEYS, MOST_LANES, MOST_OPENING,
 };
-use batch_plans::{CallLine, PlainList};
+use batch_plans::{CallLine, PlainList, items_of};
 use field_text::{Pieces, Reason, Stop};
 use std::mem;
-
-fn items_of_call(call: &CallLine) -> usize
-    ensures { result ≡ items_of call.now }
-{
-    match *call {
-        CallLine::Seal { .. } | CallLine::Unseal { .. } | CallLine::Export { .. } => 1,
-        CallLine::UnsealAll { count, .. } => count as usize,
-    }
-}
 
 // The LEN of a call.
 fn size_of_call(call: &CallLine) -> u64
     ensures { result ≡ size_of call.now }
 {
     match *call {
-        CallLine::Seal { .. } | CallLine::Unseal { .. } | CallLine::UnsealAll { .. } => 0,
         CallLine::Export { size, .. } => size as u64,
+        _ => 0,
     }
 }
 
@@ -50,7 +42,7 @@ impl BatchDraft {
         ensures added { OnOk result (self.new.item_count ≡ self.old.item_count + items_of call) }
         ensures pool { self.new.pool.items ≡ self.old.pool.items }
     {
-        let count = items_of_call(&call);
+        let count = items_of(&call) as usize;
         if count > MOST_OPENING {
             return Err(Stop::Bad(Reason::Count));
         }
@@ -68,9 +60,9 @@ impl BatchDraft {
         Ok(())
     }
 
-    /// `rand ..`
+    // `rand ..`
     #[tactic(auto, unfolding(crate::specs::Batch::with_rand))]
-    pub fn with_rand(&mut self, fields: &mut Pieces) -> Result<(), Stop>
+    fn with_rand(&mut self, fields: &mut Pieces) -> Result<(), Stop>
         requires room { vec_len self.old.pool + sum_by length fields.old ≤ most_input }
         requires kept { IsKept self.old }
         ensures read { Gives (λ _. plan_of self.new) result
@@ -84,9 +76,9 @@ impl BatchDraft {
         Ok(())
     }
 
-    /// A key line.
+    // A key line.
     #[tactic(auto, unfolding(crate::specs::Batch::with_key))]
-    pub fn with_key(&mut self, word: KeyWord, fields: &mut Pieces) -> Result<(), Stop>
+    fn with_key(&mut self, word: KeyWord, fields: &mut Pieces) -> Result<(), Stop>
         requires room { vec_len self.old.pool + sum_by length fields.old ≤ most_input }
         requires kept { IsKept self.old }
         ensures read { Gives (λ _. plan_of self.new) result
@@ -103,9 +95,9 @@ impl BatchDraft {
         Ok(())
     }
 
-    /// A context line.
+    // A context line.
     #[tactic(auto, unfolding(crate::specs::Batch::with_context))]
-    pub fn with_context(&mut self, word: ContextWord, fields: &mut Pieces) -> Result<(), Stop>
+    fn with_context(&mut self, word: ContextWord, fields: &mut Pieces) -> Result<(), Stop>
         requires room { vec_len self.old.pool + sum_by length fields.old ≤ most_input }
         requires kept { IsKept self.old }
         ensures read { Gives (λ _. plan_of self.new) result
@@ -122,9 +114,9 @@ impl BatchDraft {
         Ok(())
     }
 
-    /// `lane`
+    // `lane`
     #[tactic(auto, using(crate::proofs::Lanes::lane_facts), unfolding(crate::specs::Batch::with_lane))]
-    pub fn with_lane(&mut self, fields: &Pieces) -> Result<(), Stop>
+    fn with_lane(&mut self, fields: &Pieces) -> Result<(), Stop>
         requires kept { IsKept self.old }
         ensures read { Gives (λ _. plan_of self.new) result
             (lane_of (plan_of self.old) fields.now) }
@@ -146,18 +138,18 @@ impl BatchDraft {
 
     // `unsealall ..`: its items go behind those of the plan once they are counted.
     #[tactic(auto, unfolding(crate::specs::Batch::with_several, crate::specs::Batch::counted))]
-    fn with_several(&mut self, fields: &mut Pieces) -> Result<(), Stop>
+    fn with_several(&mut self, names: bool, fields: &mut Pieces) -> Result<(), Stop>
         requires room { vec_len self.old.pool + sum_by length fields.old ≤ most_input }
         requires few { length fields.old ≤ most_input }
         requires kept { IsKept self.old }
         requires open { self.old.in_lane ≡ true }
         ensures read { Gives (λ _. plan_of self.new) result
-            (several_of (plan_of self.old) fields.old) }
+            (several_of names (plan_of self.old) fields.old) }
         ensures kept { OnOk result (IsKept self.new) }
         ensures size { OnOk result
             (vec_len self.new.pool ≤ vec_len self.old.pool + sum_by length fields.old) }
     {
-        let (context, items) = call_lines::unseal_all(self.alloc, &mut self.pool, fields)?;
+        let (context, items) = call_lines::unseal_all(self.alloc, names, &mut self.pool, fields)?;
         let first = self.items.len() as u32;
         let count = items.len() as u32;
         self.counted(CallLine::UnsealAll {
@@ -169,25 +161,90 @@ impl BatchDraft {
         Ok(())
     }
 
-    /// A call line.
+    // A call line.
     #[tactic(auto, unfolding(crate::specs::Batch::with_one))]
-    pub fn with_call(&mut self, word: CallWord, fields: &mut Pieces) -> Result<(), Stop>
+    fn with_call(&mut self, names: bool, word: CallWord, fields: &mut Pieces) -> Result<(), Stop>
         requires room { vec_len self.old.pool + sum_by length fields.old ≤ most_input }
         requires few { length fields.old ≤ most_input }
         requires kept { IsKept self.old }
         requires open { self.old.in_lane ≡ true }
         ensures read { Gives (λ _. plan_of self.new) result
-            (call_of (plan_of self.old) word fields.old) }
+            (call_of names (plan_of self.old) word fields.old) }
         ensures kept { OnOk result (IsKept self.new) }
         ensures size { OnOk result
             (vec_len self.new.pool ≤ vec_len self.old.pool + sum_by length fields.old) }
     {
         let call = match word {
-            CallWord::Seal => call_lines::seal(&mut self.pool, fields)?,
-            CallWord::Unseal => call_lines::unseal(&mut self.pool, fields)?,
-            CallWord::UnsealAll => return self.with_several(fields),
-            CallWord::Export => call_lines::export(&mut self.pool, fields)?,
+            CallWord::Seal => call_lines::seal(names, &mut self.pool, fields)?,
+            CallWord::Unseal => call_lines::unseal(names, &mut self.pool, fields)?,
+            CallWord::UnsealAll => return self.with_several(names, fields),
+            CallWord::Export => call_lines::export(names, &mut self.pool, fields)?,
         };
         self.counted(call)
+    }
+
+    /// Takes the next line, of this word and with these further pieces. `names` says whether a call
+    /// may name a context that lanes add: no call of a batch may.
+    pub fn with_line(
+        &mut self,
+        names: bool,
+        word: LineWord,
+        fields: &mut Pieces,
+    ) -> Result<(), Stop>
+        requires room { pool_size self.old + sum_by length fields.old ≤ most_input }
+        requires few { length fields.old ≤ most_input }
+        requires kept { IsKept self.old }
+        requires stands { may_stand word (plan_of self.old) ≡ true }
+        ensures read { Gives (λ _. plan_of self.new) result
+            (line_of names (plan_of self.old) word fields.old) }
+        ensures size { OnOk result
+            (pool_size self.new ≤ pool_size self.old + sum_by length fields.old) }
+        ensures kept { OnOk result (IsKept self.new) }
+    {
+        match word {
+            LineWord::Rand => self.with_rand(fields),
+            LineWord::Key(word) => self.with_key(word, fields),
+            LineWord::Context(word) => self.with_context(word, fields),
+            LineWord::Lane => self.with_lane(fields),
+            LineWord::Call(word) => self.with_call(names, word, fields),
+        }
+    }
+
+    /// Takes the next line `add ..`, with these further pieces, those of `share`: a context behind all
+    /// others, and the call that adds it. No batch has such a line.
+    #[tactic(auto, unfolding(crate::specs::Added::with_added))]
+    pub fn with_added(&mut self, fields: &mut Pieces) -> Result<(), Stop>
+        requires room { pool_size self.old + sum_by length fields.old ≤ most_input }
+        requires kept { IsKept self.old }
+        requires stands { 0 < length (plan_of self.old).lanes }
+        ensures read { Gives (λ _. plan_of self.new) result
+            (added_of (plan_of self.old) fields.old) }
+        ensures size { OnOk result
+            (pool_size self.new ≤ pool_size self.old + sum_by length fields.old) }
+        ensures kept { OnOk result (IsKept self.new) }
+    {
+        let context = contexts::context(ContextWord::Share, &mut self.pool, fields)?;
+        if self.contexts.len() >= MOST_CONTEXTS {
+            return Err(Stop::Bad(Reason::Count));
+        }
+        let name = self.added;
+        self.contexts.push(context)?;
+        self.added += 1;
+        self.counted(CallLine::Add { name })
+    }
+
+    /// Takes the next line `retire +K`, with this further piece. No batch has such a line.
+    #[tactic(auto, unfolding(crate::specs::Added::with_retired))]
+    pub fn with_retired(&mut self, fields: &mut Pieces) -> Result<(), Stop>
+        requires kept { IsKept self.old }
+        requires stands { 0 < length (plan_of self.old).lanes }
+        ensures read { Gives (λ _. plan_of self.new) result
+            (retired_of (plan_of self.old) fields.old) }
+        ensures size { OnOk result (pool_size self.new ≡ pool_size self.old) }
+        ensures kept { OnOk result (IsKept self.new) }
+    {
+        fields.exactly(1)?;
+        let name = names::name(fields)?;
+        self.counted(CallLine::Retire { name })
     }
 }

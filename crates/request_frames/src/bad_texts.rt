@@ -10,7 +10,7 @@ pub struct BadCase {
     pub reason: Reason,
 }
 
-pub const BAD: [BadCase; 58] = [
+pub const BAD: [BadCase; 62] = [
     BadCase {
         what: "no byte",
         text: b"",
@@ -357,6 +357,30 @@ pub const BAD: [BadCase; 58] = [
         what: "a good line before a bad one",
         text: b"hpkebatch 1\nshare send 32 1 1 ab base - - - 9\nlane\nexport 0 - x\n",
         line: 4,
+        reason: Reason::Number,
+    },
+    BadCase {
+        what: "a line that adds a context",
+        text: b"hpkebatch 2\nlane\nadd send 32 1 1 ab base - - - 9\nend\n",
+        line: 3,
+        reason: Reason::Word,
+    },
+    BadCase {
+        what: "a line that retires a context",
+        text: b"hpkebatch 2\nlane\nretire +0\nend\n",
+        line: 3,
+        reason: Reason::Word,
+    },
+    BadCase {
+        what: "a seal on the name of a context",
+        text: b"hpkebatch 2\nlane\nseal +0 - -\nend\n",
+        line: 3,
+        reason: Reason::Number,
+    },
+    BadCase {
+        what: "an opening on the name of a context",
+        text: b"hpkebatch 2\nlane\nunsealall +0 - 00\nend\n",
+        line: 3,
         reason: Reason::Number,
     },
 ];

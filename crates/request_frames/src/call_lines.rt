@@ -1,4 +1,4 @@
-//! What a call line spells, by its form.
+//! What a call line spells, by its form. `names` says whether CTX may be `+K`.
 
 ghost use Rattle.std.specs.Prelude.{◌≡◌, ◌+◌, ◌<◌, ◌≤◌, ◌^◌, ◌%◌, [], length, vec_len, sum_by, OnOk, IfOk};
 ghost use Rattle.field_text.specs.Fields.{Gives, Reads};
@@ -8,6 +8,7 @@ ghost use Rattle.request_frames.specs.Forms.{export as export_of, pairs as pairs
 ghost use Rattle.request_frames.specs.Forms.{one_and_pairs as one_and_pairs_of};
 ghost use Rattle.request_frames.specs.Forms.{unseal_all as unseal_all_of};
 
+use crate::names;
 use batch_plans::CallLine;
 use batch_plans::limits::{MOST_CIPHERTEXT, MOST_FIELD, MOST_PLAINTEXT};
 use call_places::Item;
@@ -31,54 +32,59 @@ fn item(pool: &mut Vec<u8>, fields: &mut Pieces, most: usize) -> Result<Item, St
 
 // `CTX AAD TEXT`
 #[tactic(auto, unfolding(crate::specs::Forms::one_item))]
-fn one_item(pool: &mut Vec<u8>, fields: &mut Pieces, most: usize) -> Result<(u32, Item), Stop>
+fn one_item(
+    names: bool,
+    pool: &mut Vec<u8>,
+    fields: &mut Pieces,
+    most: usize,
+) -> Result<(u32, Item), Stop>
     requires room { vec_len pool.old + sum_by length fields.old < 2 ^ 32 }
     ensures read { Gives (λ call. (call.0, call.1, pool.new.items)) result
-        (one_item_of most pool.old.items fields.old) }
+        (one_item_of names most pool.old.items fields.old) }
     ensures size { OnOk result (vec_len pool.new ≤ vec_len pool.old + sum_by length fields.old) }
 {
     fields.exactly(3)?;
-    let context = fields.number(0, 65_535)? as u32;
+    let context = names::context(names, fields)?;
     let item = item(pool, fields, most)?;
     Ok((context, item))
 }
 
 /// `seal CTX AAD PT`
-pub fn seal(pool: &mut Vec<u8>, fields: &mut Pieces) -> Result<CallLine, Stop>
+pub fn seal(names: bool, pool: &mut Vec<u8>, fields: &mut Pieces) -> Result<CallLine, Stop>
     requires room { vec_len pool.old + sum_by length fields.old < 2 ^ 32 }
     ensures read { Gives (λ call. (call, pool.new.items)) result
-        (seal_of pool.old.items fields.old) }
+        (seal_of names pool.old.items fields.old) }
     ensures size { OnOk result (vec_len pool.new ≤ vec_len pool.old + sum_by length fields.old) }
 {
-    let (context, item) = one_item(pool, fields, MOST_PLAINTEXT)?;
+    let (context, item) = one_item(names, pool, fields, MOST_PLAINTEXT)?;
     Ok(CallLine::Seal { context, item })
 }
 
 /// `unseal CTX AAD CT`
-pub fn unseal(pool: &mut Vec<u8>, fields: &mut Pieces) -> Result<CallLine, Stop>
+pub fn unseal(names: bool, pool: &mut Vec<u8>, fields: &mut Pieces) -> Result<CallLine, Stop>
     requires room { vec_len pool.old + sum_by length fields.old < 2 ^ 32 }
     ensures read { Gives (λ call. (call, pool.new.items)) result
-        (unseal_of pool.old.items fields.old) }
+        (unseal_of names pool.old.items fields.old) }
     ensures size { OnOk result (vec_len pool.new ≤ vec_len pool.old + sum_by length fields.old) }
 {
-    let (context, item) = one_item(pool, fields, MOST_CIPHERTEXT)?;
+    let (context, item) = one_item(names, pool, fields, MOST_CIPHERTEXT)?;
     Ok(CallLine::Unseal { context, item })
 }
 
 /// `export CTX BYTES LEN`
 #[tactic(auto, unfolding(crate::specs::Forms::export))]
-pub fn export(pool: &mut Vec<u8>, fields: &mut Pieces) -> Result<CallLine, Stop>
+pub fn export(names: bool, pool: &mut Vec<u8>, fields: &mut Pieces) -> Result<CallLine, Stop>
     requires room { vec_len pool.old + sum_by length fields.old < 2 ^ 32 }
     ensures read { Gives (λ call. (call, pool.new.items)) result
-        (export_of pool.old.items fields.old) }
+        (export_of names pool.old.items fields.old) }
     ensures size { OnOk result (vec_len pool.new ≤ vec_len pool.old + sum_by length fields.old) }
 {
     fields.exactly(3)?;
-    let context = fields.number(0, 65_535)?;
+    let context = names::context(names, fields)?;
     let exporter = fields.bytes(pool, MOST_FIELD)?;
     let size = fields.number(0, 65_535)?;
     Ok(CallLine::Export {
-        context: context as u32,
+        context,
         exporter,
         size: size as u32,
     })
@@ -119,17 +125,18 @@ fn pairs(pool: &mut Vec<u8>, items: &mut Vec<Item>, fields: &mut Pieces) -> Resu
 #[tactic(auto, unfolding(crate::specs::Forms::unseal_all))]
 pub fn unseal_all(
     alloc: Global,
+    names: bool,
     pool: &mut Vec<u8>,
     fields: &mut Pieces,
 ) -> Result<(u32, Vec<Item>), Stop>
     requires room { vec_len pool.old + sum_by length fields.old < 2 ^ 32 }
     ensures read { Gives (λ call. (call.0, call.1.items, pool.new.items)) result
-        (unseal_all_of pool.old.items fields.old) }
+        (unseal_all_of names pool.old.items fields.old) }
     ensures size { OnOk result (vec_len pool.new ≤ vec_len pool.old + sum_by length fields.old) }
     ensures count { IfOk result (λ call. vec_len call.1 ≤ length fields.old) }
 {
     one_and_pairs(fields)?;
-    let context = fields.number(0, 65_535)? as u32;
+    let context = names::context(names, fields)?;
     let mut items = Vec::with_capacity(alloc, fields.len() / 2)?;
     pairs(pool, &mut items, fields)?;
     Ok((context, items))

@@ -1,7 +1,8 @@
 //! The plan of the lines so far.
 
-ghost use Rattle.std.specs.Prelude.{◌≡◌, IfOk};
-ghost use Rattle.request_frames.specs.Batch.{has_place as place_of, empty_plan};
+ghost use Rattle.std.specs.Prelude.{◌≡◌, nat_lt, length, IfOk};
+ghost use Rattle.request_frames.specs.Batch.{has_place as place_of, may_stand as may_stand_at};
+ghost use Rattle.request_frames.specs.Batch.{empty_plan};
 ghost use Rattle.request_frames.specs.Drafts.{plan_of, IsKept};
 
 use crate::words;
@@ -13,6 +14,9 @@ use std::alloc::{AllocError, Global};
 
 /// The lines so far. The lane that is open stands apart from those before it, and the counts of
 /// all lanes are kept.
+///
+/// A grammar that has other lines besides those of a batch takes its lines over one of these, as
+/// [`read_batch`](crate::read_batch) does.
 #[derive(Drop)]
 pub struct BatchDraft {
     pub(super) alloc: Global,
@@ -25,12 +29,14 @@ pub struct BatchDraft {
     pub(super) lanes: Vec<PlainList<CallLine>>,
     pub(super) calls: Vec<CallLine>,
     pub(super) in_lane: bool,
+    pub(super) added: u32,
     pub(super) item_count: usize,
     pub(super) size_sum: u64,
 }
 
 impl BatchDraft {
-    fn of_version(alloc: Global, version: u8) -> BatchDraft
+    /// The first line alone, of this version.
+    pub fn of_version(alloc: Global, version: u8) -> BatchDraft
         ensures plan { plan_of result ≡ empty_plan version }
         ensures kept { IsKept result }
     {
@@ -45,9 +51,17 @@ impl BatchDraft {
             lanes: Vec::new(alloc),
             calls: Vec::new(alloc),
             in_lane: false,
+            added: 0,
             item_count: 0,
             size_sum: 0,
         }
+    }
+
+    /// Whether there is a lane.
+    pub fn has_lane(&self) -> bool
+        ensures { result ≡ nat_lt 0 (length (plan_of self.now).lanes) }
+    {
+        self.in_lane
     }
 
     // Whether a line of this word has its place here.
@@ -62,6 +76,13 @@ impl BatchDraft {
             LineWord::Lane => true,
             LineWord::Call(_) => self.in_lane,
         }
+    }
+
+    /// Whether a line of this word may stand behind the lines so far.
+    pub fn takes(&self, word: LineWord) -> bool
+        ensures { result ≡ may_stand_at word (plan_of self.now) }
+    {
+        self.has_place(word) && (!word.draws() || self.seed.is_some())
     }
 
     /// The plan of all lines.
@@ -79,6 +100,7 @@ impl BatchDraft {
             mut lanes,
             calls,
             in_lane,
+            added,
             ..
         } = self;
         if in_lane {
@@ -92,15 +114,15 @@ impl BatchDraft {
             contexts: PlainList::from_vec(contexts),
             items: PlainList::from_vec(items),
             lanes: PlainList::from_vec(lanes),
+            added,
         })
     }
 }
 
 impl Draft for BatchDraft {
-    ghost use Rattle.std.specs.Prelude.{vec_len};
     ghost use Rattle.batch_plans.specs.Limits.{most_input};
     ghost use Rattle.request_frames.specs.Batch.{batch_lines};
-    ghost use Rattle.request_frames.specs.Drafts.{plan_of, IsKept};
+    ghost use Rattle.request_frames.specs.Drafts.{plan_of, pool_size, IsKept};
 
     type Plan = Plan;
 
@@ -114,7 +136,7 @@ impl Draft for BatchDraft {
 
     ghost plan = { plan_of };
 
-    ghost size = { λ draft. vec_len draft.pool };
+    ghost size = { pool_size };
 
     ghost kept = { IsKept };
 
@@ -133,16 +155,10 @@ impl Draft for BatchDraft {
     }
 
     fn may_stand(&self, word: LineWord) -> bool {
-        self.has_place(word) && (!word.draws() || self.seed.is_some())
+        self.takes(word)
     }
 
     fn add(&mut self, word: LineWord, fields: &mut Pieces) -> Result<(), Stop> {
-        match word {
-            LineWord::Rand => self.with_rand(fields),
-            LineWord::Key(word) => self.with_key(word, fields),
-            LineWord::Context(word) => self.with_context(word, fields),
-            LineWord::Lane => self.with_lane(fields),
-            LineWord::Call(word) => self.with_call(word, fields),
-        }
+        self.with_line(false, word, fields)
     }
 }

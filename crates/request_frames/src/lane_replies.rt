@@ -48,8 +48,8 @@ fn replies_of<'a>(call: &CallLine, replies: &'a [Reply]) -> (&'a [Reply], &'a [R
     (&replies[..count], &replies[count..])
 }
 
-// The guess of a call whose replies come next, where it has one, and those behind it.
-fn guesses_of<'a>(
+/// The guess of a call whose replies come next, where it has one, and those behind it.
+pub fn guesses_of<'a>(
     call: &CallLine,
     replies: &[Reply],
     batches: &'a [Batch],
@@ -63,8 +63,8 @@ fn guesses_of<'a>(
     (&batches[..count], &batches[count..])
 }
 
-// How many of the next replies are a call's.
-fn reply_count(call: &CallLine, replies: &[Reply]) -> usize
+/// How many of the next replies are a call's.
+pub fn reply_count(call: &CallLine, replies: &[Reply]) -> usize
     ensures { result ≡ reply_count call.now (slice_get replies.now 0) }
 {
     match *call {
@@ -90,7 +90,8 @@ fn is_refused(replies: &[Reply]) -> bool
     matches!(replies.first(), Some(Reply::Refused(_)))
 }
 
-fn put_replies<K: Sink>(out: &mut Buffer, sink: &mut K, pool: &[u8], replies: &[Reply])
+/// Puts the line of each reply behind what is in the buffer.
+pub fn put_replies<K: Sink>(out: &mut Buffer, sink: &mut K, pool: &[u8], replies: &[Reply])
     requires { All (IsInRange (length pool.now)) replies.now }
     ensures { Puts K.written K.faults sink.old sink.new out.old out.new
         (concat (map (reply_line pool.now) replies.now)) }
@@ -100,7 +101,8 @@ fn put_replies<K: Sink>(out: &mut Buffer, sink: &mut K, pool: &[u8], replies: &[
     }
 }
 
-fn put_guesses<K: Sink>(out: &mut Buffer, sink: &mut K, batches: &[Batch])
+/// Puts the line of each guess behind what is in the buffer.
+pub fn put_guesses<K: Sink>(out: &mut Buffer, sink: &mut K, batches: &[Batch])
     ensures { Puts K.written K.faults sink.old sink.new out.old out.new
         (concat (map guess_line batches.now)) }
 {

@@ -6,10 +6,13 @@
 //! reason; [`one_reading`] says that each text has just one of these, and [`one_spelling`] that a
 //! plan's text is `text_of` of `specs/PlanText.antt` and no other. [`read_front`] reads a batch
 //! that something else follows, and [`fronts_are_batches`] says that it is one by itself. For
-//! grammars with other lines there are the fields alone, [`read_number`] and [`read_bytes`].
+//! grammars with other lines there are the lines by themselves, [`BatchDraft`], and the fields alone,
+//! [`read_number`] and [`read_bytes`].
 //!
 //! [`print_answers`] and [`print_bad`] append just the text that reply_texts defines, or a prefix
-//! of it where the sink failed; [`print_setup`] and [`print_reply`] do the same for parts of it.
+//! of it where the sink failed; [`print_setup`] and [`print_reply`] do the same for parts of it. For
+//! replies of other texts the parts can be put into a buffer: [`put_setup`],
+//! [`put_replies`], [`put_guesses`], [`put_journals`].
 //! The plan, the answers and the calls on them are those of batch_plans, and are given out again.
 //!
 //! What a call does that is served is not known here, nor whether a context's psk inputs go with
@@ -29,6 +32,7 @@ mod key_lines;
 mod lane_replies;
 #[cfg(test)]
 mod long_texts;
+mod names;
 #[cfg(test)]
 mod plan_tests;
 mod printing;
@@ -52,8 +56,14 @@ pub use batch_plans::{
     KeyLine, KeyLines, KeyRefusal, KeyReplies, KeyReply, LaneAnswerList, LaneAnswers, LaneLines,
     LaneProgress, PlainList, Plan, Reply, ReplyList, call_refusal,
 };
+pub use draft::BatchDraft;
 pub use field_text::{BadBatch, Printed, ReadBatchFault, Reason};
 pub use fields::{FieldFault, read_bytes, read_number};
-pub use printing::{print_answers, print_bad, print_reply, print_setup};
+pub use lane_replies::{guesses_of, put_guesses, put_replies, reply_count};
+pub use printing::{
+    print_answers, print_bad, print_reply, print_setup, put_journals, put_marks, put_setup,
+    put_version,
+};
 pub use reading::{fronts_are_batches, one_reading, read_batch, read_front};
 pub use spelling::one_spelling;
+pub use words::{CallWord, ContextWord, KeyWord, LineWord, line_word};

@@ -116,7 +116,8 @@ fn put_answers<K: Sink>(out: &mut Buffer, sink: &mut K, plan: &Plan, answers: &A
     out.put_text(sink, b"end\n")
 }
 
-fn put_version<K: Sink>(out: &mut Buffer, sink: &mut K, version: u8)
+/// Puts the first line behind what is in the buffer.
+pub fn put_version<K: Sink>(out: &mut Buffer, sink: &mut K, version: u8)
     ensures { Puts K.written K.faults sink.old sink.new out.old out.new (version_line version) }
 {
     out.put_text(sink, b"hpkebatch ");
@@ -131,7 +132,13 @@ fn has_stamps(version: u8) -> bool
     version == 2
 }
 
-fn put_setup<K: Sink>(out: &mut Buffer, sink: &mut K, keys: &[KeyReply], contexts: &[ContextReply])
+/// Puts the replies to the key lines and to the context lines behind what is in the buffer.
+pub fn put_setup<K: Sink>(
+    out: &mut Buffer,
+    sink: &mut K,
+    keys: &[KeyReply],
+    contexts: &[ContextReply],
+)
     ensures { Puts K.written K.faults sink.old sink.new out.old out.new
         (setup_text keys.now contexts.now) }
 {
@@ -190,7 +197,14 @@ fn put_lane<K: Sink>(
     put_calls(out, sink, calls, lane)
 }
 
-fn put_journals<K: Sink>(out: &mut Buffer, sink: &mut K, stamps: bool, journals: &[PlainList<Mark>])
+/// Puts the journals of contexts, numbered from 0, behind what is in the buffer. `stamps` says
+/// whether a place tells its stamp.
+pub fn put_journals<K: Sink>(
+    out: &mut Buffer,
+    sink: &mut K,
+    stamps: bool,
+    journals: &[PlainList<Mark>],
+)
     ensures { Puts K.written K.faults sink.old sink.new out.old out.new
         (concat (all_lines (numbered (journal_lines stamps) 0 journals.now))) }
 {
@@ -209,7 +223,8 @@ fn put_journal<K: Sink>(out: &mut Buffer, sink: &mut K, stamps: bool, context: u
     put_marks(out, sink, stamps, marks)
 }
 
-fn put_marks<K: Sink>(out: &mut Buffer, sink: &mut K, stamps: bool, marks: &[Mark])
+/// Puts the places of a journal behind what is in the buffer.
+pub fn put_marks<K: Sink>(out: &mut Buffer, sink: &mut K, stamps: bool, marks: &[Mark])
     ensures { Puts K.written K.faults sink.old sink.new out.old out.new
         (concat (map (mark_line stamps) marks.now)) }
 {

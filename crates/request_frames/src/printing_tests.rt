@@ -48,6 +48,11 @@ refused nocontext
 refused role
 refused nocipher
 refused exportsize
+refused pskpair
+refused pskextra
+refused pskmissing
+added
+retired
 ";
 
 // Own, by hand: the greatest numbers of a guess and of a place, an empty lane, empty journals.
@@ -90,7 +95,7 @@ const NOTHING: Span = Span { start: 0, len: 0 };
 // Each form of a reply, over the pool below.
 const POOL: [u8; 4] = [0xde, 0xad, 0xbe, 0xef];
 
-const FORMS: [Reply; 10] = [
+const FORMS: [Reply; 15] = [
     Reply::Sealed {
         number: 0,
         text: Span { start: 0, len: 4 },
@@ -112,6 +117,11 @@ const FORMS: [Reply; 10] = [
     Reply::Refused(CallRefusal::Role),
     Reply::Refused(CallRefusal::NoCipher),
     Reply::Refused(CallRefusal::ExportSize),
+    Reply::Refused(CallRefusal::PskPair),
+    Reply::Refused(CallRefusal::PskExtra),
+    Reply::Refused(CallRefusal::PskMissing),
+    Reply::Added,
+    Reply::Retired,
 ];
 
 // ---- answers that can be printed
@@ -244,6 +254,7 @@ pub(crate) fn plan_of(
         contexts: PlainList::from_vec(vec![in alloc; context; contexts]?),
         items: PlainList::from_vec(Vec::new(alloc)),
         lanes,
+        added: 0,
     })
 }
 
@@ -261,7 +272,7 @@ fn plan(alloc: Global) -> Result<Plan, AllocError> {
         count: 1,
     };
     let lanes = [
-        PlainList::from_vec(vec![in alloc; seal; 10]?),
+        PlainList::from_vec(vec![in alloc; seal; 15]?),
         list(alloc, [open].as_slice())?,
         PlainList::from_vec(Vec::new(alloc)),
     ];
@@ -334,6 +345,7 @@ fn answers(alloc: Global) -> Result<Answers, AllocError> {
         contexts: contexts(alloc)?,
         lanes: lanes(alloc)?,
         journals: journals(alloc)?,
+        notes: PlainList::from_vec(Vec::new(alloc)),
     })
 }
 

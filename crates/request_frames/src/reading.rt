@@ -6,7 +6,7 @@ ghost use Rattle.field_text.specs.Lines.{Finds};
 ghost use Rattle.batch_plans.specs.declared.plan.Plan.{Plan};
 ghost use Rattle.request_frames.specs.Batch.{Spells, BadAt, batch, refusal, no_memory};
 ghost use Rattle.request_frames.specs.Batch.{BeginsWith, FrontBadAt, front_batch};
-ghost use Rattle.batch_plans.specs.Limits.{most_input, IsWithinLimits};
+ghost use Rattle.batch_plans.specs.Limits.{most_input, IsWithinLimits, IsPlain};
 
 use crate::draft::BatchDraft;
 use batch_plans::Plan;
@@ -17,6 +17,7 @@ use std::alloc::Global;
 fn read(alloc: Global, bytes: &[u8]) -> Result<Plan, ReadBatchFault>
     ensures read { Finds (λ plan. plan) result (batch bytes.now) }
     ensures limits { IfOk result IsWithinLimits }
+    ensures plain { IfOk result IsPlain }
 {
     let draft = read_whole::<BatchDraft>(alloc, bytes)?;
     Ok(draft.finish()?)
@@ -35,6 +36,7 @@ pub fn read_batch(alloc: Global, bytes: &[u8]) -> Result<Plan, ReadBatchFault>
     ensures spelled { (plan : Plan) → Spells bytes.now plan
         → (result ≡ Ok plan) ⊎ (result ≡ no_memory) }
     ensures limits { IfOk result IsWithinLimits }
+    ensures plain { IfOk result IsPlain }
 {
     read(alloc, bytes)
 }
@@ -43,6 +45,7 @@ pub fn read_batch(alloc: Global, bytes: &[u8]) -> Result<Plan, ReadBatchFault>
 fn read_up_to_end(alloc: Global, bytes: &[u8]) -> Result<(Plan, usize), ReadBatchFault>
     ensures read { Finds (λ front. front) result (front_batch bytes.now) }
     ensures limits { IfOk result (λ front. IsWithinLimits front.0) }
+    ensures plain { IfOk result (λ front. IsPlain front.0) }
 {
     let front = field_text::read_front::<BatchDraft>(alloc, bytes)?;
     let end = bytes.len() - front.rest.len();
@@ -62,6 +65,7 @@ pub fn read_front(alloc: Global, bytes: &[u8]) -> Result<(Plan, usize), ReadBatc
     ensures found { (plan : Plan) (end : ℕ) → BeginsWith bytes.now plan end
         → (result ≡ Ok (plan, end)) ⊎ (result ≡ no_memory) }
     ensures limits { IfOk result (λ front. IsWithinLimits front.0) }
+    ensures plain { IfOk result (λ front. IsPlain front.0) }
 {
     read_up_to_end(alloc, bytes)
 }

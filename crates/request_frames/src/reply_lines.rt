@@ -110,6 +110,8 @@ pub(crate) fn put_reply<K: Sink>(out: &mut Buffer, sink: &mut K, pool: &[u8], re
             out.put_text(sink, word_of_call_refusal(refusal));
             out.put_text(sink, b"\n")
         }
+        Reply::Added => out.put_text(sink, b"added\n"),
+        Reply::Retired => out.put_text(sink, b"retired\n"),
     }
 }
 

@@ -410,6 +410,7 @@ fn answers_of(alloc: Global, case: &ReplyCase) -> Result<Answers, AllocError> {
         contexts: PlainList::from_vec(contexts),
         lanes: PlainList::from_vec(lanes),
         journals: PlainList::from_vec(journals),
+        notes: PlainList::from_vec(Vec::new(alloc)),
     })
 }
 

@@ -40,6 +40,9 @@ pub(crate) fn word_of_call_refusal(refusal: CallRefusal) -> &'static [u8]
         CallRefusal::Role => b"role",
         CallRefusal::NoCipher => b"nocipher",
         CallRefusal::ExportSize => b"exportsize",
+        CallRefusal::PskPair => b"pskpair",
+        CallRefusal::PskExtra => b"pskextra",
+        CallRefusal::PskMissing => b"pskmissing",
     }
 }
 

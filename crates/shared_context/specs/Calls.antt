@@ -1,8 +1,8 @@
 -- What the calls of a shared context do to a pass, and to the seat of its lane.
-use Rattle.std.specs.Prelude.{ℕ, ◌≡◌, ◌↔◌, ◌+◌, ◌<◌, ◌≤◌, List, [], ◌∷◌, ◌++◌, length, slice_index}
+use Rattle.std.specs.Prelude.{ℕ, ◌≡◌, ◌↔◌, ◌+◌, ◌<◌, ◌≤◌, List, [], ◌∷◌, ◌++◌, length}
 use Rattle.call_places.specs.declared.entries.Entry.{Entry}
 use Rattle.call_places.specs.declared.entries.Step.{Step}
-use Rattle.call_places.specs.Entries.{own, seq_of}
+use Rattle.call_places.specs.Entries.{seq_of}
 use Rattle.turn_lock.specs.Passes.{LockId, PassView, AddedByOthers, next_after}
 use Rattle.stamp_counter.specs.Seats.{SeatView}
 use Rattle.hpke_context.specs.Contexts.{ContextView}
@@ -11,28 +11,14 @@ use Rattle.legal_journals.specs.Entries.{entry, entries_from}
 use Rattle.context_books.specs.Books.{drawn_step}
 use Rattle.context_books.specs.declared.book.Draw.{Draw}
 use Rattle.context_books.specs.declared.book.Draw.TheVariants.{Number, Limit}
-use Rattle.shared_context.specs.Stamped.{ComesAfter}
+use Rattle.stamped_lists.specs.Stamps.{ComesAfter}
+pub use Rattle.stamped_lists.specs.Turns.{MayCall, IsAfter}
 
 -- a context, the lock round its book, and how many passes there are
 pub record SharedView : Type 0 where
   pub context : ContextView
   pub lock : LockId
   pub passes : ℕ
-
--- the pass may take a turn at this call, and its lane may add so many entries
-pub record MayCall (lock : LockId) (p : PassView) (call count : ℕ) : Type 0 where
-  pub of : p.lock ≡ lock
-  pub turns : p.turns < 4294967295
-  pub late : p.next_call ≤ call
-  pub call_fits : call < 4294967295
-  pub lane : p.number < length lock.terms.quotas
-  pub room : length (own p.number p.seen) + count ≤ slice_index lock.terms.quotas p.number
-
--- the same pass, one turn later
-pub record IsAfter (old new : PassView) : Type 0 where
-  pub lock : new.lock ≡ old.lock
-  pub number : new.number ≡ old.number
-  pub turns : new.turns ≡ old.turns + 1
 
 -- A draw. The pass comes back with what it had seen, entries of other passes, and the entry of this
 -- draw, whose stamp comes after theirs.

@@ -1,3 +1,2 @@
 pub mod Stamped
 pub mod Calls
-pub mod Tests

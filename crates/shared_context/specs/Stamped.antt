@@ -1,10 +1,8 @@
--- A book with the seat that its stamps are drawn from, and stamps that come after others.
-use Rattle.std.specs.Prelude.{ℕ, ◌≡◌, ◌+◌, ◌≤◌, List, [], length, sum}
-use Rattle.call_places.specs.declared.entries.Entry.{Entry}
+-- A book with the seat that its stamps are drawn from.
 use Rattle.call_places.specs.declared.listed.Terms.{Terms}
-use Rattle.call_places.specs.Entries.{stamps_of, StampsBelow}
 use Rattle.stamp_counter.specs.Seats.{SeatView}
 use Rattle.context_books.specs.Books.{BookView}
+pub use Rattle.stamped_lists.specs.Stamps.{IsNote, ComesAfter}
 
 -- what is under the lock of a context
 pub record StampedView : Type 0 where
@@ -15,26 +13,3 @@ pub record StampedView : Type 0 where
 abbrev pub terms_of : StampedView → Terms
 terms_of s =
     record { limit = s.book.limit; quotas = s.book.quotas; counter = s.seat.counter }
-
--- the seat has drawn the stamps of the entries, in their order, may draw as many more as the quotas
--- leave, and its low is above them
-pub record IsStamped (book : BookView) (seat : SeatView) : Type 0 where
-  pub drawn : seat.drawn ≡ stamps_of book.entries
-  pub left : seat.left + length book.entries ≡ sum book.quotas
-  pub below : StampsBelow seat.low book.entries
-
--- a seat of this counter that has drawn nothing, and may draw nothing: it only knows of the count.
--- A lane has such a seat
-pub record IsNote (counter : List ℕ) (seat : SeatView) : Type 0 where
-  pub counter_is : seat.counter ≡ counter
-  pub drawn : seat.drawn ≡ []
-  pub left : seat.left ≡ 0
-
--- So many stamps, from `first` on, come after all that the lane's seat knew, and after the stamps of
--- the entries before. The seat that comes back knows of them, and of all that the old one knew.
-pub record ComesAfter (counter : List ℕ) (seat back : SeatView) (before : List Entry)
-    (first count : ℕ) : Type 0 where
-  pub least : seat.low ≤ first
-  pub later : StampsBelow first before
-  pub above : first + count ≤ back.low
-  pub note : IsNote counter back

@@ -1,14 +1,14 @@
 //! The value under a context's lock: its book, with the seat that its stamps are drawn from.
 
-ghost use Rattle.std.specs.Prelude.{ℕ, ◌≡◌, ◌↔◌, ◌+◌, ◌-◌, ◌<◌, ◌≤◌, ◌^◌, ◌++◌, ◌∷◌, [], All, length, slice_index, sum};
-ghost use Rattle.std.specs.List.{range_with_len};
+ghost use Rattle.std.specs.Prelude.{ℕ, ◌≡◌, ◌↔◌, ◌+◌, ◌<◌, ◌≤◌, ◌^◌, ◌++◌, ◌∷◌, [], All, length, slice_index, sum};
 ghost use Rattle.call_places.specs.Entries.{own, seq_of};
 ghost use Rattle.hpke_context.specs.Contexts.{HasCipher};
 ghost use Rattle.legal_journals.specs.Entries.{entry, entries_from};
 ghost use Rattle.call_places.specs.Spans.{ItemIsInPool};
 ghost use Rattle.context_books.specs.Books.{drawn_step};
 ghost use Rattle.context_books.specs.Openings.{opening_steps, opening_misses, IsTableFor};
-ghost use Rattle.shared_context.specs.Stamped.{terms_of, IsNote, ComesAfter, IsStamped};
+ghost use Rattle.stamped_lists.specs.Stamps.{IsStamped, IsNote, ComesAfter};
+ghost use Rattle.shared_context.specs.Stamped.{terms_of};
 
 use aes_gcm::Checks;
 use call_places::{Entry, Item, Listed, Place, Step};
@@ -16,6 +16,7 @@ use context_books::{Book, Draw};
 use hpke_context::Context;
 use speculative_open::GuessTable;
 use stamp_counter::{StampCounter, StampSeat};
+use stamped_lists::draw_stamps;
 use std::marker::Model;
 
 /// A book with the seat that its stamps are drawn from. Contracts see both: the seat has drawn the
@@ -27,13 +28,14 @@ pub struct StampedBook {
 }
 
 impl Model for StampedBook {
-    ghost use Rattle.shared_context.specs.Stamped.{StampedView, IsStamped};
+    ghost use Rattle.stamped_lists.specs.Stamps.{IsStamped};
+    ghost use Rattle.shared_context.specs.Stamped.{StampedView};
 
     ghost Value = { StampedView };
 
     ghost view = { λ s. record { book = s.book; seat = s.seat } };
 
-    ghost invariant = { λ s. IsStamped s.book s.seat };
+    ghost invariant = { λ s. IsStamped s.book.quotas s.book.entries s.seat };
 }
 
 impl Listed for StampedBook {
@@ -48,31 +50,6 @@ impl Listed for StampedBook {
     }
 }
 
-// Draws so many stamps for `own`, which come after all that `lane` knows. The seat that comes back
-// for the lane knows of them.
-fn stamps(
-    counter: &StampCounter,
-    own: &mut StampSeat,
-    lane: StampSeat,
-    count: u32,
-) -> (u64, StampSeat)
-    requires own { (own.old.counter ≡ counter.now.id) × (count ≤ own.old.left) }
-    requires lane { IsNote counter.now.id lane }
-    ensures own { own.new ≡ record {
-      counter = counter.now.id;
-      low = result.0 + count;
-      drawn = own.old.drawn ++ range_with_len result.0 count;
-      left = own.old.left - count;
-    } }
-    ensures least { (own.old.low ≤ result.0) × (lane.low ≤ result.0) }
-    ensures most { result.0 + count ≤ 1048576 }
-    ensures lane { IsNote counter.now.id result.1 × (result.0 + count ≤ result.1.low) }
-{
-    counter.join(own, lane);
-    let first = counter.draw(own, count);
-    (first, counter.note(own))
-}
-
 impl StampedBook {
     pub(crate) fn new(book: Book, seat: StampSeat) -> StampedBook
         requires empty { (book.entries ≡ []) × (seat.drawn ≡ []) × (seat.left ≡ sum book.quotas) }
@@ -83,7 +60,7 @@ impl StampedBook {
 
     pub(crate) fn into_parts(self) -> (Book, StampSeat)
         ensures parts { (result.0 ≡ self.book) × (result.1 ≡ self.seat) }
-        ensures stamped { IsStamped result.0 result.1 }
+        ensures stamped { IsStamped result.0.quotas result.0.entries result.1 }
     {
         let StampedBook { book, seat } = self;
         (book, seat)
@@ -119,7 +96,7 @@ impl StampedBook {
             ≡ self.old.book.entries ++ entry place stamp (drawn_step result.0) ∷ []) }
     {
         self.book.a_lanes_room_is_the_books(place.lane, 1);
-        let (stamp, seat) = stamps(counter, &mut self.seat, seat, 1);
+        let (stamp, seat) = draw_stamps(counter, &mut self.seat, seat, 1);
         (self.book.draw(place, stamp), seat)
     }
 
@@ -159,7 +136,7 @@ impl StampedBook {
         ensures checks { (checks.old ≤ checks.new) × (checks.new ≤ checks.old + result.0) }
     {
         self.book.a_lanes_room_is_the_books(lane, items.len());
-        let (first, seat) = stamps(counter, &mut self.seat, seat, items.len() as u32);
+        let (first, seat) = draw_stamps(counter, &mut self.seat, seat, items.len() as u32);
         let missed = self.book.settle(
             context, pool, items, lane, call, first, table, steps, checks,
         );

@@ -5,8 +5,8 @@ ghost use Rattle.hpke_context.specs.Contexts.{HasCipher, CanSeal, CanOpen};
 ghost use Rattle.call_places.specs.Spans.{ItemIsInPool};
 ghost use Rattle.context_books.specs.Openings.{IsTableFor};
 ghost use Rattle.turn_lock.specs.Passes.{AllOf};
-ghost use Rattle.shared_context.specs.Stamped.{IsNote};
-ghost use Rattle.shared_context.specs.Tests.{MayDraw};
+ghost use Rattle.stamped_lists.specs.Stamps.{IsNote};
+ghost use Rattle.stamped_lists.specs.Tests.{MayDraw};
 
 use crate::SharedContext;
 use aes_gcm::Checks;

@@ -1,5 +1,5 @@
 -- A table whose lanes have not got their passes yet.
-use Rattle.std.proofs.Common.{◌≡◌, ℕ, zero, suc, ◌+◌, ◌-◌, ◌<◌, ◌≤◌, List, [], ◌∷◌, length, map, get_or, Option, Some, None, inl, inr, sym, refl, ap, ◌∙◌, subst, arith}
+use Rattle.std.proofs.Common.{◌≡◌, ℕ, ◌-◌, ◌<◌, ◌≤◌, List, [], ◌∷◌, length, map, get_or, Option, Some, None, inl, inr, sym, refl, ap, ◌∙◌, subst, arith}
 use Rattle.std.specs.Prelude.{sum}
 use Rattle.std.specs.List.{range_with_len}
 use Rattle.std.proofs.lemmas.Bool.{cases_lt}
@@ -12,7 +12,7 @@ use Rattle.batch_plans.specs.declared.plan.Plan.{Plan}
 use Rattle.batch_plans.specs.Limits.{IsWithinLimits}
 use Rattle.due_replies.specs.Standing.{standing_at}
 use Rattle.lane_quotas.specs.Quotas.{lane_quota}
-use Rattle.lane_quotas.proofs.Counts.{quotas_few, all_quotas_few}
+use Rattle.lane_quotas.proofs.Counts.{all_quotas_few}
 use Rattle.lane_workers.specs.Handing.{list_at}
 use Rattle.lane_workers.specs.Turns.{shared_at, view_in, views}
 use Rattle.shared_runs.specs.Sharing.{quotas_on, all_quotas, IsSharedBy, Shares, SharesEach}

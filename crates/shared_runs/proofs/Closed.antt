@@ -1,6 +1,6 @@
 -- The contexts of a table that are closed one after another, and what is said of all of them.
-use Rattle.std.proofs.Common.{◌≡◌, ℕ, zero, suc, ◌+◌, ◌<◌, ◌≤◌, List, [], ◌∷◌, ◌++◌, length, map, Option, Some, None, inl, inr, sym, refl, ap, ◌∙◌, subst, arith, length-append, append-nil}
-use Rattle.std.specs.Prelude.{flat_map, sum, sum_by, slice_get, slice_index_or, IsPermutation}
+use Rattle.std.proofs.Common.{◌≡◌, ℕ, zero, suc, ◌+◌, ◌<◌, ◌≤◌, List, [], ◌∷◌, ◌++◌, length, map, Option, Some, None, inl, inr, sym, refl, ap, ◌∙◌, subst, arith, length-append, append-nil, append_assoc}
+use Rattle.std.specs.Prelude.{flat_map, sum, sum_by, slice_index_or, IsPermutation}
 use Rattle.std.specs.List.{All, range_with_len}
 use Rattle.std.proofs.Math.ListN.{get_or-map}
 use Rattle.std.proofs.Math.Seq.{get_or-append_seam}
@@ -19,22 +19,20 @@ use Rattle.shared_context.specs.Calls.{SharedView}
 use Rattle.gathered_lanes.specs.Lanes.{Closes}
 use Rattle.batch_plans.specs.declared.plan.Plan.{Plan}
 use Rattle.batch_plans.specs.declared.replies.CallRefusal.TheVariants.{NoContext}
-use Rattle.batch_plans.specs.declared.replies.LaneAnswers.{LaneAnswers}
 use Rattle.batch_plans.specs.Calls.{context_of, items_on}
 use Rattle.due_replies.specs.Standing.{AreOfLines, standing_at, refusal_on, export_limits}
 use Rattle.lane_quotas.specs.Quotas.{lane_quota}
 use Rattle.lane_quotas.proofs.Counts.{refused_call, other_context}
-use Rattle.lane_workers.specs.Gathered.{AllClosed}
 use Rattle.lane_workers.specs.Handing.{list_at}
 use Rattle.lane_workers.specs.Served.{seen_of}
-use Rattle.lane_workers.specs.Turns.{shared_at, pass_at, view_in, views}
+use Rattle.lane_workers.specs.Turns.{shared_at, view_in, views}
 use Rattle.lane_workers.proofs.Answering.{standing_view}
 use Rattle.lane_workers.proofs.Handing.{closes_over}
 use Rattle.shared_runs.specs.declared.tables.Table.{Table}
 use Rattle.shared_runs.specs.Sharing.{quotas_on}
-use Rattle.shared_runs.specs.Tables.{IsTable}
-use Rattle.shared_runs.specs.Collected.{Collected, AreBack, passes_of}
-use Rattle.shared_runs.specs.Closing.{entries_of, MayClose, ClosesBy, HasClosed}
+use Rattle.shared_runs.specs.Tables.{planned, IsTable, HasStamps}
+use Rattle.shared_runs.specs.Collected.{IsListOf, AreBack, passes_of}
+use Rattle.shared_runs.specs.Closing.{entries_of, MayClose, ClosesBy, HasClosed, HasClosedAll}
 
 -- ---- quotas
 
@@ -74,6 +72,16 @@ none_more [] b (suc k) was last = refl
 none_more (x ∷ books) b zero was last = was
 none_more (x ∷ books) b (suc k) was last = none_more books b k was (λ e. last (ap suc e))
 
+few_more : (books : List (Option BookView)) (b : Option BookView) (most : ℕ → ℕ)
+    → ((k : ℕ) → length (entries_of (book_at books k)) ≤ most k)
+    → length (entries_of b) ≤ most (length books) → (k : ℕ)
+    → length (entries_of (book_at (books ++ b ∷ []) k)) ≤ most k
+few_more [] b most was last zero = last
+few_more [] b most was last (suc k) = was (suc k)
+few_more (x ∷ books) b most was last zero = was zero
+few_more (x ∷ books) b most was last (suc k) =
+    few_more books b (λ i. most (suc i)) (λ i. was (suc i)) last k
+
 drawn_more : (books : List (Option BookView)) (b : Option BookView)
     → flat_map stamps_of (map entries_of books) ++ stamps_of (entries_of b)
     ≡ flat_map stamps_of (map entries_of (books ++ b ∷ []))
@@ -97,6 +105,7 @@ entries_at books k = get_or-map entries_of books k None
 record TakesIn (old new : SeatView) (book : Option BookView) (quota : ℕ) : Type 0 where
   drawn : new.drawn ≡ old.drawn ++ stamps_of (entries_of book)
   all : length new.drawn + new.left ≡ length old.drawn + old.left + quota
+  few : length (entries_of book) ≤ quota
 
 takes_in : (counter : List ℕ) (context : Option SharedView) (list : Option PassListView)
     (old new : SeatView) (book : Option BookView) (quota : ℕ) → MayClose counter context list
@@ -112,6 +121,7 @@ takes_in counter None list old new book quota may has no_quota its_quota =
       drawn = same ∙ sym (append-nil old.drawn)
           ∙ ap (λ b. old.drawn ++ stamps_of (entries_of b)) (sym h.0);
       all = omega (arith, ap length same, left, none);
+      few = omega (arith, ap (λ b. length (entries_of b)) h.0);
     }
 takes_in counter (Some s) list old new book quota may has no_quota its_quota =
     let m = may.some s refl in
@@ -131,6 +141,7 @@ takes_in counter (Some s) list old new book quota may has no_quota its_quota =
         by.left,
         its,
       );
+      few = omega (arith, by.few, its, ap (λ o. length (entries_of o)) h.1);
     }
 
 -- ---- so far
@@ -150,35 +161,38 @@ pub record ClosedSoFar (t : Table) (number : ℕ) (books : List (Option BookView
   pub some : (k : ℕ) (s : SharedView) (list : PassListView) → k < number
       → shared_at t.contexts k ≡ Some s → list_at t.passes.items k ≡ Some list
       → IsClosed list (entries_of (book_at books k))
-  pub drawn : seat.drawn ≡ flat_map stamps_of (map entries_of books)
+  pub drawn : seat.drawn ≡ t.seat.drawn ++ flat_map stamps_of (map entries_of books)
+  pub few : (k : ℕ) → length (entries_of (book_at books k))
+      ≤ sum (quotas_on (planned t) (views t.contexts) k)
   -- what the others will have
   pub to_come : ℕ
   pub rest : number + to_come ≡ length t.contexts
   pub all : length seat.drawn + seat.left
-      + sum (map sum (map (quotas_on t.plan.now (views t.contexts))
+      + sum (map sum (map (quotas_on (planned t) (views t.contexts))
       (range_with_len number to_come)))
       ≡ t.counter.all
 
 module _ (t : Table) (table : IsTable t) where
   -- none is closed
-  pub none_closed : (books : List (Option BookView)) → books ≡ []
-      → ClosedSoFar t 0 books t.seat
-  none_closed books none =
+  pub none_closed : HasStamps (length t.seat.drawn + t.seat.left) t
+      → (books : List (Option BookView)) → books ≡ [] → ClosedSoFar t 0 books t.seat
+  none_closed has books none =
       let count : length (views t.contexts) ≡ length t.contexts = length-map t.contexts view_in in
-      let q = quotas_on t.plan.now (views t.contexts) in
-      let stamps : t.counter.all
-      ≡ sum (map sum (map q (range_with_len 0 (length t.contexts)))) = table.stamps
-      ∙ ap (λ n. sum (map sum (map q (range_with_len 0 n)))) count in
-      let nothing : length t.seat.drawn ≡ 0 = ap length table.seat.drawn in
+      let q = quotas_on (planned t) (views t.contexts) in
+      let stamps : sum (map sum (map q (range_with_len 0 (length (views t.contexts)))))
+      ≡ sum (map sum (map q (range_with_len 0 (length t.contexts)))) =
+      ap (λ n. sum (map sum (map q (range_with_len 0 n)))) count in
       record {
         count = ap length none;
-        counter = table.seat.counter_is;
+        counter = table.seat;
         none = λ k absent. ap (λ bs. book_at bs k) none;
         some = λ k s list low is back. absurd (omega arith);
-        drawn = table.seat.drawn ∙ ap (λ bs. flat_map stamps_of (map entries_of bs)) (sym none);
+        drawn = sym (append-nil t.seat.drawn)
+            ∙ ap (λ bs. t.seat.drawn ++ flat_map stamps_of (map entries_of bs)) (sym none);
+        few = λ k. omega (arith, ap (λ bs. length (entries_of (book_at bs k))) none);
         to_come = length t.contexts;
         rest = omega arith;
-        all = omega (arith, stamps, nothing, table.seat.left);
+        all = omega (arith, stamps, has);
       }
 
   -- one more is closed
@@ -192,11 +206,11 @@ module _ (t : Table) (table : IsTable t) where
       with_rest so_far.to_come refl
     where
       q : ℕ → List ℕ
-      q = quotas_on t.plan.now (views t.contexts)
+      q = quotas_on (planned t) (views t.contexts)
 
       taken : TakesIn seat new book (sum (q number))
       taken = takes_in t.counter.id context list seat new book (sum (q number)) may has
-          (λ none. no_quotas t.plan.now (views t.contexts) table.of_lines number
+          (λ none. no_quotas (planned t) (views t.contexts) table.of_lines number
           (standing_view t.contexts number ∙ ap view_in (is ∙ none)))
           (λ s some. ap (λ (x : Terms). sum x.quotas)
           (table.shared number s (is ∙ some)).terms)
@@ -236,32 +250,35 @@ module _ (t : Table) (table : IsTable t) where
               | inr later ↦ its k s l (omega arith) is_s is_l
             ];
             drawn = taken.drawn ∙ ap (λ ds. ds ++ stamps_of (entries_of book)) so_far.drawn
-                ∙ drawn_more books book;
+                ∙ append_assoc t.seat.drawn (flat_map stamps_of (map entries_of books))
+                (stamps_of (entries_of book))
+                ∙ ap (λ ds. t.seat.drawn ++ ds) (drawn_more books book);
+            few = few_more books book (λ k. sum (q k)) so_far.few
+                (subst (λ k. length (entries_of book) ≤ sum (q k)) (sym so_far.count) taken.few);
             to_come = n;
             rest = omega (arith, so_far.rest);
             all = omega (arith, left, first_sum q number n, taken.all);
           }
 
   -- a context whose passes are back may be closed
-  pub may_close : (answers : List LaneAnswers) (c : Collected t answers)
-      → length answers ≡ length t.plan.now.lanes → (number : ℕ) (context : Option SharedView)
+  pub may_close : (passes : List (List (Option PassView))) (back : AreBack t passes)
+      → length passes ≡ length t.lanes.now → (number : ℕ) (context : Option SharedView)
       (list : Option PassListView) → shared_at t.contexts number ≡ context
       → list_at t.passes.items number ≡ list → MayClose t.counter.id context list
-  may_close answers c count number context list is back =
+  may_close passes back count number context list is at =
       record {
-        none = λ none. sym back ∙ c.none number (is ∙ none);
+        none = λ none. sym at ∙ back.none number (is ∙ none);
         some = λ s some.
-            let b = c.back number s (is ∙ some) in
-            let by : AreBack s number (length t.plan.now.lanes) c.passes b.0 = b.2 in
+            let b = back.each number s (is ∙ some) in
+            let by : IsListOf s number (length t.lanes.now) passes b.0 = b.2 in
             let shared = table.shared number s (is ∙ some) in
-            let lanes = length-map t.plan.now.lanes
-            (lane_quota t.plan.now (views t.contexts) number) in (
+            let lanes = length-map t.lanes.now
+            (lane_quota (planned t) (views t.contexts) number) in (
               b.0,
-              sym back ∙ b.1,
+              sym at ∙ b.1,
               by.of_lock,
-              omega (arith, by.count, c.few, count, shared.passes, lanes),
-              ap (λ (x : Terms). x.counter)
-                  shared.terms,
+              omega (arith, by.count, count, shared.passes, lanes),
+              ap (λ (x : Terms). x.counter) shared.terms,
             );
       }
 
@@ -275,24 +292,24 @@ module _ (t : Table) (table : IsTable t) where
       let none : so_far.to_come ≡ 0 = omega (arith, so_far.rest) in
       let all : length seat.drawn + seat.left + 0 ≡ t.counter.all =
       subst (λ n. length seat.drawn + seat.left + sum (map sum
-      (map (quotas_on t.plan.now (views t.contexts)) (range_with_len number n)))
+      (map (quotas_on (planned t) (views t.contexts)) (range_with_len number n)))
       ≡ t.counter.all) none so_far.all in
       omega arith
 
   module _ (books : List (Option BookView)) (seat : SeatView)
       (so_far : ClosedSoFar t (length t.contexts) books seat)
-      (answers : List LaneAnswers) (c : Collected t answers)
-      (count : length answers ≡ length t.plan.now.lanes) where
+      (passes : List (List (Option PassView))) (back : AreBack t passes)
+      (count : length passes ≡ length t.lanes.now) where
     abbrev lanes : ℕ
-    lanes = length t.plan.now.lanes
+    lanes = length t.lanes.now
 
     closes : (number : ℕ) (context : Option SharedView) → shared_at t.contexts number ≡ context
-        → Closes lanes (λ lane. seen_of (passes_of c.passes lane) number)
+        → Closes lanes (λ lane. seen_of (passes_of passes lane) number)
         (entries_of (book_at books number))
     closes number None is =
         let none : entries_of (book_at books number) ≡ [] = ap entries_of (so_far.none number is) in
-        let unseen : (lane : ℕ) → lane < lanes → seen_of (passes_of c.passes lane) number ≡ [] =
-        λ lane low. c.absent lane number (omega (arith, c.few, count)) is in
+        let unseen : (lane : ℕ) → lane < lanes → seen_of (passes_of passes lane) number ≡ [] =
+        λ lane low. back.absent lane number (omega (arith, count)) is in
         record {
           begins = λ lane low. ([], ap (λ es. es ++ []) (unseen lane low) ∙ sym none);
           whole = λ lane low. ap (own lane) (unseen lane low ∙ sym none);
@@ -300,27 +317,28 @@ module _ (t : Table) (table : IsTable t) where
           rise = subst StampsRise (sym none) tt;
         }
     closes number (Some s) is =
-        let b = c.back number s is in
+        let b = back.each number s is in
         let list : PassListView = b.0 in
-        let by : AreBack s number lanes c.passes list = b.2 in
+        let by : IsListOf s number lanes passes list = b.2 in
         let closed = so_far.some number s list (stands_below t.contexts number s is) is b.1 in
-        closes_over lanes number (passes_of c.passes) (entries_of (book_at books number))
+        closes_over lanes number (passes_of passes) (entries_of (book_at books number))
         list.passes closed.shown closed.others closed.rise
-        (λ lane low. let e = by.each lane (omega (arith, c.few, count)) in
+        (λ lane low. let e = by.each lane (omega (arith, count)) in
         (e.0, e.1, e.2, lane, e.3))
         (λ i d low. let e = by.each i (omega (arith, by.count)) in
         subst (λ (p : PassView). p.number < lanes)
         (sym (get_or_from_slice_get list.passes i e.0 d e.3))
-        (omega (arith, e.2, by.count, c.few, count)))
+        (omega (arith, e.2, by.count, count)))
 
     pub all_closed : (stamps : ℕ) → IsPermutation seat.drawn (range_with_len 0 stamps)
-        → AllClosed t.plan.now c.passes (map entries_of books)
+        → HasClosedAll t passes (map entries_of books)
     all_closed stamps given = record {
       count = length-map books entries_of ∙ so_far.count
           ∙ sym (length-map t.contexts view_in) ∙ table.of_lines.count;
       closes = λ number. subst
-          (Closes lanes (λ lane. seen_of (passes_of c.passes lane) number))
+          (Closes lanes (λ lane. seen_of (passes_of passes lane) number))
           (sym (entries_at books number)) (closes number (shared_at t.contexts number) refl);
       stamps = stamps;
       given = subst (λ ds. IsPermutation ds (range_with_len 0 stamps)) so_far.drawn given;
+      few = λ number. omega (arith, ap length (entries_at books number), so_far.few number);
     }

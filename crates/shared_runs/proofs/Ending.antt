@@ -1,6 +1,6 @@
 -- The lanes of a table are served and its contexts are closed: the journals are those of a run.
-use Rattle.std.proofs.Common.{◌≡◌, ℕ, ◌<◌, ◌≤◌, List, [], ◌∷◌, length, map, Option, Some, None, sym, refl, ap, ◌∙◌, subst, arith}
-use Rattle.std.specs.Prelude.{IsPermutation, flat_map, replicate, slice_get, slice_index_or}
+use Rattle.std.proofs.Common.{◌≡◌, ℕ, ◌+◌, ◌<◌, List, [], ◌∷◌, ◌++◌, length, map, Option, Some, None, sym, refl, ap, ◌∙◌, subst, arith}
+use Rattle.std.specs.Prelude.{IsPermutation, flat_map, replicate, slice_index_or}
 use Rattle.std.specs.List.{All, range_with_len}
 use Rattle.std.proofs.Math.ListN.{get_or-map}
 use Rattle.std.proofs.lemmas.List.{length-map, length-replicate, ext_get_or, get_or_default}
@@ -10,12 +10,15 @@ use Rattle.std.proofs.lemmas.List.FromFn.{get_or-map-range_with_len, length-map-
 use Rattle.call_places.specs.declared.entries.Entry.{Entry}
 use Rattle.call_places.specs.declared.entries.Mark.{Mark}
 use Rattle.call_places.specs.Entries.{mark_of, stamps_of}
+use Rattle.turn_lock.specs.Passes.{PassView}
 use Rattle.hpke_context.specs.Contexts.{ContextView}
+use Rattle.shared_context.specs.Stamped.{IsNote}
 use Rattle.context_books.specs.Books.{BookView}
 use Rattle.legal_journals.specs.Entries.{entry_places}
 use Rattle.gathered_lanes.specs.Lanes.{Closes}
 use Rattle.gathered_lanes.proofs.Entries.{own_places-entries}
 use Rattle.batch_plans.specs.declared.plan.Plan.{Plan}
+use Rattle.batch_plans.specs.declared.plan.CallLine.{CallLine}
 use Rattle.batch_plans.specs.declared.replies.LaneAnswers.{LaneAnswers}
 use Rattle.batch_plans.specs.Calls.{all_items_on}
 use Rattle.batch_plans.specs.Replies.{IsPrintable}
@@ -28,10 +31,11 @@ use Rattle.lane_workers.specs.Gathered.{no_answers, AllLanesServed, AllClosed}
 use Rattle.lane_workers.specs.Served.{seen_of}
 use Rattle.lane_workers.specs.Turns.{views, view_in}
 use Rattle.shared_runs.specs.declared.tables.Table.{Table}
-use Rattle.shared_runs.specs.Tables.{IsTable, AreReady, journal_rooms}
-use Rattle.shared_runs.specs.Collected.{Collected}
-use Rattle.shared_runs.specs.Closing.{entries_of}
+use Rattle.shared_runs.specs.Tables.{IsTable, HasStamps, HasOwnLanes, AreReady, journal_rooms}
+use Rattle.shared_runs.specs.Collected.{Collected, AreBack}
+use Rattle.shared_runs.specs.Closing.{entries_of, HasClosedAll}
 use Rattle.shared_runs.proofs.Closed.{book_at, entries_at}
+use Rattle.shared_runs.proofs.Served.{own_within}
 
 -- ---- a table with other passes
 
@@ -41,9 +45,15 @@ still_table old new same t = subst IsTable (sym same) (record {
   within = t.within;
   of_lines = t.of_lines;
   shared = t.shared;
-  stamps = t.stamps;
   seat = t.seat;
 })
+
+pub still_stamps : (old new : Table) → new ≡ record old { passes = new.passes }
+    → IsNote old.counter.id old.seat → HasStamps 0 old
+    → HasStamps (length new.seat.drawn + new.seat.left) new
+still_stamps old new same note has =
+    subst (λ (t : Table). HasStamps (length t.seat.drawn + t.seat.left) t) (sym same)
+    (omega (arith, has, ap length note.drawn, note.left))
 
 pub still_ready : (old new : Table) (works : List LaneWork)
     → new ≡ record old { passes = new.passes } → AreReady old works → AreReady new works
@@ -57,6 +67,41 @@ pub other_passes : (first second third : Table) → second ≡ record first { pa
     → third ≡ record first { passes = third.passes }
 other_passes first second third same then =
     then ∙ ap (λ (t : Table). record t { passes = third.passes }) same
+
+-- ---- a table of its plan's own lanes
+
+pub own_closed : (t : Table) → HasOwnLanes t → t.seat.drawn ≡ []
+    → (passes : List (List (Option PassView))) (books : List (List Entry))
+    → HasClosedAll t passes books → AllClosed t.plan.now passes books
+own_closed t own none passes books closed = record {
+  count = closed.count;
+  closes = λ context. subst (λ (lanes : List (List CallLine)). Closes (length lanes)
+      (λ lane. seen_of (slice_index_or passes lane []) context) (slice_index_or books context []))
+      own (closed.closes context);
+  stamps = closed.stamps;
+  given = subst (λ ds. IsPermutation (ds ++ flat_map stamps_of books)
+      (range_with_len 0 closed.stamps)) none closed.given;
+}
+
+pub still_own : (old new : Table) → new ≡ record old { passes = new.passes } → HasOwnLanes old
+    → HasOwnLanes new
+still_own old new same own = subst HasOwnLanes (sym same) own
+
+-- all lanes are back
+pub all_back : (t : Table) → HasOwnLanes t → (answers : List LaneAnswers) (c : Collected t answers)
+    → length answers ≡ length t.plan.now.lanes → length c.passes ≡ length t.lanes.now
+all_back t own answers c count = c.few ∙ count ∙ ap length (sym own)
+
+pub lanes_closed : (old new : Table) → new ≡ record old { passes = new.passes } → HasOwnLanes old
+    → IsNote old.counter.id old.seat → (answers : List LaneAnswers) (c : Collected new answers)
+    → length answers ≡ length new.plan.now.lanes → (books : List (List Entry))
+    → ((passes : List (List (Option PassView))) → AreBack new passes
+    → length passes ≡ length new.lanes.now → HasClosedAll new passes books)
+    → AllClosed new.plan.now c.passes books
+lanes_closed old new same own note answers c count books closed =
+    let mine = still_own old new same own in
+    own_closed new mine (subst (λ (t : Table). t.seat.drawn ≡ []) (sym same) note.drawn) c.passes books
+    (closed c.passes c.back (all_back new mine answers c count))
 
 -- ---- journals
 
@@ -78,8 +123,8 @@ written_is None room is = (refl, is)
 written_is (Some b) room is =
     (ap length is ∙ length-replicate (length b.entries) blank_mark, refl)
 
-module _ (t : Table) (table : IsTable t) (answers : List LaneAnswers) (c : Collected t answers)
-    (count : length answers ≡ length t.plan.now.lanes) where
+module _ (t : Table) (table : IsTable t) (own : HasOwnLanes t) (answers : List LaneAnswers)
+    (c : Collected t answers) (count : length answers ≡ length t.plan.now.lanes) where
   abbrev plan : Plan
   plan = t.plan.now
 
@@ -111,7 +156,7 @@ module _ (t : Table) (table : IsTable t) (answers : List LaneAnswers) (c : Colle
         let closes = closed.closes n in
         sym (ap length (entries_at books n))
         ∙ sym (length-map entries (λ (e : Entry). e.place))
-        ∙ journal_count plan contexts table.of_lines n table.within (entry_places entries)
+        ∙ journal_count plan contexts table.of_lines n (own_within t own table) (entry_places entries)
         (λ l low. own_places-entries l entries
         ∙ ap entry_places (sym (closes.whole l low))
         ∙ (let s = all_served.each l low in (s.shows n).places))

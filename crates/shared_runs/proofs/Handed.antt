@@ -1,18 +1,24 @@
 -- A lane that gets its passes.
-use Rattle.std.proofs.Common.{◌≡◌, ℕ, suc, ◌+◌, ◌-◌, ◌<◌, ◌≤◌, List, [], ◌++◌, length, take, drop, Option, Some, None, inl, inr, sym, refl, ap, ◌∙◌, subst, arith, Bor}
-use Rattle.std.specs.Prelude.{Result, Ok, Err, IfOk, OnOk}
+use Rattle.std.proofs.Common.{◌≡◌, ℕ, suc, ◌+◌, ◌-◌, ◌<◌, ◌^◌, List, [], ◌++◌, length, take, drop, Option, Some, None, inl, inr, sym, refl, ap, ◌∙◌, subst, arith, Bor}
+use Rattle.std.specs.Prelude.{Result, Ok, Err, IfOk, OnOk, sum_by}
 use Rattle.std.proofs.lemmas.Bool.{cases_lt}
-use Rattle.std.proofs.lemmas.List.{get_or_past, take-append-le, take_all}
+use Rattle.std.proofs.lemmas.List.{get_or_past, take-append-le, take_all, length-replicate}
 use Rattle.turn_lock.specs.Passes.{PassView, PassListView, fresh_pass, fresh_from}
 use Rattle.stamp_counter.specs.Seats.{SeatView, CounterView}
 use Rattle.shared_context.specs.Calls.{SharedView}
 use Rattle.shared_context.specs.Stamped.{IsNote}
+use Rattle.batch_plans.specs.declared.replies.LaneAnswers.{LaneAnswers}
+use Rattle.batch_plans.specs.Room.{lane_room, call_room}
+use Rattle.batch_plans.proofs.Rooms.{lane_within, lane_is_small}
+use Rattle.due_replies.specs.Standing.{export_limits}
+use Rattle.lane_replies.specs.LaneCalls.{lane_calls}
 use Rattle.lane_workers.specs.Handing.{list_at, TakesEach}
+use Rattle.lane_workers.specs.Returned.{IsGiven}
 use Rattle.lane_workers.specs.Served.{seen_of, seen_by}
-use Rattle.lane_workers.specs.Turns.{shared_at, pass_at}
+use Rattle.lane_workers.specs.Turns.{shared_at, pass_at, views}
 use Rattle.lane_workers.specs.declared.works.LaneWork.{LaneWork}
 use Rattle.shared_runs.specs.declared.tables.Table.{Table}
-use Rattle.shared_runs.specs.Tables.{AreLeft, IsReady}
+use Rattle.shared_runs.specs.Tables.{planned, IsTable, AreLeft, IsHanded, IsReady}
 
 pub IfOk-both : {X E : Type 0} (r : Result X E) (P Q R : X → Type 0)
     → ((x : X) → P x → Q x → R x) → IfOk r P → IfOk r Q → IfOk r R
@@ -83,14 +89,53 @@ module _ (shared : List (Option SharedView)) (lane n : ℕ) (low : lane < n)
   }
 
 -- the note that a lane gets
-pub note_is : (counter : List ℕ) (seat : SeatView) (low : ℕ) (stamps : Bor CounterView)
-    → seat ≡ record { counter = counter; low = low; drawn = []; left = 0 }
-    → stamps.now.id ≡ counter → IsNote stamps.now.id seat
-note_is counter seat low stamps is same = record {
-  counter_is = ap (λ (s : SeatView). s.counter) is ∙ sym same;
+pub note_is : (counter : List ℕ) (seat : SeatView) (low : ℕ)
+    → seat ≡ record { counter = counter; low = low; drawn = []; left = 0 } → IsNote counter seat
+note_is counter seat low is = record {
+  counter_is = ap (λ (s : SeatView). s.counter) is;
   drawn = ap (λ (s : SeatView). s.drawn) is;
   left = ap (λ (s : SeatView). s.left) is;
 }
+
+-- what a lane has got is what it is given before it is prepared
+pub is_given : (t : Table) → IsTable t → (lane : ℕ) → lane < length t.lanes.now
+    → (passes : List (Option PassView)) (seat : SeatView) → IsHanded t lane passes seat
+    → (answers : LaneAnswers) → answers
+    ≡ lane_room (planned t) (export_limits (views t.contexts)) (lane_calls (planned t) lane)
+    → (stamps : Bor CounterView) → stamps.now.id ≡ t.counter.id
+    → IsGiven (planned t) t.contexts (Some stamps) lane passes (Some seat) answers
+is_given t table lane low passes seat handed answers room stamps same = record {
+  within = table.within;
+  there = low;
+  count = handed.count;
+  fresh = handed.fresh;
+  unseen = handed.unseen;
+  seat_is = λ other is. (
+    seat,
+    refl,
+    subst (λ (id : List ℕ). IsNote id seat)
+        (sym (ap (λ (b : Bor CounterView). b.now.id) (one_counter other stamps (sym is)) ∙ same))
+        handed.note,
+  );
+  room = room;
+}
+  where
+    one_counter : (x y : Bor CounterView) → Some x ≡ Some y → x ≡ y
+    one_counter x y is = cc
+
+-- the room of a lane's answers is small
+pub room_is_small : (t : Table) → IsTable t → (lane : ℕ) → lane < length t.lanes.now
+    → (answers : LaneAnswers) → answers
+    ≡ lane_room (planned t) (export_limits (views t.contexts)) (lane_calls (planned t) lane)
+    → length answers.pool < 2 ^ 32
+room_is_small t table lane low answers room =
+    let plan = planned t in
+    let limits = export_limits (views t.contexts) in
+    let calls = lane_calls plan lane in
+    let small = (lane_is_small plan limits calls
+    (lane_within plan table.within lane [] low)).room in
+    let size = length-replicate {A = ℕ} (sum_by (call_room plan limits) calls) 0 in
+    omega (arith, ap (λ (a : LaneAnswers). length a.pool) room, small, size)
 
 -- a lane is ready by its table, whichever passes are left there
 pub ready_same : (t u : Table) (lane : ℕ) (w : LaneWork) → u ≡ record t { passes = u.passes }

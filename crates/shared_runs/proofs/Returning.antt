@@ -1,18 +1,20 @@
 -- Lanes that give back their passes, in order.
-use Rattle.std.proofs.Common.{◌≡◌, ◌≢◌, ℕ, zero, suc, ◌+◌, ◌-◌, ◌<◌, ◌≤◌, List, [], ◌∷◌, ◌++◌, length, get_or, Option, Some, None, inl, inr, sym, refl, ap, ◌∙◌, subst, arith, length-append}
+use Rattle.std.proofs.Common.{◌≡◌, ℕ, zero, suc, ◌+◌, ◌-◌, ◌<◌, List, [], ◌∷◌, ◌++◌, length, get_or, Option, Some, None, inl, inr, sym, refl, ap, ◌∙◌, subst, arith, length-append, Bor}
 use Rattle.std.specs.Prelude.{slice_get, All}
 use Rattle.std.proofs.lemmas.Bool.{cases_lt}
 use Rattle.std.proofs.lemmas.List.{get_or_past}
-use Rattle.turn_lock.specs.Passes.{LockId, PassView, PassListView, fresh_from, AllOf}
+use Rattle.turn_lock.specs.Passes.{PassView, PassListView, fresh_from}
+use Rattle.stamp_counter.specs.Seats.{SeatView, CounterView}
 use Rattle.shared_context.specs.Calls.{SharedView}
 use Rattle.batch_plans.specs.declared.replies.LaneAnswers.{LaneAnswers}
 use Rattle.lane_workers.specs.Gathered.{no_answers}
-use Rattle.lane_workers.specs.Handing.{list_at, Puts}
+use Rattle.lane_workers.specs.Handing.{list_at, CanPutEach, PutsEach}
+use Rattle.lane_workers.specs.Returned.{IsReturned}
 use Rattle.lane_workers.specs.Served.{seen_of, LaneIsServed}
 use Rattle.lane_workers.specs.Turns.{shared_at, pass_at, views}
 use Rattle.shared_runs.specs.declared.tables.Table.{Table}
 use Rattle.shared_runs.specs.Tables.{HasGiven}
-use Rattle.shared_runs.specs.Collected.{passes_of, MayGiveBack, GivesBack, AreBack, Collected}
+use Rattle.shared_runs.specs.Collected.{passes_of, ArePassesOf, IsListOf, AreBack, Collected}
 use Rattle.shared_runs.proofs.Ends.{at_end, at_front, one_more}
 use Rattle.shared_runs.proofs.Handed.{within_shared}
 
@@ -33,7 +35,7 @@ pub got_here : {X : Type 0} (front rest : List X) (x : X)
 got_here [] rest x = refl
 got_here (y ∷ front) rest x = got_here front rest x
 
-all_push : {X : Type 0} (P : X → Type 0) (xs : List X) (y : X) → All P xs → P y
+pub all_push : {X : Type 0} (P : X → Type 0) (xs : List X) (y : X) → All P xs → P y
     → All P (xs ++ y ∷ [])
 all_push P xs y all here k d low =
     one_more (λ i. P (get_or (xs ++ y ∷ []) i d)) (length xs)
@@ -43,18 +45,15 @@ all_push P xs y all here k d low =
 
 -- ---- before the first lane
 
-pub none_back : (t : Table) → HasGiven (length t.plan.now.lanes) t → Collected t []
+pub none_back : (t : Table) → HasGiven (length t.lanes.now) t → AreBack t []
 none_back t given =
-    let n = length t.plan.now.lanes in
+    let n = length t.lanes.now in
     let left : n - n ≡ 0 = omega arith in
     record {
-      passes = [];
-      few = refl;
-      served = λ lane low. absurd (omega arith);
       absent = λ lane number low is. absurd (omega arith);
       count = given.count;
       none = given.none;
-      back = λ number s is. (
+      each = λ number s is. (
         record { passes = []; made = n },
         given.some number s is
             ∙ ap (λ k. Some (record { passes = fresh_from s.lock n k; made = n })) left,
@@ -70,11 +69,14 @@ none_back t given =
 -- ---- a lane more
 
 -- while a lane is out there is room for its passes
-pub may_give : (t : Table) (answers : List LaneAnswers) → Collected t answers
-    → length answers < length t.plan.now.lanes → MayGiveBack t
-may_give t answers c few = record {
-  count = c.count;
-  room = λ number list at. by_case number list at (shared_at t.contexts number) refl;
+pub may_put : (t : Table) (given : List (List (Option PassView))) → AreBack t given
+    → length given < length t.lanes.now → (passes : List (Option PassView))
+    → ArePassesOf t (length given) passes → CanPutEach t.passes.items passes
+may_put t given back few passes are = record {
+  count = are.count ∙ sym back.count;
+  each = λ number low. record {
+    room = λ list at. by_case number list at (shared_at t.contexts number) refl;
+  };
 }
   where
     one_list : (x y : PassListView) → Some x ≡ Some y → x ≡ y
@@ -82,62 +84,56 @@ may_give t answers c few = record {
 
     by_case : (number : ℕ) (list : PassListView) → list_at t.passes.items number ≡ Some list
         → (o : Option SharedView) → shared_at t.contexts number ≡ o
-        → (s : SharedView) × (shared_at t.contexts number ≡ Some s)
-        × (length list.passes < list.made)
-    by_case number list at None is = absurd (none_some list (sym (c.none number is) ∙ at))
+        → (p : PassView) × (pass_at passes number ≡ Some p) × (length list.passes < list.made)
+    by_case number list at None is = absurd (none_some list (sym (back.none number is) ∙ at))
     by_case number list at (Some s) is =
-        let b = c.back number s is in
+        let b = back.each number s is in
+        let p = are.each number s is in
         let same : b.0 ≡ list = one_list b.0 list (sym b.1 ∙ at) in
         let size = b.2.count in
-        let made = b.2.made in
-        let all = c.few in (
-          s,
-          is,
+        let made = b.2.made in (
+          p.0,
+          p.1,
           subst (λ (l : PassListView). length l.passes < l.made) same (omega arith),
         )
 
 module _ (old new : Table) (same : new ≡ record old { passes = new.passes })
-    (answers : List LaneAnswers) (c : Collected old answers) (passes : List (Option PassView))
-    (a : LaneAnswers) (g : GivesBack old new (length answers) passes a) where
+    (given : List (List (Option PassView))) (back : AreBack old given)
+    (passes : List (Option PassView)) (are : ArePassesOf old (length given) passes)
+    (puts : PutsEach old.passes.items new.passes.items passes) where
   abbrev all : List (List (Option PassView))
-  all = c.passes ++ passes ∷ []
+  all = given ++ passes ∷ []
 
-  abbrev both : List LaneAnswers
-  both = answers ++ a ∷ []
+  here : passes_of all (length given) ≡ passes
+  here = at_end given [] passes []
 
-  here : passes_of all (length answers) ≡ passes
-  here = ap (passes_of all) (sym c.few) ∙ at_end c.passes [] passes []
+  before : (lane : ℕ) → lane < length given → passes_of all lane ≡ passes_of given lane
+  before lane low = at_front given (passes ∷ []) [] lane low
 
-  answers_here : get_or both (length answers) no_answers ≡ a
-  answers_here = at_end answers [] a no_answers
+  all_count : length all ≡ length given + 1
+  all_count = length-append given (passes ∷ [])
 
-  before : (lane : ℕ) → lane < length answers → passes_of all lane ≡ passes_of c.passes lane
-  before lane low = at_front c.passes (passes ∷ []) [] lane (let few = c.few in omega arith)
-
-  all_count : length all ≡ length answers + 1
-  all_count = length-append c.passes (passes ∷ []) ∙ ap (λ k. k + 1) c.few
-
-  back_more : (number : ℕ) (s : SharedView) → shared_at old.contexts number ≡ Some s
+  each_more : (number : ℕ) (s : SharedView) → shared_at old.contexts number ≡ Some s
       → (list : PassListView) × (list_at new.passes.items number ≡ Some list)
-      × AreBack s number (length old.plan.now.lanes) all list
-  back_more number s is =
-      let b = c.back number s is in
+      × IsListOf s number (length old.lanes.now) all list
+  each_more number s is =
+      let b = back.each number s is in
       let list = b.0 in
-      let p = g.passes_are number s is in
+      let p = are.each number s is in
       let low : number < length old.passes.items =
-      (let there = within_shared old.contexts number s is in let count = c.count in omega arith) in
-      let size : length list.passes ≡ length answers = b.2.count ∙ c.few in (
+      (let there = within_shared old.contexts number s is in let count = back.count in omega arith) in
+      let size : length list.passes ≡ length given = b.2.count in (
         record { passes = list.passes ++ p.0 ∷ []; made = list.made },
-        (g.puts.each number low).last list p.0 b.1 p.1,
+        (puts.each number low).last list p.0 b.1 p.1,
         record {
           of_lock = all_push (λ (q : PassView). q.lock ≡ s.lock) list.passes p.0 b.2.of_lock p.2;
           count = length-append list.passes (p.0 ∷ []) ∙ ap (λ k. k + 1) size ∙ sym all_count;
           made = b.2.made;
           each = λ lane less. one_more (λ l. (q : PassView)
               × (pass_at (passes_of all l) number ≡ Some q) × (q.number ≡ l)
-              × (slice_get (list.passes ++ p.0 ∷ []) l ≡ Some q)) (length answers)
+              × (slice_get (list.passes ++ p.0 ∷ []) l ≡ Some q)) (length given)
               (λ l few.
-              let e = b.2.each l (let x = c.few in omega arith) in (
+              let e = b.2.each l few in (
                 e.0,
                 ap (λ ps. pass_at ps number) (before l few) ∙ e.1,
                 e.2,
@@ -155,34 +151,76 @@ module _ (old new : Table) (same : new ≡ record old { passes = new.passes })
   none_more : (number : ℕ) → shared_at old.contexts number ≡ None
       → list_at new.passes.items number ≡ None
   none_more number is = elim (cases_lt number (length old.passes.items)) [
-    | inl low ↦ (g.puts.each number low).none (c.none number is)
+    | inl low ↦ (puts.each number low).none (back.none number is)
     | inr past ↦ get_or_past new.passes.items number None
-        (let size = g.puts.lists_count in omega arith)
+        (let size = puts.lists_count in omega arith)
   ]
 
-  pub one_back : Collected new both
-  one_back = subst (λ (t : Table). Collected t both) (sym same) (record {
-    passes = all;
-    few = all_count ∙ sym (length-append answers (a ∷ []));
-    served = λ lane low. one_more (λ l. LaneIsServed old.plan.now (views old.contexts) l
-        (passes_of all l) (get_or both l no_answers)) (length answers)
+  pub one_back : AreBack new all
+  one_back = subst (λ (t : Table). AreBack t all) (sym same) (record {
+    absent = λ lane number low is. one_more (λ l. seen_of (passes_of all l) number ≡ [])
+        (length given)
+        (λ l less. ap (λ ps. seen_of ps number) (before l less) ∙ back.absent l number less is)
+        (ap (λ ps. seen_of ps number) here ∙ are.absent number is)
+        lane (let x = all_count in omega arith);
+    count = puts.lists_count ∙ back.count;
+    none = none_more;
+    each = each_more;
+  })
+
+-- ---- a lane of the table's plan more
+
+pub passes_of_lane : (t : Table) (counter : Option (Bor CounterView)) (lane k : ℕ) → lane ≡ k
+    → (passes : List (Option PassView)) (seat : Option SeatView) (a : LaneAnswers)
+    → IsReturned t.plan.now t.contexts counter lane passes seat a → ArePassesOf t k passes
+passes_of_lane t counter lane k is passes seat a r = record {
+  count = r.count;
+  absent = r.absent;
+  each = λ number s at. let p = r.passes_are number s at in (p.0, p.1, p.2, p.3 ∙ is);
+}
+
+-- before the first one
+pub none_collected : (t : Table) → HasGiven (length t.lanes.now) t → Collected t []
+none_collected t given = record {
+  passes = [];
+  few = refl;
+  served = λ lane low. absurd (omega arith);
+  back = none_back t given;
+}
+
+module _ (old new : Table) (same : new ≡ record old { passes = new.passes })
+    (answers : List LaneAnswers) (c : Collected old answers) (passes : List (Option PassView))
+    (a : LaneAnswers)
+    (served : LaneIsServed old.plan.now (views old.contexts) (length answers) passes a)
+    (back : AreBack new (c.passes ++ passes ∷ [])) where
+  abbrev collected : List (List (Option PassView))
+  collected = c.passes ++ passes ∷ []
+
+  abbrev both : List LaneAnswers
+  both = answers ++ a ∷ []
+
+  collected_count : length collected ≡ length answers + 1
+  collected_count = length-append c.passes (passes ∷ []) ∙ ap (λ k. k + 1) c.few
+
+  pub one_collected : Collected new both
+  one_collected = record {
+    passes = collected;
+    few = collected_count ∙ sym (length-append answers (a ∷ []));
+    served = λ lane low. subst (λ (t : Table). LaneIsServed t.plan.now (views t.contexts) lane
+        (passes_of collected lane) (get_or both lane no_answers)) (sym same)
+        (one_more (λ l. LaneIsServed old.plan.now (views old.contexts) l
+        (passes_of collected l) (get_or both l no_answers)) (length answers)
         (λ l less. subst (λ ps. LaneIsServed old.plan.now (views old.contexts) l ps
-        (get_or both l no_answers)) (sym (before l less))
+        (get_or both l no_answers))
+        (sym (at_front c.passes (passes ∷ []) [] l (let few = c.few in omega arith)))
         (subst (LaneIsServed old.plan.now (views old.contexts) l (passes_of c.passes l))
         (sym (at_front answers (a ∷ []) no_answers l less))
         (c.served l (let x = c.few in omega arith))))
         (subst (λ ps. LaneIsServed old.plan.now (views old.contexts) (length answers) ps
-        (get_or both (length answers) no_answers)) (sym here)
+        (get_or both (length answers) no_answers))
+        (sym (ap (passes_of collected) (sym c.few) ∙ at_end c.passes [] passes []))
         (subst (LaneIsServed old.plan.now (views old.contexts) (length answers) passes)
-        (sym answers_here) g.served))
-        lane (let x = all_count in omega arith);
-    absent = λ lane number low is. one_more (λ l. seen_of (passes_of all l) number ≡ [])
-        (length answers)
-        (λ l less. ap (λ ps. seen_of ps number) (before l less)
-        ∙ c.absent l number (let x = c.few in omega arith) is)
-        (ap (λ ps. seen_of ps number) here ∙ g.absent number is)
-        lane (let x = all_count in omega arith);
-    count = g.puts.lists_count ∙ c.count;
-    none = none_more;
-    back = back_more;
-  })
+        (sym (at_end answers [] a no_answers)) served))
+        lane (let x = collected_count in omega arith));
+    back = back;
+  }

@@ -1,12 +1,19 @@
 -- ---- for the proofs: contexts that are closed one after another.
-use Rattle.std.specs.Prelude.{ℕ, ◌≡◌, ◌+◌, List, [], ◌++◌, length, sum, Option, Some, None}
-use Rattle.std.specs.List.{All}
+use Rattle.std.specs.Prelude.{ℕ, ◌≡◌, ◌+◌, ◌≤◌, List, [], ◌++◌, length, sum, flat_map, slice_index_or, IsPermutation, Option, Some, None}
+use Rattle.std.specs.List.{All, range_with_len}
 use Rattle.call_places.specs.declared.entries.Entry.{Entry}
 use Rattle.call_places.specs.Entries.{stamps_of, StampsRise}
-use Rattle.turn_lock.specs.Passes.{PassListView, AllOf, IsShown, NoOthers}
+use Rattle.turn_lock.specs.Passes.{PassView, PassListView, AllOf, IsShown, NoOthers}
 use Rattle.stamp_counter.specs.Seats.{SeatView}
 use Rattle.context_books.specs.Books.{BookView}
 use Rattle.shared_context.specs.Calls.{SharedView}
+use Rattle.gathered_lanes.specs.Lanes.{Closes}
+use Rattle.lane_workers.specs.Served.{seen_of}
+use Rattle.lane_workers.specs.Turns.{views}
+use Rattle.shared_runs.specs.declared.tables.Table.{Table}
+use Rattle.shared_runs.specs.Sharing.{quotas_on}
+use Rattle.shared_runs.specs.Tables.{planned}
+use Rattle.shared_runs.specs.Collected.{passes_of}
 
 -- a context that isn't there has no entries
 abbrev pub entries_of : Option BookView → List Entry
@@ -29,6 +36,7 @@ pub record ClosesBy (s : SharedView) (list : PassListView) (old new : SeatView) 
   pub rise : StampsRise book.entries
   pub drawn : new.drawn ≡ old.drawn ++ stamps_of book.entries
   pub left : new.left + length book.entries ≡ old.left + sum s.lock.terms.quotas
+  pub few : length book.entries ≤ sum s.lock.terms.quotas
 
 pub record HasClosed (context : Option SharedView) (passes : Option PassListView)
     (old new : SeatView) (book : Option BookView) : Type 0 where
@@ -36,3 +44,15 @@ pub record HasClosed (context : Option SharedView) (passes : Option PassListView
   pub some : (s : SharedView) (list : PassListView) → context ≡ Some s → passes ≡ Some list
       → (b : BookView) × (book ≡ Some b) × ClosesBy s list old new b
   pub counter : new.counter ≡ old.counter
+
+-- The contexts of a table are closed over these passes. The counter gave their stamps and those that
+-- the table's seat took in, and no book has more entries than its lanes may add.
+pub record HasClosedAll (t : Table) (passes : List (List (Option PassView)))
+    (books : List (List Entry)) : Type 0 where
+  pub count : length books ≡ length t.plan.now.contexts
+  pub closes : (context : ℕ) → Closes (length t.lanes.now)
+      (λ lane. seen_of (passes_of passes lane) context) (slice_index_or books context [])
+  pub stamps : ℕ
+  pub given : IsPermutation (t.seat.drawn ++ flat_map stamps_of books) (range_with_len 0 stamps)
+  pub few : (context : ℕ) → length (slice_index_or books context [])
+      ≤ sum (quotas_on (planned t) (views t.contexts) context)

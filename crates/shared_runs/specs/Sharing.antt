@@ -21,9 +21,10 @@ abbrev pub all_quotas : Plan → List (Option ContextView) → List (List ℕ)
 all_quotas plan contexts = map (quotas_on plan contexts) (range_with_len 0 (length contexts))
 
 -- so many stamps each context may draw. A lane draws none of its own: the share from which lanes
--- get their notes comes first, and is 0
-abbrev pub shares : List (List ℕ) → List ℕ
-shares quotas = 0 ∷ map sum quotas
+-- get their notes comes first, and is 0. So many others are drawn for other lists than those of
+-- contexts
+abbrev pub shares : List (List ℕ) → ℕ → List ℕ
+shares quotas others = 0 ∷ others ∷ map sum quotas
 
 -- ---- contexts that are shared
 

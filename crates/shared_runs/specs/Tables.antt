@@ -1,11 +1,11 @@
 -- ---- for the proofs: shared contexts, and their passes that are with no lane.
-use Rattle.std.specs.Prelude.{ℕ, ◌≡◌, ◌-◌, ◌<◌, List, length, map, sum, slice_get, Option, Some, None}
+use Rattle.std.specs.Prelude.{ℕ, ◌≡◌, ◌+◌, ◌-◌, List, [], length, map, sum, slice_get, Option, Some, None}
 use Rattle.std.specs.List.{range_with_len}
 use Rattle.std.specs.Borrow.{Bor}
 use Rattle.call_places.specs.declared.entries.Mark.{Mark}
 use Rattle.hpke_context.specs.Contexts.{ContextView}
-use Rattle.turn_lock.specs.Passes.{PassListView, fresh_from}
-use Rattle.stamp_counter.specs.Seats.{CounterView}
+use Rattle.turn_lock.specs.Passes.{PassView, PassListView, fresh_pass, fresh_from}
+use Rattle.stamp_counter.specs.Seats.{SeatView, CounterView}
 use Rattle.shared_context.specs.Stamped.{IsNote}
 use Rattle.shared_context.specs.Calls.{SharedView}
 use Rattle.batch_plans.specs.declared.plan.Plan.{Plan}
@@ -15,19 +15,31 @@ use Rattle.due_replies.specs.Standing.{AreOfLines, export_limits}
 use Rattle.lane_workers.specs.declared.works.LaneWork.{LaneWork}
 use Rattle.lane_workers.specs.Groups.{IsFresh, IsDone}
 use Rattle.lane_workers.specs.Handing.{list_at}
-use Rattle.lane_workers.specs.Turns.{shared_at, views}
+use Rattle.lane_workers.specs.Served.{seen_of}
+use Rattle.lane_workers.specs.Turns.{shared_at, pass_at, views}
 use Rattle.shared_runs.specs.declared.tables.Table.{Table}
 use Rattle.shared_runs.specs.Sharing.{quotas_on, all_quotas, IsSharedBy}
 
--- the contexts of the table's plan are shared by its lanes, and the counter has a stamp for each
--- entry that there may be
+-- the table's plan, with the lanes that share its contexts
+abbrev pub planned : Table → Plan
+planned t = record t.plan.now { lanes = t.lanes.now }
+
+-- the contexts are shared by the table's lanes, and stamps are of its counter
 pub record IsTable (t : Table) : Type 0 where
-  pub within : IsWithinLimits t.plan.now
+  pub within : IsWithinLimits (planned t)
   pub of_lines : AreOfLines t.plan.now.contexts (views t.contexts)
   pub shared : (number : ℕ) (s : SharedView) → shared_at t.contexts number ≡ Some s
-      → IsSharedBy s.context (quotas_on t.plan.now (views t.contexts) number) t.counter.id s
-  pub stamps : t.counter.all ≡ sum (map sum (all_quotas t.plan.now (views t.contexts)))
-  pub seat : IsNote t.counter.id t.seat
+      → IsSharedBy s.context (quotas_on (planned t) (views t.contexts) number) t.counter.id s
+  pub seat : t.seat.counter ≡ t.counter.id
+
+-- the counter has a stamp for each entry that there may be, and so many others
+abbrev pub HasStamps : ℕ → Table → Type 0
+HasStamps others t =
+    t.counter.all ≡ sum (map sum (all_quotas (planned t) (views t.contexts))) + others
+
+-- the lanes are those of the table's plan
+abbrev pub HasOwnLanes : Table → Type 0
+HasOwnLanes t = t.lanes.now ≡ t.plan.now.lanes
 
 -- of each context that is shared so many fresh passes are left, from this lane's on
 pub record AreLeft (shared : List (Option SharedView)) (lane left made : ℕ)
@@ -40,8 +52,17 @@ pub record AreLeft (shared : List (Option SharedView)) (lane left made : ℕ)
 
 -- the lanes before this one have got their passes
 abbrev pub HasGiven : ℕ → Table → Type 0
-HasGiven lane t = AreLeft t.contexts lane (length t.plan.now.lanes - lane)
-    (length t.plan.now.lanes) t.passes.items
+HasGiven lane t = AreLeft t.contexts lane (length t.lanes.now - lane) (length t.lanes.now)
+    t.passes.items
+
+-- what the lane of this number has got: a fresh pass of each context that is shared, and a note
+pub record IsHanded (t : Table) (lane : ℕ) (passes : List (Option PassView)) (seat : SeatView)
+    : Type 0 where
+  pub count : length passes ≡ length t.contexts
+  pub fresh : (number : ℕ) (s : SharedView) → shared_at t.contexts number ≡ Some s
+      → pass_at passes number ≡ Some (fresh_pass s.lock lane)
+  pub unseen : (number : ℕ) → seen_of passes number ≡ []
+  pub note : IsNote t.counter.id seat
 
 -- the journals of all contexts before the lanes are served: a place for each item that there will be
 abbrev pub journal_rooms : Plan → List (Option ContextView) → List (List Mark)

@@ -1,11 +1,10 @@
 //! The close of all contexts and of their counter.
 
-ghost use Rattle.std.specs.Prelude.{◌≡◌, ◌≤◌, [], List, length, map, vec_len, vec_capacity};
-ghost use Rattle.batch_plans.specs.declared.replies.LaneAnswers.{LaneAnswers};
-ghost use Rattle.lane_workers.specs.Gathered.{AllClosed};
-ghost use Rattle.shared_runs.specs.Tables.{IsTable};
-ghost use Rattle.shared_runs.specs.Collected.{Collected};
-ghost use Rattle.shared_runs.specs.Closing.{entries_of, MayClose, HasClosed};
+ghost use Rattle.std.specs.Prelude.{◌≡◌, ◌+◌, ◌≤◌, [], List, Option, length, map, vec_len, vec_capacity};
+ghost use Rattle.turn_lock.specs.Passes.{PassView};
+ghost use Rattle.shared_runs.specs.Tables.{IsTable, HasStamps};
+ghost use Rattle.shared_runs.specs.Collected.{AreBack};
+ghost use Rattle.shared_runs.specs.Closing.{entries_of, MayClose, HasClosed, HasClosedAll};
 
 use crate::tables::Table;
 use context_books::Book;
@@ -36,16 +35,17 @@ fn close(
 
 impl Table<'_> {
     /// Closes the contexts and the counter, and gives the contexts' books. All passes are back.
-    pub(crate) fn close(self, books: &mut Vec<Option<Book>>)
+    pub fn close(self, books: &mut Vec<Option<Book>>)
         requires table { IsTable self }
-        requires back { (answers : List LaneAnswers) × Collected self answers
-            × (length answers ≡ length self.plan.now.lanes) }
+        requires stamps { HasStamps (length self.seat.drawn + self.seat.left) self }
+        requires back { (passes : List (List (Option PassView))) × AreBack self passes
+            × (length passes ≡ length self.lanes.now) }
         requires none { books.old.items ≡ [] }
         requires room { length self.contexts ≤ vec_capacity books.old }
         ensures count { length books.new.items ≡ length self.entry.contexts }
-        ensures closed { (answers : List LaneAnswers) (collected : Collected self.entry answers)
-            → length answers ≡ length self.entry.plan.now.lanes
-            → AllClosed self.entry.plan.now collected.passes (map entries_of books.new.items) }
+        ensures closed { (passes : List (List (Option PassView))) → AreBack self.entry passes
+            → length passes ≡ length self.entry.lanes.now
+            → HasClosedAll self.entry passes (map entries_of books.new.items) }
     {
         let Table {
             mut contexts,

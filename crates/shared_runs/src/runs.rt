@@ -2,6 +2,7 @@
 
 ghost use Rattle.std.specs.Prelude.{◌≡◌, ◌<◌, ◌≤◌, IfOk, length, map};
 ghost use Rattle.std.specs.List.{All};
+ghost use Rattle.shared_context.specs.Stamped.{IsNote};
 ghost use Rattle.batch_plans.specs.Limits.{IsWithinLimits};
 ghost use Rattle.batch_plans.specs.Room.{lane_room, room_for};
 ghost use Rattle.batch_plans.specs.Replies.{IsPrintable};
@@ -9,7 +10,7 @@ ghost use Rattle.reply_texts.specs.ReplyText.{IsAnswered};
 ghost use Rattle.due_replies.specs.Standing.{AreOfLines, export_limits};
 ghost use Rattle.lane_workers.specs.Gathered.{AreOfARun};
 ghost use Rattle.lane_workers.specs.Turns.{views};
-ghost use Rattle.shared_runs.specs.Tables.{IsTable, HasGiven, journal_rooms};
+ghost use Rattle.shared_runs.specs.Tables.{IsTable, HasOwnLanes, HasStamps, HasGiven, journal_rooms};
 
 use crate::tables::Table;
 use batch_io::Gate;
@@ -33,6 +34,9 @@ fn serve_table<R: Threads + Wait + Sync, G: Gate + Sync>(
     gate: &G,
 ) -> Result<Vec<LaneAnswers>, OutOfMemory>
     requires table { IsTable table }
+    requires own { HasOwnLanes table }
+    requires note { IsNote table.counter.id table.seat }
+    requires stamps { HasStamps 0 table }
     requires given { HasGiven 0 table }
     requires lanes { 0 < length table.plan.now.lanes }
     requires rooms { rooms.items ≡ map (lane_room table.plan.now
@@ -93,8 +97,9 @@ pub fn run_lanes<R: Threads + Wait + Sync, G: Gate + Sync>(
         contexts: replies,
         lanes,
         mut journals,
+        notes,
     } = answers;
-    let table = Table::new(alloc, plan, contexts.as_mut_slice())?;
+    let (table, _) = Table::new(alloc, plan, &plan.lanes, contexts.as_mut_slice(), 0)?;
     let rooms = journals.as_mut_slice();
     let lanes = serve_table(rt, alloc, table, lanes.into_vec(), rooms, workers, gate)?;
     Ok(Answers {
@@ -102,5 +107,6 @@ pub fn run_lanes<R: Threads + Wait + Sync, G: Gate + Sync>(
         contexts: replies,
         lanes: PlainList::from_vec(lanes),
         journals,
+        notes,
     })
 }

@@ -1,14 +1,16 @@
 //! Contexts that are shared by the lanes of a plan.
 
-ghost use Rattle.std.specs.Prelude.{ℕ, ◌≡◌, ◌<◌, ◌≤◌, List, All, IfOk, length, map, sum};
+ghost use Rattle.std.specs.Prelude.{ℕ, ◌≡◌, ◌<◌, ◌≤◌, ◌^◌, List, All, IfOk, length, map, sum, sum_by};
 ghost use Rattle.stamp_counter.specs.Seats.{fresh_seats};
-ghost use Rattle.batch_plans.specs.Limits.{IsWithinLimits};
+ghost use Rattle.batch_plans.specs.declared.plan.ContextLine.{ContextLine};
+ghost use Rattle.batch_plans.specs.declared.plan.Plan.{Plan};
+ghost use Rattle.batch_plans.specs.Limits.{items_of};
 ghost use Rattle.due_replies.specs.Standing.{AreOfLines};
 ghost use Rattle.shared_runs.specs.Sharing.{all_quotas, shares, MayShare, Shares, SharesEach};
 
-use batch_plans::{PlainList, Plan};
+use batch_plans::{LaneLines, PlainList};
 use hpke_context::Context;
-use lane_quotas::quotas;
+use lane_quotas::quotas_of;
 use shared_context::SharedContext;
 use stamp_counter::{SeatList, StampSeat};
 use std::alloc::{AllocError as OutOfMemory, Global};
@@ -17,16 +19,18 @@ use turn_lock::PassList;
 /// How many entries each lane may add to each context.
 pub(crate) fn all_quotas(
     alloc: Global,
-    plan: &Plan,
+    lanes: &LaneLines,
     contexts: &[Option<Context>],
 ) -> Result<Vec<PlainList<u32>>, OutOfMemory>
-    requires within { IsWithinLimits plan.now }
-    requires standing { AreOfLines plan.now.contexts contexts.now }
-    ensures { IfOk result (λ all. all.items ≡ all_quotas plan.now contexts.now) }
+    requires few { All (λ calls. sum_by items_of calls < 2 ^ 32) lanes.now }
+    requires count { length contexts.now < 2 ^ 32 }
+    requires standing { (lines : List ContextLine) × AreOfLines lines contexts.now }
+    ensures { IfOk result (λ all. (plan : Plan) → AreOfLines plan.contexts contexts.now
+        → plan.lanes ≡ lanes.now → all.items ≡ all_quotas plan contexts.now) }
 {
     let mut all = Vec::with_capacity(alloc, contexts.len())?;
     'contexts: for number in 0..contexts.len() {
-        let quotas = quotas(alloc, plan, contexts, number as u32)?;
+        let quotas = quotas_of(alloc, lanes, contexts, number as u32)?;
         all.push_reserved(PlainList::from_vec(quotas));
     }
     Ok(all)
@@ -40,13 +44,18 @@ fn total(quotas: &[u32]) -> u32
     quotas.iter().sum()
 }
 
-/// How many stamps each context may draw, behind a share of 0.
-pub(crate) fn shares(alloc: Global, all: &[PlainList<u32>]) -> Result<Vec<u32>, OutOfMemory>
+/// How many stamps each context may draw, behind a share of 0 and that of other lists.
+pub(crate) fn shares(
+    alloc: Global,
+    all: &[PlainList<u32>],
+    others: u32,
+) -> Result<Vec<u32>, OutOfMemory>
     requires { sum (map sum all.now) ≤ 65536 }
-    ensures { IfOk result (λ r. r.items ≡ shares all.now) }
+    ensures { IfOk result (λ r. r.items ≡ shares all.now others) }
 {
-    let mut shares = Vec::with_capacity(alloc, all.len() + 1)?;
+    let mut shares = Vec::with_capacity(alloc, all.len() + 2)?;
     shares.push_reserved(0);
+    shares.push_reserved(others);
     'contexts: for quotas in all {
         shares.push_reserved(total(quotas.as_slice()));
     }

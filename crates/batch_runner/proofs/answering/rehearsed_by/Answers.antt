@@ -17,6 +17,6 @@ returns-clause-text g c =
       lanes = subst (λ (seen : List (Option ContextView)).
           AreAnswersOf (rehearsed c.args.plan.now seen c.args.schedule.now) answers)
           c.as_slice-2.ensures.items t.answered;
-      keys_are = t.set_up.0 ∙ ap (λ (a : Answers). a.keys) c.in_ok-answers.ensures;
-      contexts_are = t.set_up.1 ∙ ap (λ (a : Answers). a.contexts) c.in_ok-answers.ensures;
+      keys_are = t.set_up.0 ∙ ap (λ (a : Answers). a.keys) c.in_ok-answers.ensures.room;
+      contexts_are = t.set_up.1 ∙ ap (λ (a : Answers). a.contexts) c.in_ok-answers.ensures.room;
     })

@@ -12,7 +12,7 @@ returns-clause-text g c =
     let plan = c.args.plan.now in
     let s = c.in_ok-keys in
     let given = c.in_ok-answers.answers in
-    let room = c.in_ok-answers.ensures in
+    let room = c.in_ok-answers.ensures.room in
     IfOk-both c.run_lanes.result (λ a. AreOfARun plan s.field-0.standing a.lanes a.journals)
     (λ a. (a.keys ≡ given.keys) × (a.contexts ≡ given.contexts))
     (λ a. IsReply plan (answers_text plan a))

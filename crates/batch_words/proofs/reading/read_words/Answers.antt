@@ -1,13 +1,18 @@
 use Rattle.std.proofs.Common.{◌-◌, drop, length, map, take}
 use Rattle.std.specs.String.{string_bytes}
 use Rattle.batch_words.proofs.Parses.{if_ok}
-use Rattle.batch_words.proofs.Within.{capsules_read, check_read, demo_read, rehearse_read, run_read}
+use Rattle.batch_words.proofs.Within.{capsules_read, check_read, demo_read, live_read, rehearse_read, run_read}
 use Rattle.batch_words.proofs.reading.read_words.Goals as goal
 
 pub returns-in-run-clause-within : goal.returns-in-run-clause-within
 returns-in-run-clause-within c =
     let rest = take (length c.args.words.now - 1) (drop 1 c.args.words.now) in
     if_ok c.read_run.result _ _ (run_read (map string_bytes rest)) c.read_run.ensures
+
+pub returns-in-live-clause-within : goal.returns-in-live-clause-within
+returns-in-live-clause-within c =
+    let rest = take (length c.args.words.now - 1) (drop 1 c.args.words.now) in
+    if_ok c.read_live.result _ _ (live_read (map string_bytes rest)) c.read_live.ensures
 
 pub returns-in-rehearse-clause-within : goal.returns-in-rehearse-clause-within
 returns-in-rehearse-clause-within c =

@@ -1,4 +1,4 @@
-use Rattle.std.proofs.Common.{◌≡◌, ◌<◌, ◌^◌, List, None, sym, ◌∙◌, subst, true, arith}
+use Rattle.std.proofs.Common.{◌≡◌, ◌<◌, ◌^◌, List, None, refl, sym, ◌∙◌, subst, true, arith}
 use Rattle.call_places.specs.declared.spans.Item.{Item}
 use Rattle.batch_plans.specs.declared.plan.CallLine.{CallLine}
 use Rattle.batch_plans.specs.declared.plan.ContextLine.{ContextLine}
@@ -6,7 +6,7 @@ use Rattle.batch_plans.specs.declared.plan.KeyLine.{KeyLine}
 use Rattle.batch_plans.specs.Limits.{IsWithinLimits}
 use Rattle.context_core.specs.declared.tests.TheConstants.{ITEMS}
 use Rattle.context_core.specs.Tests.{are_small, two_lines}
-use Rattle.context_core.proofs.SmallPlans.{small_plan}
+use Rattle.context_core.proofs.SmallPlans.{plain_plan, small_plan}
 use Rattle.context_core.proofs.tests.plan_of.Goals as goal
 
 pub returns-clause-within : goal.returns-clause-within
@@ -30,6 +30,7 @@ returns-clause-within c =
       contexts = lines;
       items = items;
       lanes = lanes;
+      added = 0;
     })) (sym c.in_ok-contexts.ensures)
     (subst (λ (keys : List KeyLine). IsWithinLimits (record {
       version = 2;
@@ -39,4 +40,19 @@ returns-clause-within c =
       contexts = two_lines limit;
       items = items;
       lanes = lanes;
+      added = 0;
     })) (sym keys_are) within)
+
+pub returns-clause-plain : goal.returns-clause-plain
+returns-clause-plain c =
+    let limit = c.args.limit in
+    let items = c.from_vec-items.result in
+    let lanes = c.in_ok-lanes.lanes in
+    let items_are = c.from_vec-items.ensures.items ∙ c.in_ok-from_slice.ensures.items in
+    let most : limit < 2 ^ 64 = omega arith in
+    let named = subst (λ (ls : List (List CallLine)). are_small ITEMS ls ≡ true)
+    (sym c.in_ok-lanes.ensures) c.requires.small in
+    let passed = subst (λ (xs : List Item). are_small xs lanes ≡ true) (sym items_are) named in
+    let plain = plain_plan c.in_ok-pool.pool limit items lanes c.in_ok-pool.ensures
+    c.requires.limit most passed in
+    record { added = refl; calls = plain.calls }

@@ -1,5 +1,5 @@
 use Rattle.std.proofs.Common.{refl, arith}
-use Rattle.request_frames.proofs.SpelledTexts.{behind_front, front_found, front_within}
+use Rattle.request_frames.proofs.SpelledTexts.{behind_front, front_found, front_within, front_plain}
 use Rattle.request_frames.proofs.reading.read_up_to_end.Goals as goal
 
 pub overflow_sub-end : goal.overflow_sub-end
@@ -11,3 +11,6 @@ returns-clause-read c = rw c.in_ok-finish.ensures.plan (front_found c.args.bytes
 pub returns-clause-limits : goal.returns-clause-limits
 returns-clause-limits c =
     rw c.in_ok-finish.ensures.plan (front_within c.args.bytes.now _ c.in_ok-front.ensures.read (omega (arith, c.in_ok-front.ensures.kept.pool, c.in_ok-front.front.draft.pool.ok)))
+
+pub returns-clause-plain : goal.returns-clause-plain
+returns-clause-plain c = rw c.in_ok-finish.ensures.plan (front_plain c.args.bytes.now _ c.in_ok-front.ensures.read)

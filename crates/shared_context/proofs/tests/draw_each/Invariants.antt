@@ -1,6 +1,6 @@
 use Rattle.std.proofs.Common.{◌-◌}
-use Rattle.shared_context.specs.Stamped.{IsNote}
-use Rattle.shared_context.specs.Tests.{MayDraw}
+use Rattle.stamped_lists.specs.Stamps.{IsNote}
+use Rattle.stamped_lists.specs.Tests.{MayDraw}
 use Rattle.shared_context.proofs.tests.draw_each.Given as goal
 
 abbrev pub invariant-loop-call : goal.invariant-loop-call

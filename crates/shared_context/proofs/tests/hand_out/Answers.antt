@@ -1,11 +1,9 @@
-use Rattle.std.proofs.Common.{◌≡◌, ◌+◌, All, length, sym, ap, ◌∙◌, subst, arith}
+use Rattle.std.proofs.Common.{All, length, sym, ap, ◌∙◌, subst, arith}
 use Rattle.std.proofs.lemmas.List.Elements.{All-push}
-use Rattle.turn_lock.specs.declared.passes.Pass.{Pass}
-use Rattle.stamp_counter.specs.declared.seats.StampSeat.{StampSeat}
 use Rattle.stamp_counter.specs.Seats.{SeatView}
-use Rattle.shared_context.specs.Stamped.{IsNote}
-use Rattle.shared_context.specs.Tests.{MayDraw}
-use Rattle.shared_context.proofs.Lanes.{All-removed, All-at, length-removed}
+use Rattle.stamped_lists.specs.Stamps.{IsNote}
+use Rattle.stamped_lists.specs.Tests.{MayDraw}
+use Rattle.stamped_lists.proofs.Passes.{All-removed, All-at, length-removed}
 use Rattle.shared_context.proofs.tests.hand_out.Goals as goal
 
 pub loop-pass-preserved : goal.loop-pass-preserved

@@ -32,6 +32,7 @@ returns c =
               drawn = ap (λ (x : SeatView). x.drawn) joined
                   ∙ ap (λ ds. c.args.all.now.drawn ++ ds) b.stamps;
               left = omega (arith, left, quotas, shares, b.left);
+              few = omega (arith, quotas, shares, b.left);
             },
           );
       counter = ap (λ (x : SeatView). x.counter) joined ∙ sym c.requires.seat;

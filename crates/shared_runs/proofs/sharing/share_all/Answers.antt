@@ -1,7 +1,7 @@
-use Rattle.std.proofs.Common.{◌≡◌, ◌≢◌, ◌+◌, ◌<◌, ◌≤◌, ◌++◌, ◌∷◌, [], ℕ, List, length, map, drop, Option, Some, None, inl, inr, sym, refl, ap, ◌∙◌, subst, arith, get_or-set_other, get_or, length-append}
+use Rattle.std.proofs.Common.{◌≡◌, ◌+◌, ◌<◌, ◌≤◌, ◌++◌, ◌∷◌, [], ℕ, List, length, map, Option, None, sym, refl, ap, ◌∙◌, subst, arith, get_or-set_other, get_or, length-append}
 use Rattle.std.specs.Prelude.{sum}
 use Rattle.std.proofs.lemmas.List.{length-set}
-use Rattle.stamp_counter.specs.Seats.{SeatView, fresh_seat, fresh_seats}
+use Rattle.stamp_counter.specs.Seats.{SeatView, fresh_seats}
 use Rattle.turn_lock.specs.Passes.{PassListView}
 use Rattle.hpke_context.specs.Contexts.{ContextView}
 use Rattle.shared_context.specs.Calls.{SharedView}

@@ -1,4 +1,4 @@
-use Rattle.std.proofs.Common.{◌≡◌, ◌<◌, ◌≤◌, ◌++◌, ◌∷◌, [], length, sym, ap, ◌∙◌, subst, arith}
+use Rattle.std.proofs.Common.{◌<◌, ◌≤◌, ◌++◌, ◌∷◌, [], length, sym, ap, ◌∙◌, subst, arith}
 use Rattle.std.specs.Prelude.{sum}
 use Rattle.lane_workers.proofs.Handing.{found_here}
 use Rattle.shared_runs.proofs.Seats.{one_of_all, one_share_more}
@@ -25,7 +25,7 @@ contexts-preserved c =
       done = p.items
           ∙ (λ j. i.done j
           ++ (c.total.ensures ∙ ap sum (c.as_slice.ensures.items ∙ here)) j ∷ [])
-          ∙ one_share_more all k low;
+          ∙ one_share_more all c.args.others k low;
       count = omega (arith, p.len, i.count);
       room = omega (arith, p.capacity, i.room);
     }

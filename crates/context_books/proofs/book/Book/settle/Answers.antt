@@ -13,8 +13,8 @@ use Rattle.legal_journals.proofs.EntryNumbers.{seq_of-push, number_next}
 use Rattle.call_places.specs.Messages.{SealedMessage, sealed_message}
 use Rattle.context_books.specs.Books.{opened_at}
 use Rattle.context_books.specs.Openings.{unseals, opening_steps, opening_misses, OpensIn}
-use Rattle.context_books.proofs.Stamps.{StampsBelow-weaker, StampsBelow-append}
-use Rattle.context_books.proofs.Adding.{own-same}
+use Rattle.call_places.proofs.Stamps.{StampsBelow-weaker, StampsBelow-append}
+use Rattle.call_places.proofs.Quotas.{own-same}
 use Rattle.context_books.proofs.OneMore.{opened_for, told_in_window, item_at, asked_at, steps_more, missed_more, entries_more}
 use Rattle.context_books.proofs.book.Book.settle.Goals as goal
 use Rattle.context_books.proofs.book.Book.settle.Goals.{then-is_none, else-is_none}

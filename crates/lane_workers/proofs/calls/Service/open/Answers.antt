@@ -1,4 +1,4 @@
-use Rattle.std.proofs.Common.{◌≡◌, ◌≤◌, List, length, map, All, sum_by, sym, ap, ◌∙◌, subst, arith}
+use Rattle.std.proofs.Common.{◌≡◌, ◌≤◌, ◌+◌, ◌-◌, List, length, map, All, sum_by, sym, ap, ◌∙◌, subst, arith}
 use Rattle.call_places.specs.declared.spans.Item.{Item}
 use Rattle.call_places.specs.Spans.{ItemIsInPool}
 use Rattle.speculative_open.specs.Tables.{TableView}
@@ -7,7 +7,7 @@ use Rattle.hpke_context.specs.Contexts.{cipher_of}
 use Rattle.context_books.specs.Openings.{unseals}
 use Rattle.batch_plans.specs.Limits.{items_of}
 use Rattle.batch_plans.specs.Calls.{context_of}
-use Rattle.batch_plans.specs.Room.{opened_room}
+use Rattle.batch_plans.specs.Room.{opened_room, served_room}
 use Rattle.batch_plans.specs.Progress.{Progress}
 use Rattle.due_replies.specs.Runs.{answer_line}
 use Rattle.lane_replies.specs.Writing.{PutsReplies}
@@ -15,6 +15,8 @@ use Rattle.lane_workers.specs.declared.works.LaneWork.{LaneWork}
 use Rattle.lane_replies.specs.LaneCalls.{opening_items}
 use Rattle.lane_workers.specs.Turns.{CanTurn, Peeks, Commits, with_table}
 use Rattle.lane_replies.specs.LaneCalls.{lane_calls}
+use Rattle.lane_workers.specs.Readings.{hears}
+use Rattle.lane_workers.proofs.Heard.{turn_of, tested_turn_of, peeks_heard, items_same, spans_here}
 use Rattle.lane_workers.proofs.Answering.{fits, finds_room}
 use Rattle.lane_workers.proofs.Ready.{look_turn, commit_turn}
 use Rattle.lane_replies.proofs.Within.{of_call, opening_count, opening_spans, opening_room}
@@ -23,32 +25,40 @@ use Rattle.lane_workers.proofs.calls.Service.open.Goals as goal
 pub guess-guess-requires-clause-turn : goal.guess-guess-requires-clause-turn
 guess-guess-requires-clause-turn g c κs within =
     let v = c.args.self.now in
-    subst (λ j. CanTurn c.args.work.now c.args.shared.now v.counter j c.args.call 0)
-    (sym c.context_of-number.ensures)
-    (look_turn v.plan.now v.contexts.now v.counter c.args.call c.args.line.now c.args.shared.now
-    c.args.work.now c.requires.may c.requires.opening)
+    let r = c.requires.may.0 in
+    let w = c.args.work.now in
+    let s = c.args.shared.now in
+    subst (λ j. CanTurn w s v.counter j c.args.call 0) (sym c.context_of-number.ensures)
+    (turn_of r w s v.counter (context_of c.args.line.now) c.args.call 0
+    (look_turn r.plan v.contexts.now v.counter c.args.call c.args.line.now s (hears r w)
+    c.requires.may.1.may c.requires.opening))
 
 pub test-requires-clause-room : goal.test-requires-clause-room
 test-requires-clause-room g c κs within =
     let v = c.args.self.now in
-    let may = c.requires.may.may in
+    let may = c.requires.may.1.may.may in
+    let r = c.requires.may.0 in
     let w = c.args.work.now in
-    let rows = of_call (λ x. items_of x ≤ w.table.room) (lane_calls v.plan.now w.lane) c.args.call
+    let rows = of_call (λ x. items_of x ≤ w.table.room) (lane_calls r.plan w.lane) c.args.call
     c.args.line.now may.is_at.rows may.at in
-    let count = opening_count v.plan.now c.args.line.now c.requires.opening
-    (fits v.plan.now v.contexts.now v.counter c.args.call c.args.line.now w may) in
-    let is = ap length c.items_of_opening-items.ensures in
+    let count = opening_count r.plan c.args.line.now c.requires.opening
+    (fits r.plan v.contexts.now v.counter c.args.call c.args.line.now (hears r w) may) in
+    let is = ap length (c.items_of_opening-items.ensures
+    ∙ sym (items_same r.plan v.plan.now c.args.line.now c.requires.may.1.bytes)) in
     let same = ap (λ (x : TableView). x.room) c.guess-guess.ensures.same.table in
     omega arith
 
 pub test-requires-clause-spans : goal.test-requires-clause-spans
 test-requires-clause-spans g c κs within =
     let v = c.args.self.now in
-    let may = c.requires.may.may in
+    let r = c.requires.may.0 in
+    let may = c.requires.may.1.may.may in
     subst (λ (xs : List Item). All (ItemIsInPool (length v.plan.now.pool)) xs)
     (sym c.items_of_opening-items.ensures)
-    (opening_spans v.plan.now c.args.line.now may.shared.within
-    (fits v.plan.now v.contexts.now v.counter c.args.call c.args.line.now c.args.work.now may))
+    (spans_here r.plan v.plan.now c.args.line.now c.requires.may.1.bytes
+    (opening_spans r.plan c.args.line.now may.shared.within
+    (fits r.plan v.contexts.now v.counter c.args.call c.args.line.now (hears r c.args.work.now)
+    may)))
 
 pub commit-first-requires-clause-turn : goal.commit-first-requires-clause-turn
 commit-first-requires-clause-turn g c κs within =
@@ -58,34 +68,46 @@ commit-first-requires-clause-turn g c κs within =
     let mid = c.guess-guess.new.work in
     let number = c.context_of-number.ensures in
     let peeks = subst (λ j. Peeks w mid j c.guess-guess.result) number c.guess-guess.ensures in
-    let turn = commit_turn v.plan.now v.contexts.now v.counter c.args.call c.args.line.now s w
-    c.requires.may c.requires.opening mid c.guess-guess.result c.test.new.work.table peeks in
+    let r = c.requires.may.0 in
+    let line = c.args.line.now in
+    let table = c.test.new.work.table in
+    let turn = tested_turn_of r mid table s v.counter (context_of line) c.args.call
+    (length (opening_items r.plan line))
+    (commit_turn r.plan v.contexts.now v.counter c.args.call line s (hears r w) c.requires.may.1.may
+    c.requires.opening (hears r mid) c.guess-guess.result table
+    (peeks_heard r w mid (context_of line) c.guess-guess.result peeks)) in
     subst (λ (x : LaneWork). CanTurn x s v.counter c.context_of-number.result c.args.call
     (length c.items_of_opening-items.result.now)) (sym c.test.ensures.same)
-    (subst (λ j. CanTurn (with_table mid c.test.new.work.table) s v.counter j c.args.call
+    (subst (λ j. CanTurn (with_table mid table) s v.counter j c.args.call
     (length c.items_of_opening-items.result.now)) (sym number)
-    (subst (λ (xs : List Item). CanTurn (with_table mid c.test.new.work.table) s v.counter
-    (context_of c.args.line.now) c.args.call (length xs)) (sym c.items_of_opening-items.ensures) turn))
+    (subst (λ (xs : List Item). CanTurn (with_table mid table) s v.counter
+    (context_of line) c.args.call (length xs))
+    (items_same r.plan v.plan.now line c.requires.may.1.bytes ∙ sym c.items_of_opening-items.ensures) turn))
 
 pub commit-first-requires-clause-spans : goal.commit-first-requires-clause-spans
 commit-first-requires-clause-spans g c κs within =
     let v = c.args.self.now in
-    let may = c.requires.may.may in
+    let r = c.requires.may.0 in
+    let may = c.requires.may.1.may.may in
     subst (λ (xs : List Item). All (ItemIsInPool (length v.plan.now.pool)) xs)
     (sym c.items_of_opening-items.ensures)
-    (opening_spans v.plan.now c.args.line.now may.shared.within
-    (fits v.plan.now v.contexts.now v.counter c.args.call c.args.line.now c.args.work.now may))
+    (spans_here r.plan v.plan.now c.args.line.now c.requires.may.1.bytes
+    (opening_spans r.plan c.args.line.now may.shared.within
+    (fits r.plan v.contexts.now v.counter c.args.call c.args.line.now (hears r c.args.work.now)
+    may)))
 
 pub commit-first-requires-clause-room : goal.commit-first-requires-clause-room
 commit-first-requires-clause-room g c κs within =
     let v = c.args.self.now in
-    let may = c.requires.may.may in
+    let may = c.requires.may.1.may.may in
+    let r = c.requires.may.0 in
     let w = c.args.work.now in
-    let steps = of_call (λ x. items_of x ≤ length w.steps.items) (lane_calls v.plan.now w.lane)
+    let steps = of_call (λ x. items_of x ≤ length w.steps.items) (lane_calls r.plan w.lane)
     c.args.call c.args.line.now may.is_at.steps may.at in
-    let count = opening_count v.plan.now c.args.line.now c.requires.opening
-    (fits v.plan.now v.contexts.now v.counter c.args.call c.args.line.now w may) in
-    let is = ap length c.items_of_opening-items.ensures in
+    let count = opening_count r.plan c.args.line.now c.requires.opening
+    (fits r.plan v.contexts.now v.counter c.args.call c.args.line.now (hears r w) may) in
+    let is = ap length (c.items_of_opening-items.ensures
+    ∙ sym (items_same r.plan v.plan.now c.args.line.now c.requires.may.1.bytes)) in
     let tested = ap (λ (x : LaneWork). length x.steps.items) c.test.ensures.same in
     let peeked = ap length c.guess-guess.ensures.steps in
     omega arith
@@ -93,22 +115,27 @@ commit-first-requires-clause-room g c κs within =
 pub finish-requires-clause-spans : goal.finish-requires-clause-spans
 finish-requires-clause-spans g c κs within =
     let v = c.args.self.now in
-    let may = c.requires.may.may in
+    let r = c.requires.may.0 in
+    let may = c.requires.may.1.may.may in
     subst (λ (xs : List Item). All (ItemIsInPool (length v.plan.now.pool)) xs)
     (sym c.items_of_opening-items.ensures)
-    (opening_spans v.plan.now c.args.line.now may.shared.within
-    (fits v.plan.now v.contexts.now v.counter c.args.call c.args.line.now c.args.work.now may))
+    (spans_here r.plan v.plan.now c.args.line.now c.requires.may.1.bytes
+    (opening_spans r.plan c.args.line.now may.shared.within
+    (fits r.plan v.contexts.now v.counter c.args.call c.args.line.now (hears r c.args.work.now)
+    may)))
 
 pub finish-requires-clause-few : goal.finish-requires-clause-few
 finish-requires-clause-few g c κs within =
     let v = c.args.self.now in
-    let may = c.requires.may.may in
+    let may = c.requires.may.1.may.may in
+    let r = c.requires.may.0 in
     let w = c.args.work.now in
-    let steps = of_call (λ x. items_of x ≤ length w.steps.items) (lane_calls v.plan.now w.lane)
+    let steps = of_call (λ x. items_of x ≤ length w.steps.items) (lane_calls r.plan w.lane)
     c.args.call c.args.line.now may.is_at.steps may.at in
-    let count = opening_count v.plan.now c.args.line.now c.requires.opening
-    (fits v.plan.now v.contexts.now v.counter c.args.call c.args.line.now w may) in
-    let is = ap length c.items_of_opening-items.ensures in
+    let count = opening_count r.plan c.args.line.now c.requires.opening
+    (fits r.plan v.contexts.now v.counter c.args.call c.args.line.now (hears r w) may) in
+    let is = ap length (c.items_of_opening-items.ensures
+    ∙ sym (items_same r.plan v.plan.now c.args.line.now c.requires.may.1.bytes)) in
     let tested = ap (λ (x : LaneWork). length x.steps.items) c.test.ensures.same in
     let peeked = ap length c.guess-guess.ensures.steps in
     let committed = c.commit-first.ensures.room in
@@ -117,14 +144,18 @@ finish-requires-clause-few g c κs within =
 pub finish-requires-clause-room : goal.finish-requires-clause-room
 finish-requires-clause-room g c κs within =
     let v = c.args.self.now in
-    let may = c.requires.may.may in
+    let may = c.requires.may.1.may.may in
     let w = c.args.work.now in
     let same : c.commit-first.new.work.progress ≡ w.progress = c.commit-first.ensures.same.progress
     ∙ ap (λ (x : LaneWork). x.progress) c.test.ensures.same ∙ c.guess-guess.ensures.same.progress in
-    let room = (finds_room v.plan.now v.contexts.now v.counter c.args.call c.args.line.now w may
-    c.requires.may.free).room in
-    let size = opening_room v.plan.now c.args.line.now c.requires.opening in
-    let items = ap (sum_by opened_room) c.items_of_opening-items.ensures in
+    let r = c.requires.may.0 in
+    let line = c.args.line.now in
+    let room : w.progress.taken + served_room r.plan.items line ≤ length w.progress.pool =
+    (finds_room r.plan v.contexts.now v.counter c.args.call line (hears r w) may
+    c.requires.may.1.may.free).room in
+    let size = opening_room r.plan line c.requires.opening in
+    let items = ap (sum_by opened_room) (c.items_of_opening-items.ensures
+    ∙ sym (items_same r.plan v.plan.now line c.requires.may.1.bytes)) in
     let taken = ap (λ (p : Progress). p.taken) same in
     let pool = ap (λ (p : Progress). length p.pool) same in
     omega arith
@@ -132,15 +163,18 @@ finish-requires-clause-room g c κs within =
 pub finish-requires-clause-left : goal.finish-requires-clause-left
 finish-requires-clause-left g c κs within =
     let v = c.args.self.now in
-    let may = c.requires.may.may in
+    let may = c.requires.may.1.may.may in
     let w = c.args.work.now in
     let same : c.commit-first.new.work.progress ≡ w.progress = c.commit-first.ensures.same.progress
     ∙ ap (λ (x : LaneWork). x.progress) c.test.ensures.same ∙ c.guess-guess.ensures.same.progress in
-    let left = (finds_room v.plan.now v.contexts.now v.counter c.args.call c.args.line.now w may
-    c.requires.may.free).left in
-    let count = opening_count v.plan.now c.args.line.now c.requires.opening
-    (fits v.plan.now v.contexts.now v.counter c.args.call c.args.line.now w may) in
-    let is = ap length c.items_of_opening-items.ensures in
+    let r = c.requires.may.0 in
+    let left : items_of c.args.line.now ≤ w.progress.left - r.blanks =
+    (finds_room r.plan v.contexts.now v.counter c.args.call c.args.line.now (hears r w) may
+    c.requires.may.1.may.free).left in
+    let count = opening_count r.plan c.args.line.now c.requires.opening
+    (fits r.plan v.contexts.now v.counter c.args.call c.args.line.now (hears r w) may) in
+    let is = ap length (c.items_of_opening-items.ensures
+    ∙ sym (items_same r.plan v.plan.now c.args.line.now c.requires.may.1.bytes)) in
     let now = ap (λ (p : Progress). p.left) same in
     omega arith
 

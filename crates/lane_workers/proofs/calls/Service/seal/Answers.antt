@@ -1,12 +1,18 @@
-use Rattle.std.proofs.Common.{◌≡◌, ◌+◌, List, [], ◌∷◌, ℕ, length, refl, sym, ap, ◌∙◌, subst, arith}
+use Rattle.std.proofs.Common.{◌≡◌, ◌≤◌, ◌+◌, ◌-◌, List, [], ◌∷◌, ℕ, length, refl, sym, ap, ◌∙◌, subst, arith}
 use Rattle.call_places.specs.Spans.{IsInPool, span_bytes}
 use Rattle.hpke_context.specs.Answers.{Seal, answer}
 use Rattle.hpke_context.specs.Contexts.{ContextView, cipher_of}
 use Rattle.batch_plans.specs.declared.plan.CallLine.TheVariants as calls
 use Rattle.context_books.specs.declared.book.Draw.{Draw}
+use Rattle.batch_plans.specs.Limits.{items_of}
+use Rattle.batch_plans.specs.Room.{served_room}
 use Rattle.batch_plans.specs.Progress.{Progress}
 use Rattle.due_replies.specs.Runs.{answer_line}
 use Rattle.lane_replies.specs.Writing.{due_at, PutsReplies}
+use Rattle.lane_workers.specs.Readings.{heard, hears, with_more}
+use Rattle.lane_workers.proofs.Heard.{turn_of, draws_heard, enough_left, puts_heard}
+use Rattle.lane_workers.proofs.Adding.{answers_words, adds_one}
+use Rattle.lane_workers.proofs.Later.{pass_of, draws_later}
 use Rattle.lane_workers.proofs.Answering.{fits, finds_room, sealed_on}
 use Rattle.lane_workers.proofs.Ready.{seal_turn, seal_context, stands_at}
 use Rattle.lane_replies.proofs.Within.{span_size}
@@ -32,37 +38,45 @@ puts_same old now p x y aad aad' text text' drawn same view aads texts puts =
 pub draw-drawn-requires-clause-turn : goal.draw-drawn-requires-clause-turn
 draw-drawn-requires-clause-turn g c κs within =
     let v = c.args.self.now in
-    seal_turn v.plan.now v.contexts.now v.counter c.args.call
-    (calls.Seal c.args.number c.args.item.now) c.args.shared.now c.args.work.now c.requires
-    c.args.number c.args.item.now refl
+    let r = c.requires.0 in
+    let w = c.args.work.now in
+    turn_of r w c.args.shared.now v.counter c.args.number c.args.call 1
+    (seal_turn r.plan v.contexts.now v.counter c.args.call
+    (calls.Seal c.args.number c.args.item.now) c.args.shared.now (hears r w) c.requires.1.may
+    c.args.number c.args.item.now refl)
 
 pub of-aad-requires : goal.of-aad-requires
 of-aad-requires g c =
     let v = c.args.self.now in
-    let fit = fits v.plan.now v.contexts.now v.counter c.args.call
-    (calls.Seal c.args.number c.args.item.now) c.args.work.now c.requires.may in
-    subst (λ i. IsInPool i c.args.item.now.aad) (sym (ap length c.as_slice-pool.ensures.items))
-    fit.1.aad.in_pool
+    let fit = fits c.requires.0.plan v.contexts.now v.counter c.args.call
+    (calls.Seal c.args.number c.args.item.now) (hears c.requires.0 c.args.work.now)
+    c.requires.1.may.may in
+    subst (λ i. IsInPool i c.args.item.now.aad)
+    (ap length (c.requires.1.bytes.pool ∙ sym c.as_slice-pool.ensures.items)) fit.1.aad.in_pool
 
 pub of-text-requires : goal.of-text-requires
 of-text-requires g c =
     let v = c.args.self.now in
-    let fit = fits v.plan.now v.contexts.now v.counter c.args.call
-    (calls.Seal c.args.number c.args.item.now) c.args.work.now c.requires.may in
-    subst (λ i. IsInPool i c.args.item.now.text) (sym (ap length c.as_slice-pool.ensures.items))
-    fit.1.text.in_pool
+    let fit = fits c.requires.0.plan v.contexts.now v.counter c.args.call
+    (calls.Seal c.args.number c.args.item.now) (hears c.requires.0 c.args.work.now)
+    c.requires.1.may.may in
+    subst (λ i. IsInPool i c.args.item.now.text)
+    (ap length (c.requires.1.bytes.pool ∙ sym c.as_slice-pool.ensures.items)) fit.1.text.in_pool
 
 pub finish_seal-requires-clause-room : goal.finish_seal-requires-clause-room
 finish_seal-requires-clause-room g c =
     let v = c.args.self.now in
+    let r = c.requires.0 in
     let call = calls.Seal c.args.number c.args.item.now in
     let w = c.args.work.now in
-    let fit = fits v.plan.now v.contexts.now v.counter c.args.call call w c.requires.may in
-    let room = (finds_room v.plan.now v.contexts.now v.counter c.args.call call w c.requires.may
-    c.requires.free).room in
+    let fit = fits r.plan v.contexts.now v.counter c.args.call call (hears r w) c.requires.1.may.may in
+    let room : w.progress.taken + served_room r.plan.items call ≤ length w.progress.pool =
+    (finds_room r.plan v.contexts.now v.counter c.args.call call (hears r w) c.requires.1.may.may
+    c.requires.1.may.free).room in
     let text = ap length (c.of-text.ensures
-    ∙ ap (λ pool. span_bytes pool c.args.item.now.text) c.as_slice-pool.ensures.items) in
-    let size = span_size v.plan.now.pool c.args.item.now.text fit.1.text.in_pool in
+    ∙ ap (λ pool. span_bytes pool c.args.item.now.text)
+    (c.as_slice-pool.ensures.items ∙ sym c.requires.1.bytes.pool)) in
+    let size = span_size r.plan.pool c.args.item.now.text fit.1.text.in_pool in
     let taken = ap (λ (p : Progress). p.taken) c.draw-drawn.ensures.same.progress in
     let pool = ap (λ (p : Progress). length p.pool) c.draw-drawn.ensures.same.progress in
     omega arith
@@ -70,29 +84,54 @@ finish_seal-requires-clause-room g c =
 pub finish_seal-requires-clause-left : goal.finish_seal-requires-clause-left
 finish_seal-requires-clause-left g c =
     let v = c.args.self.now in
-    let left = (finds_room v.plan.now v.contexts.now v.counter c.args.call
-    (calls.Seal c.args.number c.args.item.now) c.args.work.now c.requires.may
-    c.requires.free).left in
+    let r = c.requires.0 in
+    let call = calls.Seal c.args.number c.args.item.now in
+    let w = c.args.work.now in
+    let left : items_of call ≤ w.progress.left - r.blanks =
+    (finds_room r.plan v.contexts.now v.counter c.args.call call (hears r w) c.requires.1.may.may
+    c.requires.1.may.free).left in
     let now = ap (λ (p : Progress). p.left) c.draw-drawn.ensures.same.progress in
     omega arith
 
 pub returns : goal.returns
-returns g c =
+returns g c = λ r t.
     let v = c.args.self.now in
     let w = c.args.work.now in
     let s = c.args.shared.now in
     let item = c.args.item.now in
     let call = calls.Seal c.args.number item in
     let drawn = c.draw-drawn.result in
+    let mid = c.draw-drawn.new.work in
     let p = c.finish_seal.new.progress in
-    let pool = c.as_slice-pool.ensures.items in
+    let m = t.may in
+    let pool = c.as_slice-pool.ensures.items ∙ sym t.bytes.pool in
     let aad = c.of-aad.ensures ∙ ap (λ bytes. span_bytes bytes item.aad) pool in
     let text = c.of-text.ensures ∙ ap (λ bytes. span_bytes bytes item.text) pool in
-    let puts = puts_same c.draw-drawn.new.work.progress w.progress p c.context.result.now s.context
-    c.of-aad.result.now (span_bytes v.plan.now.pool item.aad) c.of-text.result.now
-    (span_bytes v.plan.now.pool item.text) drawn c.draw-drawn.ensures.same.progress
+    let reply = answer_line (answer (cipher_of s.context) (due_at s.context.limit drawn)
+    (Seal (span_bytes r.plan.pool item.aad) (span_bytes r.plan.pool item.text))) in
+    let size = length (span_bytes r.plan.pool item.text) + 16 in
+    let puts = puts_same mid.progress w.progress p c.context.result.now s.context
+    c.of-aad.result.now (span_bytes r.plan.pool item.aad) c.of-text.result.now
+    (span_bytes r.plan.pool item.text) drawn c.draw-drawn.ensures.same.progress
     c.context.ensures.context aad text c.finish_seal.ensures in
-    sealed_on v.plan.now v.contexts.now v.counter c.args.call call w c.requires.may c.requires.free s
-    (stands_at v.plan.now v.contexts.now v.counter c.args.call call s w c.requires
-    (seal_context v.plan.now v.contexts.now v.counter c.args.call call s w c.requires c.args.number
-    item refl)) c.args.number item c.draw-drawn.new.work drawn p refl c.draw-drawn.ensures puts
+    let left : items_of call ≤ w.progress.left - r.blanks =
+    (finds_room r.plan v.contexts.now v.counter c.args.call call (hears r w) m.may m.free).left in
+    let enough = enough_left r w.progress p size (reply ∷ []) puts t.enough (omega (arith, left)) in
+    record {
+      adds = adds_one v.contexts.now call w.progress p size (reply ∷ []) puts m.free refl refl refl
+          (answers_words (answer (cipher_of s.context) (due_at s.context.limit drawn)
+          (Seal (span_bytes r.plan.pool item.aad) (span_bytes r.plan.pool item.text)) ∷ []));
+      enough = enough;
+      later = λ low known.
+          let late = draws_later v.counter low c.args.call w mid c.args.number drawn
+          c.draw-drawn.ensures (pass_of r.plan v.contexts.now v.counter c.args.call call s (hears r w) m
+          c.draw-drawn.ensures.pass c.draw-drawn.ensures.was) known in
+          record { seat = late.seat; later = late.later };
+      is_at = sealed_on r.plan v.contexts.now v.counter c.args.call call (hears r w) m.may m.free s
+          (stands_at r.plan v.contexts.now v.counter c.args.call call s (hears r w) m
+          (seal_context r.plan v.contexts.now v.counter c.args.call call s (hears r w) m
+          c.args.number item refl)) c.args.number item (hears r mid) drawn
+          (heard (with_more r puts.more) p) refl
+          (draws_heard r w mid c.args.number c.args.call drawn c.draw-drawn.ensures)
+          (puts_heard r w.progress p size (reply ∷ []) puts enough);
+    }

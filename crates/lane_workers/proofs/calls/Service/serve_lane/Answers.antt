@@ -1,9 +1,15 @@
-use Rattle.std.proofs.Common.{◌≡◌, ◌<◌, List, length, sym, ap, ◌∙◌, subst, arith, get_or}
+use Rattle.std.proofs.Common.{◌≡◌, ◌+◌, ◌<◌, ℕ, Option, Some, Bor, List, length, refl, sym, ap, ◌∙◌, subst, arith, get_or}
 use Rattle.std.specs.Prelude.{slice_get}
 use Rattle.std.proofs.lemmas.Option.{slice_get-get_or}
+use Rattle.batch_plans.specs.declared.plan.Plan.{Plan}
 use Rattle.batch_plans.specs.declared.plan.CallLine.{CallLine}
+use Rattle.shared_context.specs.Calls.{SharedView}
+use Rattle.stamp_counter.specs.Seats.{CounterView}
 use Rattle.lane_replies.specs.LaneCalls.{lane_calls}
-use Rattle.lane_workers.specs.Lanes.{LaneIsAt}
+use Rattle.lane_workers.specs.Lanes.{AreShared, LaneIsAt}
+use Rattle.lane_workers.specs.declared.works.LaneWork.{LaneWork}
+use Rattle.lane_workers.specs.Readings.{as_it_is, hears, with_more, MayAnswerAs}
+use Rattle.lane_workers.proofs.Heard.{is_as_it_is, is_as_it_was}
 use Rattle.lane_workers.proofs.Found.{lane_here}
 use Rattle.lane_replies.proofs.Within.{calls_few}
 use Rattle.lane_workers.proofs.calls.Service.serve_lane.Goals as goal
@@ -19,23 +25,60 @@ overflow_cast-call g c =
     let low = c.calls-test.true in
     omega arith
 
+-- the next call is the lane's
+next_call : (plan : Plan) (contexts : List (Option SharedView)) (counter : Option (Bor CounterView))
+    (lane call : ℕ) (w : LaneWork) (line : CallLine) → AreShared plan contexts counter
+    → lane < length plan.lanes → slice_get (lane_calls plan lane) call ≡ Some line
+    → LaneIsAt plan contexts counter lane call w
+    → MayAnswerAs (as_it_is plan w) plan contexts counter call line w
+next_call plan contexts counter lane call w line shared there at t =
+    let is : w.lane ≡ lane = t.lane_is in
+    record {
+      may = record {
+        shared = shared;
+        there = subst (λ i. i < length plan.lanes) (sym is) there;
+        at = ap (λ i. slice_get (lane_calls plan i) call) is ∙ at;
+        is_at = subst (LaneIsAt plan contexts counter w.lane call) (sym (is_as_it_is plan w))
+            (subst (λ i. LaneIsAt plan contexts counter i call w) (sym is) t);
+      };
+      bytes = record { pool = refl; items = refl };
+      enough = omega arith;
+    }
+
 pub answer-requires-after_bounds : goal.answer-requires-after_bounds
 answer-requires-after_bounds g c κs within =
     let v = c.args.self.now in
+    let plan = v.plan.now in
     let lane = c.args.work.now.lane in
-    let now = c.calls.work.lane in
+    let w = c.calls.work in
     let lines = c.as_slice-lines.result.now in
-    let found = lane_here v.plan.now.lanes lane c.index-as_slice-work.result
+    let found = lane_here plan.lanes lane c.index-as_slice-work.result
     c.requires.there (c.index-as_slice-work.is
     ∙ ap (λ ls. get_or ls lane c.index-as_slice-work.result) c.as_slice.ensures.items) in
-    let same : lines ≡ lane_calls v.plan.now lane = c.as_slice-lines.ensures.items ∙ found in
-    let is : now ≡ lane = c.calls.invariant.lane_is in
-    record {
-      shared = c.requires.shared;
-      there = subst (λ i. i < length v.plan.now.lanes) (sym is) c.requires.there;
-      at = ap (λ i. slice_get (lane_calls v.plan.now i) c.calls.call) is
-          ∙ ap (λ (ls : List CallLine). slice_get ls c.calls.call) (sym same)
-          ∙ slice_get-get_or lines c.calls.call _ c.calls-test.true;
-      is_at = subst (λ i. LaneIsAt v.plan.now v.contexts.now v.counter i c.calls.call c.calls.work)
-          (sym is) c.calls.invariant;
-    }
+    let same : lines ≡ lane_calls plan lane = c.as_slice-lines.ensures.items ∙ found in (
+      as_it_is plan w,
+      next_call plan v.contexts.now v.counter lane c.calls.call w _ c.requires.shared
+          c.requires.there (ap (λ (ls : List CallLine). slice_get ls c.calls.call) (sym same)
+          ∙ slice_get-get_or lines c.calls.call _ c.calls-test.true) c.calls.invariant,
+    )
+
+pub calls-preserved : goal.calls-preserved
+calls-preserved g c =
+    let v = c.args.self.now in
+    let plan = v.plan.now in
+    let lane = c.args.work.now.lane in
+    let w = c.calls.work in
+    let new = c.answer.new.work in
+    let lines = c.as_slice-lines.result.now in
+    let found = lane_here plan.lanes lane c.index-as_slice-work.result
+    c.requires.there (c.index-as_slice-work.is
+    ∙ ap (λ ls. get_or ls lane c.index-as_slice-work.result) c.as_slice.ensures.items) in
+    let same : lines ≡ lane_calls plan lane = c.as_slice-lines.ensures.items ∙ found in
+    let one = c.answer.ensures (as_it_is plan w)
+    (next_call plan v.contexts.now v.counter lane c.calls.call w _ c.requires.shared
+    c.requires.there (ap (λ (ls : List CallLine). slice_get ls c.calls.call) (sym same)
+    ∙ slice_get-get_or lines c.calls.call _ c.calls-test.true) c.calls.invariant) in
+    subst (LaneIsAt plan v.contexts.now v.counter lane (c.calls.call + 1))
+    (is_as_it_was plan w new one.adds.more one.adds.replies)
+    (subst (λ i. LaneIsAt plan v.contexts.now v.counter i (c.calls.call + 1)
+    (hears (with_more (as_it_is plan w) one.adds.more) new)) c.calls.invariant.lane_is one.is_at)

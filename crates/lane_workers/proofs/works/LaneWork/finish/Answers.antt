@@ -4,8 +4,8 @@ use Rattle.lane_workers.specs.Returned.{IsReturned}
 use Rattle.lane_workers.proofs.Ended.{ends}
 use Rattle.lane_workers.proofs.works.LaneWork.finish.Goals as goal
 
-pub returns : goal.returns
-returns c = λ plan contexts counter done.
+pub returns-clause-served : goal.returns-clause-served
+returns-clause-served c = λ plan contexts counter done.
     let w = c.args.self in
     let e = c.finish.ensures in
     subst (λ (ps : List (Option PassView)). IsReturned plan contexts counter w.lane ps w.seat

@@ -1,4 +1,4 @@
-use Rattle.std.proofs.Common.{◌≡◌, ◌≤◌, ◌∙◌, List, Option, All, ap, get_or, sym, subst, arith}
+use Rattle.std.proofs.Common.{◌≡◌, ◌≤◌, ◌∙◌, List, Option, All, refl, ap, get_or, sym, subst, arith}
 use Rattle.turn_lock.specs.Passes.{PassView}
 use Rattle.speculative_open.specs.Tables.{TableView}
 use Rattle.batch_plans.specs.Limits.{items_of}
@@ -6,12 +6,13 @@ use Rattle.batch_plans.specs.declared.plan.CallLine.{CallLine}
 use Rattle.lane_workers.specs.declared.works.LaneWork.{LaneWork}
 use Rattle.lane_replies.specs.LaneCalls.{lane_calls}
 use Rattle.lane_workers.specs.Returned.{IsGiven}
+use Rattle.lane_workers.specs.LiveReturned.{IsPrepared}
 use Rattle.lane_workers.proofs.Ended.{begins}
 use Rattle.lane_workers.proofs.Found.{lane_here}
 use Rattle.lane_workers.proofs.works.LaneWork.prepare.Goals as goal
 
-pub returns-clause-fresh : goal.returns-clause-fresh
-returns-clause-fresh g c = λ contexts counter t.
+pub returns : goal.returns
+returns g c =
     let plan = c.args.plan.now in
     let lane = c.args.lane in
     let w : LaneWork = record {
@@ -33,13 +34,24 @@ returns-clause-fresh g c = λ contexts counter t.
     ap (λ (x : TableView). x.room) c.in_ok-table.ensures in
     let size = c.in_ok-steps.ensures.len in
     let whole = c.in_ok-steps.steps.ok in
+    let prepared : IsPrepared plan lane c.args.passes c.args.seat c.args.answers w = record {
+      lane_is = refl;
+      passes_are = c.into_vec.ensures.items;
+      seat_is = refl;
+      progress = c.new-2.ensures;
+      rows = subst (λ i. All (λ call. items_of call ≤ i) (lane_calls plan lane)) (sym room) most;
+      steps = subst (λ i. All (λ call. items_of call ≤ i) (lane_calls plan lane))
+          (omega (arith, size, whole)) most;
+      checks = c.new.ensures;
+    } in
     record {
-      there = c.requires.there;
-      is_at = begins plan contexts counter w c.args.answers
-          (subst (λ (ps : List (Option PassView)). IsGiven plan contexts counter lane ps c.args.seat
-          c.args.answers) (sym c.into_vec.ensures.items) t) c.new-2.ensures
-          (subst (λ i. All (λ call. items_of call ≤ i) (lane_calls plan lane)) (sym room) most)
-          (subst (λ i. All (λ call. items_of call ≤ i) (lane_calls plan lane))
-          (omega (arith, size, whole)) most)
-          c.new.ensures;
+      lane = refl;
+      fresh = λ contexts counter t. record {
+        there = c.requires.there;
+        is_at = begins plan contexts counter w c.args.answers
+            (subst (λ (ps : List (Option PassView)). IsGiven plan contexts counter lane ps c.args.seat
+            c.args.answers) (sym prepared.passes_are) t) prepared.progress prepared.rows prepared.steps
+            prepared.checks;
+      };
+      prepared = prepared;
     }

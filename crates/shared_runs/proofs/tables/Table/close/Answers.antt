@@ -16,7 +16,8 @@ pub contexts-init : goal.contexts-init
 contexts-init c =
     let items = c.as_mut_slice-contexts.ensures.items in
     record {
-      so_far = none_closed c.args.self c.requires.table c.args.books.now.items c.requires.none;
+      so_far = none_closed c.args.self c.requires.table c.requires.stamps c.args.books.now.items
+          c.requires.none;
       contexts_later = λ k low. ap (λ xs. shared_at xs k) items;
       passes_later = λ k low. refl;
       contexts_count = ap length items;
@@ -100,7 +101,7 @@ returns-clause-count c =
     omega (arith, size, c.contexts-test.false, i.so_far.count, i.so_far.rest)
 
 pub returns-clause-closed : goal.returns-clause-closed
-returns-clause-closed c = λ answers collected count.
+returns-clause-closed c = λ passes back count.
     let t = c.args.self in
     let i = c.contexts.invariant in
     let size = ap length c.as_mut_slice-contexts.ensures.items in
@@ -108,4 +109,4 @@ returns-clause-closed c = λ answers collected count.
     omega (arith, size, c.contexts-test.false, i.so_far.rest) in
     all_closed t c.requires.table c.contexts.books.items c.contexts.seat
     (subst (λ n. ClosedSoFar t n c.contexts.books.items c.contexts.seat) end i.so_far)
-    answers collected count c.close-2.result c.close-2.ensures.stamps
+    passes back count c.close-2.result c.close-2.ensures.stamps

@@ -1,32 +1,44 @@
-use Rattle.std.proofs.Common.{◌≡◌, ℕ, ◌+◌, ◌-◌, ◌<◌, ◌≤◌, List, [], ◌∷◌, Option, length, map, sym, refl, ap, ◌∙◌, subst, arith, get_or}
+use Rattle.std.proofs.Common.{◌≡◌, ℕ, ◌+◌, ◌-◌, ◌<◌, ◌≤◌, List, [], Option, length, map, sym, refl, ap, ◌∙◌, subst, arith, get_or}
 use Rattle.std.specs.Prelude.{sum}
 use Rattle.std.proofs.lemmas.List.{length-map, get_or_default}
-use Rattle.std.proofs.lemmas.List.Sums.{sum_by-cons}
-use Rattle.stamp_counter.specs.Seats.{SeatView, fresh_seat, fresh_seats}
+use Rattle.stamp_counter.specs.Seats.{SeatView, fresh_seats}
 use Rattle.shared_context.specs.Calls.{SharedView}
 use Rattle.hpke_context.specs.Contexts.{ContextView}
-use Rattle.lane_quotas.proofs.Counts.{quotas_few}
+use Rattle.batch_plans.specs.declared.plan.Plan.{Plan}
+use Rattle.lane_quotas.proofs.Counts.{quotas_few, lanes_few}
 use Rattle.due_replies.specs.Standing.{AreOfLines}
 use Rattle.lane_workers.specs.Turns.{shared_at, views}
 use Rattle.shared_runs.specs.Sharing.{shares, quotas_on, all_quotas, IsSharedBy, SharesEach}
-use Rattle.shared_runs.specs.Tables.{IsTable, AreLeft}
-use Rattle.shared_runs.proofs.Seats.{first_seat}
+use Rattle.shared_runs.specs.Tables.{AreLeft}
+use Rattle.shared_runs.proofs.Seats.{first_seats, sum_shares}
 use Rattle.shared_runs.proofs.Begun.{quotas_at, quotas_count, lanes_count, all_few, views_are, is_shared, all_left}
 use Rattle.shared_runs.proofs.tables.Table.new.Goals as goal
 
+pub all_quotas-requires-clause-few : goal.all_quotas-requires-clause-few
+all_quotas-requires-clause-few c =
+    lanes_few (record c.args.plan.now { lanes = c.args.lanes.now }) c.requires.within
+
+pub all_quotas-requires-clause-count : goal.all_quotas-requires-clause-count
+all_quotas-requires-clause-count c =
+    omega (arith, c.requires.standing.count, c.requires.within.contexts)
+
 pub shares-requires : goal.shares-requires
 shares-requires c =
+    let plan : Plan = record c.args.plan.now { lanes = c.args.lanes.now } in
     subst (λ (all : List (List ℕ)). sum (map sum all) ≤ 65536)
-    (sym (◌∙◌ {A = List (List ℕ)} c.deref.ensures.value c.in_ok-all.ensures))
-    (all_few c.args.plan.now c.args.contexts.now c.requires.within)
+    (sym (◌∙◌ {A = List (List ℕ)} c.deref.ensures.value
+    (c.in_ok-all.ensures plan c.requires.standing refl)))
+    (all_few plan c.args.contexts.now c.requires.within)
 
 pub new-requires-clause-count : goal.new-requires-clause-count
 new-requires-clause-count c =
-    let plan = c.args.plan.now in
+    let plan : Plan = record c.args.plan.now { lanes = c.args.lanes.now } in
     let contexts = c.args.contexts.now in
     let all = all_quotas plan contexts in
-    let given : c.deref-2.result.now ≡ shares all = c.deref-2.ensures.value ∙ c.in_ok-shares.ensures
-    ∙ ap shares (◌∙◌ {A = List (List ℕ)} c.deref.ensures.value c.in_ok-all.ensures) in
+    let given : c.deref-2.result.now ≡ shares all c.args.others =
+    c.deref-2.ensures.value ∙ c.in_ok-shares.ensures
+    ∙ ap (λ (quotas : List (List ℕ)). shares quotas c.args.others) (◌∙◌ {A = List (List ℕ)}
+    c.deref.ensures.value (c.in_ok-all.ensures plan c.requires.standing refl)) in
     let size = ap length given in
     let sums = length-map all sum in
     let count = quotas_count plan contexts in
@@ -36,26 +48,31 @@ new-requires-clause-count c =
 
 pub new-requires-clause-sum : goal.new-requires-clause-sum
 new-requires-clause-sum c =
-    let plan = c.args.plan.now in
+    let plan : Plan = record c.args.plan.now { lanes = c.args.lanes.now } in
     let contexts = c.args.contexts.now in
-    let all = all_quotas plan contexts in
-    let given : c.deref-2.result.now ≡ shares all = c.deref-2.ensures.value ∙ c.in_ok-shares.ensures
-    ∙ ap shares (◌∙◌ {A = List (List ℕ)} c.deref.ensures.value c.in_ok-all.ensures) in
+    let given : c.deref-2.result.now ≡ shares (all_quotas plan contexts) c.args.others =
+    c.deref-2.ensures.value ∙ c.in_ok-shares.ensures
+    ∙ ap (λ (quotas : List (List ℕ)). shares quotas c.args.others) (◌∙◌ {A = List (List ℕ)}
+    c.deref.ensures.value (c.in_ok-all.ensures plan c.requires.standing refl)) in
     let few = all_few plan contexts c.requires.within in
-    omega (arith, ap sum given, sum_by-cons (λ n. n) 0 (map sum all), few)
+    let most = c.requires.others in
+    omega (arith, ap sum given, sum_shares (all_quotas plan contexts) c.args.others, few)
 
 pub share_all-requires-clause-count : goal.share_all-requires-clause-count
 share_all-requires-clause-count c =
-    ap length (◌∙◌ {A = List (List ℕ)} c.deref-3.ensures.value c.in_ok-all.ensures)
-    ∙ quotas_count c.args.plan.now c.args.contexts.now
+    let plan : Plan = record c.args.plan.now { lanes = c.args.lanes.now } in
+    ap length (◌∙◌ {A = List (List ℕ)} c.deref-3.ensures.value
+    (c.in_ok-all.ensures plan c.requires.standing refl))
+    ∙ quotas_count plan c.args.contexts.now
 
 pub share_all-requires-clause-lanes : goal.share_all-requires-clause-lanes
 share_all-requires-clause-lanes c =
-    let plan = c.args.plan.now in
+    let plan : Plan = record c.args.plan.now { lanes = c.args.lanes.now } in
     let contexts = c.args.contexts.now in
     subst (λ (all : List (List ℕ)). (k : ℕ) (d : List ℕ) → k < length all
     → (0 < length (get_or all k d)) × (length (get_or all k d) < 65536))
-    (sym (◌∙◌ {A = List (List ℕ)} c.deref-3.ensures.value c.in_ok-all.ensures))
+    (sym (◌∙◌ {A = List (List ℕ)} c.deref-3.ensures.value
+    (c.in_ok-all.ensures plan c.requires.standing refl)))
     (λ k d low.
     let count = quotas_count plan contexts in
     let here : get_or (all_quotas plan contexts) k d ≡ quotas_on plan contexts k =
@@ -69,11 +86,12 @@ share_all-requires-clause-lanes c =
 
 pub share_all-requires-clause-sums : goal.share_all-requires-clause-sums
 share_all-requires-clause-sums c =
-    let plan = c.args.plan.now in
+    let plan : Plan = record c.args.plan.now { lanes = c.args.lanes.now } in
     let contexts = c.args.contexts.now in
     subst (λ (all : List (List ℕ)). (k : ℕ) (d : List ℕ) → k < length all
     → sum (get_or all k d) ≤ 65536)
-    (sym (◌∙◌ {A = List (List ℕ)} c.deref-3.ensures.value c.in_ok-all.ensures))
+    (sym (◌∙◌ {A = List (List ℕ)} c.deref-3.ensures.value
+    (c.in_ok-all.ensures plan c.requires.standing refl)))
     (λ k d low.
     let count = quotas_count plan contexts in
     let here : get_or (all_quotas plan contexts) k d ≡ quotas_on plan contexts k =
@@ -81,39 +99,64 @@ share_all-requires-clause-sums c =
     ∙ quotas_at plan contexts k (omega arith) in
     omega (arith, ap sum here, quotas_few plan contexts k c.requires.within))
 
+pub share_all-requires-clause-seats : goal.share_all-requires-clause-seats
+share_all-requires-clause-seats c =
+    let plan : Plan = record c.args.plan.now { lanes = c.args.lanes.now } in
+    let contexts = c.args.contexts.now in
+    let all : c.in_ok-all.all.items ≡ all_quotas plan contexts =
+    c.in_ok-all.ensures plan c.requires.standing refl in
+    let quotas : c.deref-3.result.now ≡ all_quotas plan contexts =
+    ◌∙◌ {A = List (List ℕ)} c.deref-3.ensures.value all in
+    let given = c.deref-2.ensures.value ∙ c.in_ok-shares.ensures
+    ∙ ap (λ (xs : List (List ℕ)). shares xs c.args.others)
+    (◌∙◌ {A = List (List ℕ)} c.deref.ensures.value all) in
+    let id = c.in_ok-counter.counter.id in
+    let seats = first_seats id c.deref-2.result.now (all_quotas plan contexts) c.args.others
+    c.in_ok-counter.seats c.take.new.self c.take-2.new.self c.in-Some.seat c.in-Some-take.other
+    c.in_ok-counter.ensures.seats given c.in-Some.ensures.taken c.in-Some-take.ensures.taken in
+    (id, seats.2 ∙ ap (λ (xs : List (List ℕ)). fresh_seats id (map sum xs)) (sym quotas))
+
 pub returns-clause-contexts : goal.returns-clause-contexts
 returns-clause-contexts c =
-    let plan = c.args.plan.now in
+    let plan : Plan = record c.args.plan.now { lanes = c.args.lanes.now } in
     let contexts = c.args.contexts.now in
+    let all : c.in_ok-all.all.items ≡ all_quotas plan contexts =
+    c.in_ok-all.ensures plan c.requires.standing refl in
     let quotas : c.deref-3.result.now ≡ all_quotas plan contexts =
-    ◌∙◌ {A = List (List ℕ)} c.deref-3.ensures.value c.in_ok-all.ensures in
+    ◌∙◌ {A = List (List ℕ)} c.deref-3.ensures.value all in
     let given = c.deref-2.ensures.value ∙ c.in_ok-shares.ensures
-    ∙ ap shares (◌∙◌ {A = List (List ℕ)} c.deref.ensures.value c.in_ok-all.ensures) in
+    ∙ ap (λ (xs : List (List ℕ)). shares xs c.args.others)
+    (◌∙◌ {A = List (List ℕ)} c.deref.ensures.value all) in
     let id = c.in_ok-counter.counter.id in
-    let seats = (first_seat id c.deref-2.result.now (all_quotas plan contexts) c.in_ok-counter.seats
-    c.take.new.self c.in-Some.seat c.in_ok-counter.ensures.seats given c.in-Some.ensures.taken).1 in
+    let seats = first_seats id c.deref-2.result.now (all_quotas plan contexts) c.args.others
+    c.in_ok-counter.seats c.take.new.self c.take-2.new.self c.in-Some.seat c.in-Some-take.other
+    c.in_ok-counter.ensures.seats given c.in-Some.ensures.taken c.in-Some-take.ensures.taken in
     let each = c.in_ok-shared.ensures id
-    (seats ∙ ap (λ (all : List (List ℕ)). fresh_seats id (map sum all)) (sym quotas)) in
+    (seats.2 ∙ ap (λ (xs : List (List ℕ)). fresh_seats id (map sum xs)) (sym quotas)) in
     ap views c.from_vec.ensures.items
     ∙ views_are plan contexts id c.in_ok-shared.shared.items c.in_ok-shared.passes.items
-    (subst (λ (all : List (List ℕ)). SharesEach contexts all id c.in_ok-shared.shared.items
+    (subst (λ (xs : List (List ℕ)). SharesEach contexts xs id c.in_ok-shared.shared.items
     c.in_ok-shared.passes.items) quotas each)
 
 pub returns-clause-table : goal.returns-clause-table
 returns-clause-table c =
-    let plan = c.args.plan.now in
+    let plan : Plan = record c.args.plan.now { lanes = c.args.lanes.now } in
     let contexts = c.args.contexts.now in
+    let all : c.in_ok-all.all.items ≡ all_quotas plan contexts =
+    c.in_ok-all.ensures plan c.requires.standing refl in
     let quotas : c.deref-3.result.now ≡ all_quotas plan contexts =
-    ◌∙◌ {A = List (List ℕ)} c.deref-3.ensures.value c.in_ok-all.ensures in
+    ◌∙◌ {A = List (List ℕ)} c.deref-3.ensures.value all in
     let given = c.deref-2.ensures.value ∙ c.in_ok-shares.ensures
-    ∙ ap shares (◌∙◌ {A = List (List ℕ)} c.deref.ensures.value c.in_ok-all.ensures) in
+    ∙ ap (λ (xs : List (List ℕ)). shares xs c.args.others)
+    (◌∙◌ {A = List (List ℕ)} c.deref.ensures.value all) in
     let id = c.in_ok-counter.counter.id in
-    let seats = first_seat id c.deref-2.result.now (all_quotas plan contexts) c.in_ok-counter.seats
-    c.take.new.self c.in-Some.seat c.in_ok-counter.ensures.seats given c.in-Some.ensures.taken in
-    let each = subst (λ (all : List (List ℕ)). SharesEach contexts all id
+    let seats = first_seats id c.deref-2.result.now (all_quotas plan contexts) c.args.others
+    c.in_ok-counter.seats c.take.new.self c.take-2.new.self c.in-Some.seat c.in-Some-take.other
+    c.in_ok-counter.ensures.seats given c.in-Some.ensures.taken c.in-Some-take.ensures.taken in
+    let each = subst (λ (xs : List (List ℕ)). SharesEach contexts xs id
     c.in_ok-shared.shared.items c.in_ok-shared.passes.items) quotas
     (c.in_ok-shared.ensures id
-    (seats.1 ∙ ap (λ (all : List (List ℕ)). fresh_seats id (map sum all)) (sym quotas))) in
+    (seats.2 ∙ ap (λ (xs : List (List ℕ)). fresh_seats id (map sum xs)) (sym quotas))) in
     let items = c.from_vec.ensures.items in
     let same : views c.from_vec.result ≡ contexts = ap views items
     ∙ views_are plan contexts id c.in_ok-shared.shared.items c.in_ok-shared.passes.items each in
@@ -125,33 +168,85 @@ returns-clause-table c =
           (sym same)
           (is_shared plan contexts id c.in_ok-shared.shared.items c.in_ok-shared.passes.items each
           number s (ap (λ (xs : List (Option SharedView)). shared_at xs number) (sym items) ∙ is));
-      stamps = c.in_ok-counter.ensures.all ∙ ap sum given
-          ∙ (let first = sum_by-cons (λ n. n) 0 (map sum (all_quotas plan contexts)) in
-          let e : sum (shares (all_quotas plan contexts)) ≡ sum (map sum (all_quotas plan contexts)) =
-          omega arith in e)
-          ∙ ap (λ (xs : List (Option ContextView)). sum (map sum (all_quotas plan xs))) (sym same);
-      seat = record {
-        counter_is = ap (λ (s : SeatView). s.counter) seats.0;
-        drawn = ap (λ (s : SeatView). s.drawn) seats.0;
-        left = ap (λ (s : SeatView). s.left) seats.0;
-      };
+      seat = ap (λ (s : SeatView). s.counter) seats.0;
     }
 
 pub returns-clause-given : goal.returns-clause-given
 returns-clause-given c =
-    let plan = c.args.plan.now in
+    let plan : Plan = record c.args.plan.now { lanes = c.args.lanes.now } in
     let contexts = c.args.contexts.now in
+    let all : c.in_ok-all.all.items ≡ all_quotas plan contexts =
+    c.in_ok-all.ensures plan c.requires.standing refl in
     let quotas : c.deref-3.result.now ≡ all_quotas plan contexts =
-    ◌∙◌ {A = List (List ℕ)} c.deref-3.ensures.value c.in_ok-all.ensures in
+    ◌∙◌ {A = List (List ℕ)} c.deref-3.ensures.value all in
     let given = c.deref-2.ensures.value ∙ c.in_ok-shares.ensures
-    ∙ ap shares (◌∙◌ {A = List (List ℕ)} c.deref.ensures.value c.in_ok-all.ensures) in
+    ∙ ap (λ (xs : List (List ℕ)). shares xs c.args.others)
+    (◌∙◌ {A = List (List ℕ)} c.deref.ensures.value all) in
     let id = c.in_ok-counter.counter.id in
-    let seats = (first_seat id c.deref-2.result.now (all_quotas plan contexts) c.in_ok-counter.seats
-    c.take.new.self c.in-Some.seat c.in_ok-counter.ensures.seats given c.in-Some.ensures.taken).1 in
-    let each = subst (λ (all : List (List ℕ)). SharesEach contexts all id
+    let seats = first_seats id c.deref-2.result.now (all_quotas plan contexts) c.args.others
+    c.in_ok-counter.seats c.take.new.self c.take-2.new.self c.in-Some.seat c.in-Some-take.other
+    c.in_ok-counter.ensures.seats given c.in-Some.ensures.taken c.in-Some-take.ensures.taken in
+    let each = subst (λ (xs : List (List ℕ)). SharesEach contexts xs id
     c.in_ok-shared.shared.items c.in_ok-shared.passes.items) quotas
     (c.in_ok-shared.ensures id
-    (seats ∙ ap (λ (all : List (List ℕ)). fresh_seats id (map sum all)) (sym quotas))) in
+    (seats.2 ∙ ap (λ (xs : List (List ℕ)). fresh_seats id (map sum xs)) (sym quotas))) in
     subst (λ (xs : List (Option SharedView)). AreLeft xs 0 (length plan.lanes - 0)
     (length plan.lanes) c.in_ok-shared.passes.items) (sym c.from_vec.ensures.items)
     (all_left plan contexts id c.in_ok-shared.shared.items c.in_ok-shared.passes.items each)
+
+pub returns-clause-note : goal.returns-clause-note
+returns-clause-note c =
+    let plan : Plan = record c.args.plan.now { lanes = c.args.lanes.now } in
+    let contexts = c.args.contexts.now in
+    let given = c.deref-2.ensures.value ∙ c.in_ok-shares.ensures
+    ∙ ap (λ (xs : List (List ℕ)). shares xs c.args.others)
+    (◌∙◌ {A = List (List ℕ)} c.deref.ensures.value
+    (c.in_ok-all.ensures plan c.requires.standing refl)) in
+    let seats = first_seats c.in_ok-counter.counter.id c.deref-2.result.now
+    (all_quotas plan contexts) c.args.others
+    c.in_ok-counter.seats c.take.new.self c.take-2.new.self c.in-Some.seat c.in-Some-take.other
+    c.in_ok-counter.ensures.seats given c.in-Some.ensures.taken c.in-Some-take.ensures.taken in
+    record {
+      counter_is = ap (λ (s : SeatView). s.counter) seats.0;
+      drawn = ap (λ (s : SeatView). s.drawn) seats.0;
+      left = ap (λ (s : SeatView). s.left) seats.0;
+    }
+
+pub returns-clause-seat : goal.returns-clause-seat
+returns-clause-seat c =
+    let plan : Plan = record c.args.plan.now { lanes = c.args.lanes.now } in
+    let contexts = c.args.contexts.now in
+    let given = c.deref-2.ensures.value ∙ c.in_ok-shares.ensures
+    ∙ ap (λ (xs : List (List ℕ)). shares xs c.args.others)
+    (◌∙◌ {A = List (List ℕ)} c.deref.ensures.value
+    (c.in_ok-all.ensures plan c.requires.standing refl)) in
+    (first_seats c.in_ok-counter.counter.id c.deref-2.result.now
+    (all_quotas plan contexts) c.args.others
+    c.in_ok-counter.seats c.take.new.self c.take-2.new.self c.in-Some.seat c.in-Some-take.other
+    c.in_ok-counter.ensures.seats given c.in-Some.ensures.taken c.in-Some-take.ensures.taken).1
+
+pub returns-clause-stamps : goal.returns-clause-stamps
+returns-clause-stamps c =
+    let plan : Plan = record c.args.plan.now { lanes = c.args.lanes.now } in
+    let contexts = c.args.contexts.now in
+    let all : c.in_ok-all.all.items ≡ all_quotas plan contexts =
+    c.in_ok-all.ensures plan c.requires.standing refl in
+    let quotas : c.deref-3.result.now ≡ all_quotas plan contexts =
+    ◌∙◌ {A = List (List ℕ)} c.deref-3.ensures.value all in
+    let given = c.deref-2.ensures.value ∙ c.in_ok-shares.ensures
+    ∙ ap (λ (xs : List (List ℕ)). shares xs c.args.others)
+    (◌∙◌ {A = List (List ℕ)} c.deref.ensures.value all) in
+    let id = c.in_ok-counter.counter.id in
+    let seats = first_seats id c.deref-2.result.now (all_quotas plan contexts) c.args.others
+    c.in_ok-counter.seats c.take.new.self c.take-2.new.self c.in-Some.seat c.in-Some-take.other
+    c.in_ok-counter.ensures.seats given c.in-Some.ensures.taken c.in-Some-take.ensures.taken in
+    let each = subst (λ (xs : List (List ℕ)). SharesEach contexts xs id
+    c.in_ok-shared.shared.items c.in_ok-shared.passes.items) quotas
+    (c.in_ok-shared.ensures id
+    (seats.2 ∙ ap (λ (xs : List (List ℕ)). fresh_seats id (map sum xs)) (sym quotas))) in
+    let same : views c.from_vec.result ≡ contexts = ap views c.from_vec.ensures.items
+    ∙ views_are plan contexts id c.in_ok-shared.shared.items c.in_ok-shared.passes.items each in
+    c.in_ok-counter.ensures.all ∙ ap sum given
+    ∙ sum_shares (all_quotas plan contexts) c.args.others
+    ∙ ap (λ (xs : List (Option ContextView)). sum (map sum (all_quotas plan xs)) + c.args.others)
+    (sym same)

@@ -1,12 +1,9 @@
-use Rattle.std.proofs.Common.{◌≡◌, ◌+◌, ◌-◌, ◌<◌, ◌++◌, ◌∷◌, [], ℕ, List, length, inl, inr, sym, ap, ◌∙◌, subst, arith, append_assoc, length-append}
-use Rattle.batch_plans.specs.declared.plan.Plan.{Plan}
-use Rattle.batch_plans.specs.declared.plan.CallLine.{CallLine}
-use Rattle.batch_plans.specs.declared.replies.LaneAnswers.{LaneAnswers}
+use Rattle.std.proofs.Common.{◌≡◌, ◌+◌, ◌++◌, ◌∷◌, [], length, inl, inr, sym, ap, ◌∙◌, subst, arith, append_assoc, length-append}
 use Rattle.batch_plans.specs.Room.{lane_room}
 use Rattle.due_replies.specs.Standing.{export_limits}
 use Rattle.lane_workers.specs.Turns.{views}
 use Rattle.shared_runs.specs.declared.tables.Table.{Table}
-use Rattle.shared_runs.specs.Tables.{HasGiven, IsReady, AreLeft}
+use Rattle.shared_runs.specs.Tables.{HasGiven, IsReady}
 use Rattle.shared_runs.proofs.Ends.{pushed_at, below_count, made_of}
 use Rattle.shared_runs.proofs.Handed.{ready_same}
 use Rattle.shared_runs.proofs.tables.Table.prepare_all.Goals as goal

@@ -1,11 +1,13 @@
-use Rattle.std.proofs.Common.{◌≡◌, ◌+◌, ◌<◌, ◌++◌, ◌∷◌, [], ℕ, List, Some, length, sym, refl, ap, ◌∙◌, subst, arith, append_assoc, length-append, append-nil, rules}
+use Rattle.std.proofs.Common.{◌≡◌, ◌+◌, ◌++◌, ◌∷◌, [], List, length, sym, refl, ap, ◌∙◌, subst, arith, append_assoc, length-append, rules}
 use Rattle.std.specs.Prelude.{slice_get}
 use Rattle.lane_workers.specs.declared.works.LaneWork.{LaneWork}
 use Rattle.lane_workers.specs.Groups.{IsDone}
-use Rattle.batch_plans.specs.declared.replies.LaneAnswers.{LaneAnswers}
+use Rattle.batch_plans.specs.declared.plan.CallLine.{CallLine}
 use Rattle.shared_runs.specs.declared.tables.Table.{Table}
-use Rattle.shared_runs.specs.Collected.{Collected, GivesBack}
-use Rattle.shared_runs.proofs.Returning.{none_back, may_give, one_back, got_here}
+use Rattle.shared_runs.specs.Tables.{HasGiven}
+use Rattle.shared_runs.specs.Collected.{Collected}
+use Rattle.shared_runs.proofs.Ending.{still_own}
+use Rattle.shared_runs.proofs.Returning.{none_collected, got_here}
 use Rattle.shared_runs.proofs.tables.Table.take_all_back.Goals as goal
 
 pub lanes-init : goal.lanes-init
@@ -15,8 +17,28 @@ lanes-init c = record {
   room = c.requires.room;
   same = refl;
   back = subst (Collected c.args.self.now) (sym c.requires.none)
-      (none_back c.args.self.now c.requires.given);
+      (none_collected c.args.self.now
+      (subst (λ (ls : List (List CallLine)). HasGiven (length ls) c.args.self.now) (sym c.requires.own)
+      c.requires.given));
 }
+
+pub take_back-requires-clause-own : goal.take_back-requires-clause-own
+take_back-requires-clause-own c =
+    still_own c.args.self.now c.lanes.self c.lanes.invariant.same c.requires.own
+
+pub take_back-requires-clause-lane : goal.take_back-requires-clause-lane
+take_back-requires-clause-lane c =
+    let i = c.lanes.invariant in
+    let done = c.requires.done in
+    let front = i.front ∙ ap (λ ws. c.lanes.yielded ++ ws) c.in-Some.ensures.steps.0 in
+    let number = (done.each (length c.lanes.yielded) c.in-Some.work
+    (ap (λ (ws : List LaneWork). slice_get ws (length c.lanes.yielded)) front
+    ∙ got_here c.lanes.yielded c.next.new.self.rest.items c.in-Some.work)).0 in
+    let a = ap length front in
+    let b = length-append c.lanes.yielded (c.in-Some.work ∷ c.next.new.self.rest.items) in
+    let d = done.count in
+    let e = ap (λ (t : Table). length t.plan.now.lanes) i.same in
+    omega arith
 
 pub take_back-requires-clause-done : goal.take_back-requires-clause-done
 take_back-requires-clause-done c =
@@ -30,17 +52,14 @@ take_back-requires-clause-done c =
       subst (λ (t : Table). IsDone t.plan.now t.contexts done.counter c.in-Some.work) (sym i.same) at.1,
     )
 
-pub take_back-requires-clause-room : goal.take_back-requires-clause-room
-take_back-requires-clause-room c =
+pub take_back-requires-clause-back : goal.take_back-requires-clause-back
+take_back-requires-clause-back c =
     let i = c.lanes.invariant in
     let front = i.front ∙ ap (λ ws. c.lanes.yielded ++ ws) c.in-Some.ensures.steps.0 in
-    let size : length c.lanes.answers.items < length c.lanes.self.plan.now.lanes =
-    (let a = ap length front in
-    let b = length-append c.lanes.yielded (c.in-Some.work ∷ c.next.new.self.rest.items) in
-    let d = c.requires.done.count in
-    let e = ap (λ (t : Table). length t.plan.now.lanes) i.same in
-    let f = i.count in omega arith) in
-    may_give c.lanes.self c.lanes.answers.items i.back size
+    let number = (c.requires.done.each (length c.lanes.yielded) c.in-Some.work
+    (ap (λ (ws : List LaneWork). slice_get ws (length c.lanes.yielded)) front
+    ∙ got_here c.lanes.yielded c.next.new.self.rest.items c.in-Some.work)).0 in
+    (c.lanes.answers.items, i.back, i.count ∙ sym number)
 
 pub lanes-preserved : goal.lanes-preserved
 lanes-preserved c =
@@ -51,7 +70,6 @@ lanes-preserved c =
     let number = (done.each (length c.lanes.yielded) c.in-Some.work
     (ap (λ (ws : List LaneWork). slice_get ws (length c.lanes.yielded)) front
     ∙ got_here c.lanes.yielded c.next.new.self.rest.items c.in-Some.work)).0 in
-    let back = c.take_back.ensures.back in
     record {
       front = front
           ∙ sym (append_assoc c.lanes.yielded (c.in-Some.work ∷ []) c.next.new.self.rest.items);
@@ -62,10 +80,7 @@ lanes-preserved c =
       same = c.take_back.ensures.same
           ∙ ap (λ (t : Table). record t { passes = c.take_back.new.self.passes }) i.same;
       back = subst (Collected c.take_back.new.self) (sym pushed.items)
-          (one_back c.lanes.self c.take_back.new.self c.take_back.ensures.same c.lanes.answers.items
-          i.back back.0 c.take_back.result
-          (subst (λ k. GivesBack c.lanes.self c.take_back.new.self k back.0 c.take_back.result)
-          (number ∙ sym i.count) back.1));
+          (c.take_back.ensures.back c.lanes.answers.items i.back (i.count ∙ sym number));
     }
 
 pub returns-clause-back : goal.returns-clause-back

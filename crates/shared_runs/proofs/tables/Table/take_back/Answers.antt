@@ -1,41 +1,46 @@
-use Rattle.std.proofs.Common.{◌≡◌, ◌<◌, ℕ, List, Option, Some, length, sym, ap, ◌∙◌, subst, arith}
-use Rattle.turn_lock.specs.Passes.{PassView, PassListView}
-use Rattle.lane_workers.specs.Handing.{list_at, PutsEach}
-use Rattle.shared_runs.proofs.Handed.{written_back}
+use Rattle.std.proofs.Common.{◌≡◌, length, sym, ap, ◌∙◌, subst, arith}
+use Rattle.lane_workers.proofs.Ended.{all_answers}
+use Rattle.lane_workers.specs.Served.{LaneIsServed}
+use Rattle.lane_workers.specs.Turns.{views}
+use Rattle.shared_runs.proofs.Returning.{passes_of_lane, one_collected}
 use Rattle.shared_runs.proofs.tables.Table.take_back.Goals as goal
 
-pub put_passes-requires : goal.put_passes-requires
-put_passes-requires c =
+pub finish-passes-requires : goal.finish-passes-requires
+finish-passes-requires c =
     let table = c.args.self.now in
     let done = c.requires.done in
-    let r = c.finish-passes.ensures table.plan.now table.contexts done.0 done.1 in
-    let value = c.deref_mut.ensures.value in
+    all_answers table.plan.now table.contexts done.0 c.args.work.lane c.args.work done.1
+
+pub put_back-requires : goal.put_back-requires
+put_back-requires c =
+    let table = c.args.self.now in
+    let work = c.args.work in
+    let done = c.requires.done in
+    let r = c.finish-passes.ensures.served table.plan.now table.contexts done.0 done.1 in
+    let b = c.requires.back in
+    let number : work.lane ≡ length b.1.passes = sym (b.1.few ∙ b.2) in
     record {
-      count = r.count ∙ sym c.requires.room.count ∙ ap length (sym value);
-      each = λ number low. record {
-        room = λ list at.
-            let may = c.requires.room.room number list
-            (ap (λ (lists : List (Option PassListView)). list_at lists number) (sym value) ∙ at) in
-            let p = r.passes_are number may.0 may.1 in
-            (p.0, p.1, may.2);
-      };
+      back = (
+        b.1.passes,
+        b.1.back,
+        (let low = c.requires.lane in let own = ap length c.requires.own in omega arith),
+        passes_of_lane table done.0 work.lane (length b.1.passes) number c.finish-passes.result.0
+            c.finish-passes.result.1 c.finish-passes.result.2 r,
+      );
     }
 
 pub returns-clause-back : goal.returns-clause-back
-returns-clause-back c =
+returns-clause-back c = λ answers collected is.
     let table = c.args.self.now in
+    let work = c.args.work in
     let done = c.requires.done in
-    let r = c.finish-passes.ensures table.plan.now table.contexts done.0 done.1 in
-    let puts = subst (λ (lists : List (Option PassListView)). PutsEach lists c.put_passes.new.lists
-    c.finish-passes.result.0) c.deref_mut.ensures.value c.put_passes.ensures in
-    let back = written_back table.passes.len table.passes.items c.put_passes.new.lists
-    table.passes.ok.0 puts.lists_count in (
-      c.finish-passes.result.0,
-      record {
-        served = r.served;
-        absent = r.absent;
-        passes_are = r.passes_are;
-        puts = subst (λ (lists : List (Option PassListView)). PutsEach table.passes.items lists
-            c.finish-passes.result.0) (sym back) puts;
-      },
-    )
+    let passes = c.finish-passes.result.0 in
+    let answer = c.finish-passes.result.2 in
+    let r = c.finish-passes.ensures.served table.plan.now table.contexts done.0 done.1 in
+    let number : work.lane ≡ length collected.passes = sym (collected.few ∙ is) in
+    one_collected table c.put_back.new.self c.put_back.ensures.same answers collected passes answer
+    (subst (λ k. LaneIsServed table.plan.now (views table.contexts) k passes answer) (sym is) r.served)
+    (c.put_back.ensures.back collected.passes collected.back
+    (let low = c.requires.lane in let own = ap length c.requires.own in omega arith)
+    (passes_of_lane table done.0 work.lane (length collected.passes) number passes
+    c.finish-passes.result.1 answer r))

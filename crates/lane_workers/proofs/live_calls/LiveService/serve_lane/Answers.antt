@@ -1,0 +1,49 @@
+use Rattle.std.proofs.Common.{◌≡◌, ◌<◌, ℕ, Some, List, length, sym, ap, ◌∙◌, subst, arith, get_or}
+use Rattle.std.specs.Prelude.{slice_get}
+use Rattle.std.proofs.lemmas.Option.{slice_get-get_or}
+use Rattle.batch_plans.specs.declared.plan.CallLine.{CallLine}
+use Rattle.lane_replies.specs.LaneCalls.{lane_calls}
+use Rattle.lane_replies.proofs.Within.{calls_few}
+use Rattle.lane_workers.specs.declared.live_lane.LiveLane.{LiveLane}
+use Rattle.lane_workers.specs.LiveLanes.{LiveView, lives, AreSharedLive, LiveLaneIsAt, MayAnswerLive}
+use Rattle.lane_workers.proofs.Found.{lane_here}
+use Rattle.lane_workers.proofs.live_calls.LiveService.serve_lane.Goals as goal
+
+pub overflow_cast-call : goal.overflow_cast-call
+overflow_cast-call g c =
+    let plan = c.args.self.now.service.plan.now in
+    let lane = c.args.lane.now.work.lane in
+    let few = calls_few plan lane c.requires.shared.within c.requires.fresh.there in
+    let found = lane_here plan.lanes lane c.index-as_slice-lane.result c.requires.fresh.there
+    (c.index-as_slice-lane.is
+    ∙ ap (λ ls. get_or ls lane c.index-as_slice-lane.result) c.as_slice.ensures.items) in
+    let same = ap length (c.as_slice-lines.ensures.items ∙ found) in
+    let low = c.calls-test.true in
+    omega arith
+
+-- the next call is the lane's
+next_call : (v : LiveView) (lane call : ℕ) (line : CallLine) (l : LiveLane) → AreSharedLive v
+    → lane < length v.plan.lanes → slice_get (lane_calls v.plan lane) call ≡ Some line
+    → LiveLaneIsAt v lane call call l → MayAnswerLive v call line l
+next_call v lane call line l shared there at t =
+    let is : l.work.lane ≡ lane = t.lane_is in
+    record {
+      shared = shared;
+      there = omega arith;
+      at = ap (λ i. slice_get (lane_calls v.plan i) call) is ∙ at;
+      is_at = subst (λ i. LiveLaneIsAt v i call call l) (sym is) t;
+    }
+
+pub answer-requires-clause-may : goal.answer-requires-clause-may
+answer-requires-clause-may g c κs within =
+    let s = c.args.self.now in
+    let v = lives s.service.plan.now s.service.contexts.now s.table.now s.service.counter in
+    let lane = c.args.lane.now.work.lane in
+    let lines = c.as_slice-lines.result.now in
+    let found = lane_here v.plan.lanes lane c.index-as_slice-lane.result c.requires.fresh.there
+    (c.index-as_slice-lane.is
+    ∙ ap (λ ls. get_or ls lane c.index-as_slice-lane.result) c.as_slice.ensures.items) in
+    let same : lines ≡ lane_calls v.plan lane = c.as_slice-lines.ensures.items ∙ found in
+    next_call v lane c.calls.call _ c.calls.lane c.requires.shared c.requires.fresh.there
+    (ap (λ (ls : List CallLine). slice_get ls c.calls.call) (sym same)
+    ∙ slice_get-get_or lines c.calls.call _ c.calls-test.true) c.calls.invariant

@@ -1,0 +1,169 @@
+//! The calls of a lane that adds and retires contexts.
+
+ghost use Rattle.std.specs.Prelude.{◌≡◌, ◌+◌, ◌<◌, Some, None, length, slice_get};
+ghost use Rattle.batch_plans.specs.Limits.{IsWithinLimits};
+ghost use Rattle.batch_plans.specs.Names.{line_count};
+ghost use Rattle.due_replies.specs.Live.{Noting, noting};
+ghost use Rattle.lane_replies.specs.LaneCalls.{lane_calls};
+ghost use Rattle.lane_workers.specs.LiveLanes.{lives, standing, add_refusal, finds, IsOnContext, AreSharedLive, MayAnswerLive, IsNotedLive, IsToldLive, IsOneOnLive};
+ghost use Rattle.lane_workers.specs.LiveReturned.{IsFreshLive, IsServedLive};
+
+use crate::calls::Service;
+use crate::live_lane::LiveLane;
+use batch_io::{Gate, Point};
+use batch_plans::{CallLine, CallRefusal, FIRST_NAME, Plan, Reply, context_of};
+use call_places::Act;
+use key_schedule::{PskFault, verify_psk_inputs};
+use lane_replies::refuse;
+use live_table::LiveTable;
+use std::sync::Wait;
+use std::thread::Threads;
+
+/// What all lanes share while they are served, with the table of names.
+#[derive(Drop)]
+pub(crate) struct LiveService<'a, R, G> {
+    pub(crate) service: Service<'a, R, G>,
+    pub(crate) table: &'a LiveTable,
+}
+
+// Why the `add` line of this name is refused (RFC 9180, 5.1, VerifyPSKInputs).
+fn psk_refusal(plan: &Plan, name: u32) -> Option<CallRefusal>
+    requires within { IsWithinLimits plan.now }
+    requires name { name < plan.now.added }
+    ensures { result ≡ add_refusal plan.now name }
+{
+    let contexts = plan.contexts.as_slice();
+    let line = &contexts[contexts.len() - plan.added as usize + name as usize];
+    let pool = plan.pool.as_slice();
+    match verify_psk_inputs(line.mode, line.psk.of(pool), line.psk_id.of(pool)) {
+        Ok(()) => None,
+        Err(PskFault::Inconsistent) => Some(CallRefusal::PskPair),
+        Err(PskFault::Unneeded) => Some(CallRefusal::PskExtra),
+        Err(PskFault::Missing) => Some(CallRefusal::PskMissing),
+    }
+}
+
+impl<R: Threads + Wait + Sync, G: Gate> LiveService<'_, R, G> {
+    // Notes what a call does to a name, and tells whether the name was live.
+    fn note(&self, lane: &mut LiveLane, call: u32, name: u32, act: Act) -> bool
+        requires { (line : CallLine)
+            × MayAnswerLive (lives self.now.service.plan.now self.now.service.contexts.now
+            self.now.table.now self.now.service.counter) call line lane.old
+            × (noting self.now.service.plan.now (standing (lives self.now.service.plan.now
+            self.now.service.contexts.now self.now.table.now self.now.service.counter)) line
+            ≡ Some (record { act = act; name = name })) }
+        ensures { IsToldLive (lives self.now.service.plan.now self.now.service.contexts.now
+            self.now.table.now self.now.service.counter) call result lane.old lane.new }
+    {
+        let (Some(counter), Some(pass), Some(seat)) = (
+            self.service.counter,
+            lane.pass.take(),
+            lane.work.seat.take(),
+        ) else {
+            unreachable!()
+        };
+        let (live, pass, seat) = self
+            .table
+            .note(self.service.rt, pass, counter, seat, call, name, act);
+        lane.pass = Some(pass);
+        lane.work.seat = Some(seat);
+        live
+    }
+
+    // Adds a context, unless its psk inputs are at fault.
+    fn add(&self, lane: &mut LiveLane, call: u32, name: u32)
+        requires may { MayAnswerLive (lives self.now.service.plan.now self.now.service.contexts.now
+            self.now.table.now self.now.service.counter) call (CallLine.Add name) lane.old }
+        ensures { IsOneOnLive (lives self.now.service.plan.now self.now.service.contexts.now
+            self.now.table.now self.now.service.counter) call lane.old lane.new }
+    {
+        if let Some(refusal) = psk_refusal(self.service.plan, name) {
+            refuse(&mut lane.work.progress, refusal);
+            return;
+        }
+        let _ = self.note(lane, call, name, Act::Add);
+        lane.work.progress.put(Reply::Added);
+    }
+
+    // Retires a name, where it is live.
+    fn retire(&self, lane: &mut LiveLane, call: u32, name: u32)
+        requires may { MayAnswerLive (lives self.now.service.plan.now self.now.service.contexts.now
+            self.now.table.now self.now.service.counter) call (CallLine.Retire name) lane.old }
+        ensures { IsOneOnLive (lives self.now.service.plan.now self.now.service.contexts.now
+            self.now.table.now self.now.service.counter) call lane.old lane.new }
+    {
+        if name < self.service.plan.added && self.note(lane, call, name, Act::Retire) {
+            lane.work.progress.put(Reply::Retired);
+        } else {
+            refuse(&mut lane.work.progress, CallRefusal::NoContext);
+        }
+    }
+
+    // Whether a call finds its context: one of a context line always may, another one where its name
+    // is live.
+    fn finds(&self, lane: &mut LiveLane, call: u32, line: &CallLine) -> bool
+        requires may { MayAnswerLive (lives self.now.service.plan.now self.now.service.contexts.now
+            self.now.table.now self.now.service.counter) call line.now lane.old }
+        requires call { IsOnContext line.now }
+        ensures { (noted : IsNotedLive (lives self.now.service.plan.now
+            self.now.service.contexts.now self.now.table.now self.now.service.counter) call lane.old
+            lane.new) × (finds noted.is_at.pass.seen lane.old.work.lane call line.now ≡ result) }
+    {
+        let number = context_of(line);
+        if number < FIRST_NAME {
+            return true;
+        }
+        let name = number - FIRST_NAME;
+        name < self.service.plan.added && self.note(lane, call, name, Act::Look)
+    }
+
+    // A call on a context, which it may not find.
+    fn call(&self, lane: &mut LiveLane, call: u32, line: &CallLine)
+        requires may { MayAnswerLive (lives self.now.service.plan.now self.now.service.contexts.now
+            self.now.table.now self.now.service.counter) call line.now lane.old }
+        requires call { IsOnContext line.now }
+        ensures { IsOneOnLive (lives self.now.service.plan.now self.now.service.contexts.now
+            self.now.table.now self.now.service.counter) call lane.old lane.new }
+    {
+        if self.finds(lane, call, line) {
+            let placed = self.service.plan.at_position(line);
+            self.service.reply(&mut lane.work, call, &placed);
+        } else {
+            refuse(&mut lane.work.progress, CallRefusal::NoContext);
+        }
+    }
+
+    fn answer(&self, lane: &mut LiveLane, call: u32, line: &CallLine)
+        requires may { MayAnswerLive (lives self.now.service.plan.now self.now.service.contexts.now
+            self.now.table.now self.now.service.counter) call line.now lane.old }
+        ensures { IsOneOnLive (lives self.now.service.plan.now self.now.service.contexts.now
+            self.now.table.now self.now.service.counter) call lane.old lane.new }
+    {
+        match *line {
+            CallLine::Add { name } => self.add(lane, call, name),
+            CallLine::Retire { name } => self.retire(lane, call, name),
+            CallLine::Seal { .. }
+            | CallLine::Unseal { .. }
+            | CallLine::UnsealAll { .. }
+            | CallLine::Export { .. } => self.call(lane, call, line),
+        }
+        self.service
+            .gate
+            .reached(lane.work.lane, call, Point::Answered);
+    }
+
+    /// Serves the calls of a lane in their order.
+    pub(crate) fn serve_lane(&self, lane: &mut LiveLane)
+        requires shared { AreSharedLive (lives self.now.service.plan.now
+            self.now.service.contexts.now self.now.table.now self.now.service.counter) }
+        requires fresh { IsFreshLive (lives self.now.service.plan.now
+            self.now.service.contexts.now self.now.table.now self.now.service.counter) lane.old }
+        ensures { IsServedLive (lives self.now.service.plan.now self.now.service.contexts.now
+            self.now.table.now self.now.service.counter) lane.old lane.new }
+    {
+        let lines = self.service.plan.lanes.as_slice()[lane.work.lane as usize].as_slice();
+        'calls: for (call, line) in lines.iter().enumerate() {
+            self.answer(lane, call as u32, line);
+        }
+    }
+}

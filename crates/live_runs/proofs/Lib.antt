@@ -1,0 +1,6 @@
+pub mod Noted
+pub mod Shared
+pub mod Handed
+pub mod Returning
+pub mod Closed
+pub mod Ending

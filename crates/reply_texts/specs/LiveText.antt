@@ -1,0 +1,97 @@
+-- The text that a batch is answered with whose lanes add and retire contexts while they are served,
+-- a format of this program's own. Numbers are decimal without leading zeros.
+use Rattle.std.specs.Prelude.{ℕ, Bool, true, false, List, [], ◌∷◌, ◌++◌, map, filter, take, drop, codes, decimal}
+use Rattle.std.specs.List.{concat}
+use Rattle.call_places.specs.declared.entries.Entry.{Entry}
+use Rattle.call_places.specs.declared.entries.Mark.{Mark}
+use Rattle.call_places.specs.declared.entries.Step.{Step}
+use Rattle.call_places.specs.declared.entries.Step.TheVariants.{Sealed, SealLimit, Opened, Failed, OpenLimit, Note}
+use Rattle.batch_plans.specs.declared.plan.Plan.{Plan}
+use Rattle.batch_plans.specs.declared.plan.CallLine.{CallLine}
+use Rattle.batch_plans.specs.declared.replies.KeyReply.{KeyReply}
+use Rattle.batch_plans.specs.declared.replies.ContextReply.{ContextReply}
+use Rattle.batch_plans.specs.declared.replies.Reply.{Reply}
+use Rattle.batch_plans.specs.declared.replies.Reply.TheVariants as replies
+use Rattle.batch_plans.specs.declared.replies.LaneAnswers.{LaneAnswers}
+use Rattle.batch_plans.specs.declared.replies.Answers.{Answers}
+use Rattle.batch_plans.specs.Names.{line_count}
+use Rattle.reply_texts.specs.ReplyText.{answered_lines, numbered, all_lines, setup_lines, lane_lines, mark_line, journal_lines, version_line}
+
+-- ---- lanes
+
+abbrev pub is_given : Reply → Bool
+is_given replies.Blank = false
+is_given (replies.Sealed number text) = true
+is_given (replies.Opened number text) = true
+is_given (replies.Failed number) = true
+is_given replies.Limit = true
+is_given (replies.Exported text) = true
+is_given (replies.Refused refusal) = true
+is_given replies.Added = true
+is_given replies.Retired = true
+
+-- The lines of a lane's calls, by the replies that were given. Where an opening of several messages
+-- is refused, so many replies are left over, and a guess at the end of all.
+abbrev pub given_lines : List CallLine → LaneAnswers → List (List ℕ)
+given_lines calls lane =
+    answered_lines calls (record lane { replies = filter is_given lane.replies })
+
+-- those of each lane
+abbrev pub lanes_given : List (List CallLine) → List LaneAnswers → List (List (List ℕ))
+lanes_given [] answers = []
+lanes_given (calls ∷ lanes) [] = []
+lanes_given (calls ∷ lanes) (lane ∷ answers) = given_lines calls lane ∷ lanes_given lanes answers
+
+-- ---- journals
+
+-- `journal +K`, and the lines of its places
+abbrev pub added_journal_lines : ℕ → List Mark → List (List ℕ)
+added_journal_lines name marks =
+    (codes "journal +" ++ decimal name ++ codes "\n") ∷ map (mark_line true) marks
+
+-- ---- the table
+
+-- the name of a note was live; no other step tells it
+abbrev pub tells_live : Step → Bool
+tells_live Sealed = false
+tells_live SealLimit = false
+tells_live Opened = false
+tells_live Failed = false
+tells_live OpenLimit = false
+tells_live (Note name act live) = live
+
+abbrev pub bit : Bool → ℕ
+bit true = 1
+bit false = 0
+
+-- `LANE CALL BIT STAMP`
+abbrev pub note_line : Entry → List ℕ
+note_line e =
+    decimal e.place.lane ++ codes " " ++ decimal e.place.call ++ codes " "
+    ++ decimal (bit (tells_live e.step)) ++ codes " " ++ decimal e.stamp ++ codes "\n"
+
+-- `table`, and the lines of its notes
+abbrev pub table_lines : List Entry → List (List ℕ)
+table_lines notes = codes "table\n" ∷ map note_line notes
+
+-- ---- the whole text
+
+-- The lines of a reply whose first contexts, so many, are those of context lines: its keys, these
+-- contexts, the lines of each lane's calls, the journals of these contexts and of those that were
+-- added, and the table. An added context has no line of its own.
+unfoldable pub live_lines : ℕ → List KeyReply → List ContextReply → List (List (List ℕ))
+    → List (List Mark) → List Entry → List (List ℕ)
+live_lines lines keys contexts lanes journals notes =
+    version_line 2
+    ∷ setup_lines keys (take lines contexts)
+    ++ all_lines (numbered lane_lines 0 lanes)
+    ++ all_lines (numbered (journal_lines true) 0 (take lines journals))
+    ++ all_lines (numbered added_journal_lines 0 (drop lines journals))
+    ++ table_lines notes
+    ++ codes "end\n" ∷ []
+
+-- the reply that these answers to a plan make up, whose notes are the table
+abbrev pub live_text : Plan → Answers → List ℕ
+live_text plan answers =
+    concat (live_lines (line_count plan) answers.keys answers.contexts
+    (lanes_given plan.lanes answers.lanes) answers.journals answers.notes)
