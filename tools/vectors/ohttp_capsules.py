@@ -3,9 +3,10 @@
 KEM of tools/reference/contexts.py.
 
 Run: python3 tools/vectors/ohttp_capsules.py. It first makes the exchange of RFC 9458, appendix A, and
-stops where a byte differs from those published. Then it prints the rows of `EXCHANGES` in
-crates/ohttp_capsule/src/tests.rt: key pairs of stream 0 of the seed of 32 zero bytes, r of stream 1,
-key identifier 7, a response nonce of bytes aa; SHA-256 of the request and of the response.
+stops where a byte differs from those published. Then it prints the rows of `EXCHANGES_761` and
+`EXCHANGES_857` in crates/capsule_tests/src/ohttp_capsule_tests/exchanges.rt: key pairs of stream 0 of
+the seed of 32 zero bytes, r of stream 1, key identifier 7, a response nonce of bytes aa; SHA-256 of
+the request and of the response.
 """
 
 import hashlib

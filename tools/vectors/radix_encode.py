@@ -1,7 +1,7 @@
 """Encode of Streamlined NTRU Prime, written from its specification (NTRU Prime round 3, Encode).
 
 Run: python3 tools/vectors/radix_encode.py. It prints the rows of `RADIX_CASES`, `ROUNDED_761` and `ROUNDED_857` in
-crates/radix_pack/src/tests.rt: the values and radices, each a pattern that is repeated up to the
+crates/lattice_tests/src/radix_pack_tests: the values and radices, each a pattern that is repeated up to the
 count, and the bytes, as runs of equal pieces.
 """
 

@@ -5,7 +5,7 @@ the words of chacha20_words.py, by the reference's masks and shifts.
     python3 tools/vectors/samples.py SEED_HEX STREAM P
 
 It prints, for each of the two, the first 8 coefficients, the sum of k times coefficient k, and the
-weight, as in `SAMPLES_761` and `SAMPLES_857` of crates/rand_words/src/tests.rt.
+weight, as in `SAMPLES_761` and `SAMPLES_857` of crates/lattice_tests/src/rand_words_tests.rt.
 """
 
 import sys

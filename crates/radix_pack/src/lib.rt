@@ -23,6 +23,3 @@ pub use elements::{rounded_decode, rounded_encode, rq_decode, rq_encode};
 pub use lists::{ByteList, DigitList};
 pub use radix::{decode, encode};
 pub use small::{small_decode, small_encode};
-
-#[cfg(test)]
-mod tests;

@@ -20,6 +20,3 @@ mod words;
 pub use samples::{short_random, small_random};
 pub use streams::SeedStream;
 pub use words::Words;
-
-#[cfg(test)]
-mod tests;

@@ -29,6 +29,27 @@ pub(crate) trait Field {
         requires { length f.now ≡ length g.old };
 }
 
+// One step on g, and on its cofactor r, in the places that it has to read.
+fn step_both<F: Field>(
+    field: &F,
+    progress: Progress,
+    f: &[F::Number],
+    g: &mut [F::Number],
+    v: &[F::Number],
+    r: &mut [F::Number],
+)
+    requires low { length f.now ≡ length g.old }
+    requires high { length v.now ≡ length r.old }
+    requires some { 0 < length f.now }
+{
+    let f0 = f[0];
+    let g0 = g[0];
+    let low = progress.low(f.len());
+    let high = progress.high(v.len());
+    field.step(&f[low.from..low.to], &mut g[low.from..low.to], f0, g0);
+    field.step(&v[high.from..high.to], &mut r[high.from..high.to], f0, g0);
+}
+
 // 2p - 1 division steps. Says whether f and g end in each other's place.
 fn divide<F: Field>(
     field: &F,
@@ -44,17 +65,12 @@ fn divide<F: Field>(
     let p = f.len().saturating_sub(SPARE);
     let mut progress = Progress::start(p);
     for _step in 1..p.saturating_mul(2) {
-        let f0 = f[0];
-        let g0 = g[0];
-        progress = progress.turned(!field.is_zero(if progress.flipped { f0 } else { g0 }));
-        let low = progress.low(f.len());
-        let high = progress.high(v.len());
+        let constant = if progress.flipped { f[0] } else { g[0] };
+        progress = progress.turned(!field.is_zero(constant));
         if progress.flipped {
-            field.step(&g[low.from..low.to], &mut f[low.from..low.to], g0, f0);
-            field.step(&r[high.from..high.to], &mut v[high.from..high.to], g0, f0);
+            step_both(field, progress, g, f, r, v);
         } else {
-            field.step(&f[low.from..low.to], &mut g[low.from..low.to], f0, g0);
-            field.step(&v[high.from..high.to], &mut r[high.from..high.to], f0, g0);
+            step_both(field, progress, f, g, v, r);
         }
         progress = progress.stepped();
     }

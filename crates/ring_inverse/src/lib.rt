@@ -19,13 +19,10 @@ mod lines;
 mod modulo_3;
 mod modulo_q;
 mod numbers;
-mod quick;
+pub mod quick;
 mod reciprocal;
+mod triples;
 mod windows;
-mod words;
 
 pub use quick::times_3f;
 pub use reciprocal::{Reciprocal, reciprocal_3, reciprocal_3f};
-
-#[cfg(test)]
-mod tests;

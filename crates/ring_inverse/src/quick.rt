@@ -1,4 +1,8 @@
 //! Inverses by division steps, each tested by a product.
+//!
+//! An inverse that is given is one. `None` says nothing of the element: that the steps find each
+//! inverse there is, no clause says. A wrong candidate costs [`crate::reciprocal_3`] the time of an
+//! elimination, and no more.
 
 ghost use Rattle.std.specs.Prelude.{◌≡◌, ℤ, pos, ◌*ℤ◌, Bool, true, List, length, map, IfOk, IfSome};
 ghost use Rattle.ring_core.specs.Product.{one, product, IsCentred};
@@ -7,7 +11,8 @@ ghost use Rattle.ring_inverse.specs.Reciprocals.{triple, IsInverse};
 use crate::modulo_3::candidate_3;
 use crate::modulo_q::candidate_3f;
 use crate::reciprocal::modulus;
-use crate::words::{tripled_long, widened_small};
+use crate::triples::tripled_long;
+use ring_core::words::small_to_16;
 use ring_core::{Multiplier, Params, Rq, Small};
 use std::alloc::{AllocError as OutOfMemory, Global};
 
@@ -23,8 +28,8 @@ fn is_one(list: &[i16]) -> bool
     true
 }
 
-// 1/a in R/3, where the division steps find it.
-pub(crate) fn quick_3<S: Params, M: Multiplier>(
+/// 1/a in R/3 (NTRU Prime round 3, KeyGen), where the division steps find it.
+pub fn quick_3<S: Params, M: Multiplier>(
     alloc: Global,
     mult: &M,
     a: &Small<S>,
@@ -33,7 +38,7 @@ pub(crate) fn quick_3<S: Params, M: Multiplier>(
 {
     let v = Small::from_vec(candidate_3(alloc, a.as_slice())?);
     let product = mult.mul_3(alloc, &v, a)?;
-    let list = widened_small(alloc, product.as_slice())?;
+    let list = small_to_16(alloc, product.as_slice())?;
     Ok(if is_one(&list) { Some(v) } else { None })
 }
 
@@ -51,8 +56,8 @@ pub fn times_3f<S: Params, M: Multiplier>(
     Rq::from_coefficients(alloc, &numbers)
 }
 
-// 1/(3 f) in R/q, where the division steps find it.
-pub(crate) fn quick_3f<S: Params, M: Multiplier>(
+/// 1/(3 f) in R/q (NTRU Prime round 3, KeyGen), where the division steps find it.
+pub fn quick_3f<S: Params, M: Multiplier>(
     alloc: Global,
     mult: &M,
     f: &Small<S>,

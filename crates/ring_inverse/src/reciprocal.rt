@@ -6,7 +6,8 @@ ghost use Rattle.ring_inverse.specs.Reciprocals.{triple, IsInverse, IsAnnihilato
 
 use crate::elimination::eliminate;
 use crate::quick::{quick_3, quick_3f};
-use crate::words::{narrowed, tripled, widened_small};
+use crate::triples::tripled;
+use ring_core::words::{narrowed, small_to_16};
 use ring_core::{Multiplier, Params, Rq, Small};
 use std::alloc::{AllocError as OutOfMemory, Global};
 
@@ -40,7 +41,7 @@ fn eliminated_3<S: Params>(alloc: Global, a: &Small<S>) -> Result<Reciprocal<Sma
     ensures annihilator { IfOk result (λ r. IfAnnihilator r (IsAnnihilator 3 S.set.p a.now)) }
     ensures exactly { IfOk result (λ r. GivesAnnihilator r ↔ (¬ HasInverse 3 S.set.p a.now)) }
 {
-    let list = widened_small(alloc, a.as_slice())?;
+    let list = small_to_16(alloc, a.as_slice())?;
     match eliminate(alloc, &list, 3)? {
         Reciprocal::Inverse(v) => Ok(Reciprocal::Inverse(small(alloc, &v)?)),
         Reciprocal::Annihilator(u) => Ok(Reciprocal::Annihilator(small(alloc, &u)?)),

@@ -1,13 +1,13 @@
 -- Terms that are added to sums from a place on.
-use Rattle.std.proofs.Common.{◌≡◌, ℕ, zero, suc, ◌+◌, ◌-◌, ◌*◌, ◌^◌, ◌<◌, ◌≤◌, ℤ, pos, List, length, arith, rules, ap, sym, ◌∙◌, inl, inr, refl}
-use Rattle.std.specs.Prelude.{◌+ℤ◌, ◌*ℤ◌, unsigned_abs}
+use Rattle.std.proofs.Common.{◌≡◌, ℕ, suc, ◌+◌, ◌-◌, ◌^◌, ◌<◌, ◌≤◌, ℤ, pos, List, length, arith, rules, ap, ◌∙◌, inl, inr, refl}
+use Rattle.std.specs.Prelude.{◌*ℤ◌, unsigned_abs}
 use Rattle.std.proofs.lemmas.Int.{ints}
 use Rattle.std.proofs.lemmas.Bool.{cases_lt}
 use Rattle.std.proofs.lemmas.List.{places, get_or_past}
 use borrow.Rule.Slice.PartMut.{put_mid, mid_of}
 use Rattle.ring_core.specs.Product.{coefficients, conv}
 use Rattle.ring_core.specs.Rows.{AddsMultiple}
-use Rattle.ring_core.proofs.QuotientLaws.{below, shifted, shifted_low, shifted_high}
+use Rattle.ring_core.proofs.QuotientLaws.{below, shifted_low, shifted_high}
 use Rattle.ring_core.proofs.Partial.{conv_more}
 use Rattle.ring_core.proofs.Convolved.{mid_at, put_low, put_at, put_high}
 use Rattle.ring_karatsuba.specs.Sums.{term, Fits, Adds}

@@ -14,6 +14,3 @@ mod split;
 mod sums;
 
 pub use multiplier::Karatsuba;
-
-#[cfg(test)]
-mod tests;

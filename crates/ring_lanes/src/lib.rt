@@ -10,12 +10,9 @@
 //! factor, whose zeros are skipped.
 #![tactic(auto)]
 
-mod lists;
 mod multiplier;
 mod narrow;
+mod negatives;
 mod wide;
 
 pub use multiplier::Lanes;
-
-#[cfg(test)]
-mod tests;

@@ -9,7 +9,8 @@ ghost use Rattle.ring_core.specs.Product.{coefficients, conv};
 ghost use Rattle.ring_core.specs.Rows.{AddsMultiple};
 ghost use Rattle.ring_lanes.specs.Negated.{IsNegated};
 
-use crate::lists::{negatives, widened_to_16, widened_to_32};
+use crate::negatives::negatives;
+use ring_core::words::{long_to_32, small_to_16};
 use std::alloc::{AllocError as OutOfMemory, Global};
 use std::simd::i16x16;
 
@@ -100,9 +101,9 @@ pub(crate) fn convolution(alloc: Global, small: &[i8], long: &[i8]) -> Result<Ve
     ensures sums { IfOk result (λ v. (k : ℕ) → k < 2 * length long.now
         → coefficients v.items k ≡ conv (coefficients small.now) (coefficients long.now) k) }
 {
-    let row = widened_to_16(alloc, long)?;
+    let row = small_to_16(alloc, long)?;
     let negated = negatives(alloc, &row)?;
     let mut sums = vec![in alloc; 0i16; 2 * row.len()]?;
     add_rows(&mut sums, small, &row, &negated);
-    widened_to_32(alloc, &sums)
+    long_to_32(alloc, &sums)
 }

@@ -11,7 +11,8 @@ ghost use Rattle.ring_core.specs.Product.{coefficients, conv};
 ghost use Rattle.ring_core.specs.Rows.{AddsMultiple};
 ghost use Rattle.ring_lanes.specs.Negated.{IsNegated};
 
-use crate::lists::{negatives, widened_to_32};
+use crate::negatives::negatives;
+use ring_core::words::long_to_32;
 use std::alloc::{AllocError as OutOfMemory, Global};
 use std::simd::i32x16;
 
@@ -106,8 +107,8 @@ pub(crate) fn convolution(
     ensures sums { IfOk result (λ v. (k : ℕ) → k < 2 * length long.now
         → coefficients v.items k ≡ conv (coefficients small.now) (coefficients long.now) k) }
 {
-    let row = widened_to_32(alloc, long)?;
-    let negated = widened_to_32(alloc, &negatives(alloc, long)?)?;
+    let row = long_to_32(alloc, long)?;
+    let negated = long_to_32(alloc, &negatives(alloc, long)?)?;
     let mut sums = vec![in alloc; 0i32; 2 * row.len()]?;
     add_rows(&mut sums, small, &row, &negated);
     Ok(sums)

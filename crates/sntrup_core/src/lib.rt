@@ -17,6 +17,3 @@ pub mod laws;
 
 pub use encryption::{decrypt, encrypt};
 pub use keys::{KeyFault, PublicPoly, SecretPolys, keygen};
-
-#[cfg(test)]
-mod tests;

@@ -1,5 +1,5 @@
 mod Parts
-mod Rounds
+pub mod Rounds
 mod Drawing
 mod Agreement
 mod Generating

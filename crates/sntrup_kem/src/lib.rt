@@ -25,6 +25,3 @@ pub use generation::generate;
 pub use keys::{KeyBytesFault, PublicKey, SecretKey};
 pub use params::KemParams;
 pub use sntrup_core::KeyFault;
-
-#[cfg(test)]
-mod tests;

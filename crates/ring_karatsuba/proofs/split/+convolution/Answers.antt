@@ -1,8 +1,7 @@
-use Rattle.std.proofs.Common.{arith, ◌≡◌, ◌∙◌, ℕ, ℤ, ◌+◌, ◌-◌, ◌*◌, ◌/◌, ◌^◌, ◌<◌, ◌≤◌, List, length, ap, sym, subst}
+use Rattle.std.proofs.Common.{arith, ℕ, ℤ, ◌-◌, ◌*◌, ◌/◌, ◌^◌, List, length, ap, sym, subst}
 use Rattle.std.proofs.lemmas.List.{take_at}
 use Rattle.ring_core.specs.Bounds.{IsWithin}
-use Rattle.ring_core.specs.Product.{coefficients}
-use Rattle.ring_karatsuba.specs.Sums.{AreParts, AreJoined, IsConvolution, IsFolded}
+use Rattle.ring_karatsuba.specs.Sums.{AreParts, IsConvolution}
 use Rattle.ring_karatsuba.proofs.Bounds.{Halves, AreParts-low, AreParts-high, AreParts-folded, IsWithin-parts}
 use Rattle.ring_karatsuba.proofs.Splitting.{IsConvolution-joined}
 use Rattle.ring_karatsuba.proofs.split.+convolution.Goals as goal

@@ -1,0 +1,206 @@
+//! Products worked out by hand: the table that the test of each multiplier goes through, by
+//! [`assert_products`].
+
+ghost use Rattle.std.specs.Prelude.{◌≡◌, map, IfOk};
+ghost use Rattle.lattice_tests.specs.Examples.{placed, placed_at};
+ghost use Rattle.ring_core.specs.Product.{centred};
+
+use ring_core::{Multiplier, Params, Rq, Small};
+use std::alloc::{AllocError as OutOfMemory, Global};
+use std::process::Abort;
+
+/// An element by the places of its coefficients 1 and -1; the others are 0.
+pub struct Places {
+    pub ones: &'static [usize],
+    pub minus_ones: &'static [usize],
+}
+
+impl Places {
+    // The coefficient of x^k.
+    fn coefficient(&self, k: usize) -> i8
+        ensures { result ≡ placed_at self.now.ones.now self.now.minus_ones.now k }
+    {
+        if self.ones.contains(&k) {
+            1
+        } else if self.minus_ones.contains(&k) {
+            -1
+        } else {
+            0
+        }
+    }
+
+    // The p coefficients.
+    fn coefficients(&self, alloc: Global, p: usize) -> Result<Vec<i8>, OutOfMemory>
+        ensures { IfOk result (λ v. v.items
+            ≡ placed p self.now.ones.now self.now.minus_ones.now) }
+    {
+        let mut list = Vec::with_capacity(alloc, p)?;
+        for k in 0..p {
+            list.push(self.coefficient(k))?;
+        }
+        Ok(list)
+    }
+
+    /// The small element.
+    pub fn small<S: Params>(&self, alloc: Global) -> Result<Small<S>, OutOfMemory>
+        ensures { IfOk result (λ a. a
+            ≡ placed S.set.p self.now.ones.now self.now.minus_ones.now) }
+    {
+        Ok(Small::from_vec(self.coefficients(alloc, S::P)?))
+    }
+
+    /// The same element of R/q.
+    pub fn rq<S: Params>(&self, alloc: Global) -> Result<Rq<S>, OutOfMemory>
+        ensures { IfOk result (λ a. a ≡ map (λ z. centred S.set.q z)
+            (placed S.set.p self.now.ones.now self.now.minus_ones.now)) }
+    {
+        let list = self.coefficients(alloc, S::P)?;
+        let wide: Vec<i32> = list.iter().map(|number| i32::from(*number)).collect(alloc)?;
+        Rq::from_coefficients(alloc, &wide)
+    }
+}
+
+/// Two factors, and their product in both rings.
+pub struct Example {
+    pub source: &'static str,
+    pub a: Places,
+    pub b: Places,
+    pub product: Places,
+}
+
+/// Products over `Sntrup761`.
+pub const PRODUCTS_761: [Example; 5] = [
+    Example {
+        source: "own, by hand: x^760 x = x^761 = x + 1",
+        a: Places {
+            ones: &[760],
+            minus_ones: &[],
+        },
+        b: Places {
+            ones: &[1],
+            minus_ones: &[],
+        },
+        product: Places {
+            ones: &[0, 1],
+            minus_ones: &[],
+        },
+    },
+    Example {
+        source: "own, by hand: x^760 x^760 = x^759 (x + 1)",
+        a: Places {
+            ones: &[760],
+            minus_ones: &[],
+        },
+        b: Places {
+            ones: &[760],
+            minus_ones: &[],
+        },
+        product: Places {
+            ones: &[759, 760],
+            minus_ones: &[],
+        },
+    },
+    Example {
+        source: "own, by hand: (x + 1) (x - 1) = x^2 - 1",
+        a: Places {
+            ones: &[0, 1],
+            minus_ones: &[],
+        },
+        b: Places {
+            ones: &[1],
+            minus_ones: &[0],
+        },
+        product: Places {
+            ones: &[2],
+            minus_ones: &[0],
+        },
+    },
+    Example {
+        source: "own, by hand: (x^400 + x) (-x^400) = -x^800 - x^401 = -x^401 - x^40 - x^39",
+        a: Places {
+            ones: &[1, 400],
+            minus_ones: &[],
+        },
+        b: Places {
+            ones: &[],
+            minus_ones: &[400],
+        },
+        product: Places {
+            ones: &[],
+            minus_ones: &[39, 40, 401],
+        },
+    },
+    Example {
+        source: "own, by hand: a product with 0",
+        a: Places {
+            ones: &[0, 5],
+            minus_ones: &[760],
+        },
+        b: Places {
+            ones: &[],
+            minus_ones: &[],
+        },
+        product: Places {
+            ones: &[],
+            minus_ones: &[],
+        },
+    },
+];
+
+/// Products over `Sntrup857`.
+pub const PRODUCTS_857: [Example; 2] = [
+    Example {
+        source: "own, by hand: x^856 x = x^857 = x + 1",
+        a: Places {
+            ones: &[856],
+            minus_ones: &[],
+        },
+        b: Places {
+            ones: &[1],
+            minus_ones: &[],
+        },
+        product: Places {
+            ones: &[0, 1],
+            minus_ones: &[],
+        },
+    },
+    Example {
+        source: "own, by hand: (x^856 - 1) (x^856 - x) = x^855 (x + 1) - (x + 1) - x^856 + x",
+        a: Places {
+            ones: &[856],
+            minus_ones: &[0],
+        },
+        b: Places {
+            ones: &[856],
+            minus_ones: &[1],
+        },
+        product: Places {
+            ones: &[855],
+            minus_ones: &[0],
+        },
+    },
+];
+
+/// Asserts that a multiplier gives the product of each example in both rings.
+pub fn assert_products<S: Params, M: Multiplier>(
+    rt: &impl Abort,
+    alloc: Global,
+    mult: &M,
+    examples: &[Example],
+) -> Result<(), OutOfMemory> {
+    for example in examples {
+        let source = example.source;
+        let small: Small<S> = example.a.small(alloc)?;
+        let b: Small<S> = example.b.small(alloc)?;
+        let want: Small<S> = example.product.small(alloc)?;
+        let a: Rq<S> = example.a.rq(alloc)?;
+        let in_q = mult.mul_q_small(alloc, &a, &b)?;
+        let in_3 = mult.mul_3(alloc, &small, &b)?;
+        for k in 0..S::P {
+            let number = want.coefficient(k);
+            assert_eq!(rt; in_q.coefficient(k), i32::from(number), "{source}, {k}");
+            assert_eq!(rt; in_3.coefficient(k), number, "{source}, {k}");
+        }
+    }
+    Ok(())
+}

@@ -1,0 +1,98 @@
+ghost use Rattle.std.specs.Prelude.{◌≡◌, IfOk, vec_len};
+ghost use Rattle.radix_pack.specs.Codings.{small_length};
+
+use radix_pack::{small_decode, small_encode};
+use ring_core::{Params, Small, Sntrup761, Sntrup857};
+use std::alloc::{AllocError as OutOfMemory, Global};
+use std::process::Abort;
+use std::test::Fail;
+
+// A small coding, whose last byte has one coefficient in both sets: the first byte, bytes alike,
+// the last byte; and the coefficients, a pattern of four.
+struct SmallCase {
+    source: &'static str,
+    first: u8,
+    middle: u8,
+    last: u8,
+    coefficients: Option<[i8; 4]>,
+}
+
+const SMALL_CASES: [SmallCase; 5] = [
+    SmallCase {
+        source: "own, by hand: spare bits after the last coefficient",
+        first: 0x55,
+        middle: 0x55,
+        last: 0x55,
+        coefficients: None,
+    },
+    SmallCase {
+        source: "own, by hand: each digit 1",
+        first: 0x55,
+        middle: 0x55,
+        last: 0x01,
+        coefficients: Some([0, 0, 0, 0]),
+    },
+    SmallCase {
+        source: "own, by hand: the digit 3",
+        first: 0x03,
+        middle: 0x00,
+        last: 0x00,
+        coefficients: None,
+    },
+    SmallCase {
+        source: "own, by hand: 0 + 4 * 1 + 16 * 2 + 64 * 1",
+        first: 0x64,
+        middle: 0x64,
+        last: 0x00,
+        coefficients: Some([-1, 0, 1, 0]),
+    },
+    SmallCase {
+        source: "own, by hand: 2 + 4 * 2 + 16 * 2 + 64 * 2",
+        first: 0xaa,
+        middle: 0xaa,
+        last: 0x02,
+        coefficients: Some([1, 1, 1, 1]),
+    },
+];
+
+fn small_case<S: Params>(alloc: Global, case: &SmallCase) -> Result<Vec<u8>, OutOfMemory>
+    ensures { IfOk result (λ v. vec_len v ≡ small_length S.set.p) }
+{
+    let mut bytes = vec![in alloc; case.middle; S::P.div_ceil(4)]?;
+    if let [first, .., last] = &mut bytes[..] {
+        *first = case.first;
+        *last = case.last;
+    }
+    Ok(bytes)
+}
+
+fn assert_small<S: Params>(
+    rt: &impl Abort,
+    alloc: Global,
+    case: &SmallCase,
+) -> Result<(), OutOfMemory> {
+    let source = case.source;
+    let bytes = small_case::<S>(alloc, case)?;
+    let decoded: Option<Small<S>> = small_decode(alloc, &bytes)?;
+    match (&decoded, &case.coefficients) {
+        (Some(element), Some(pattern)) => {
+            for i in 0..S::P {
+                assert_eq!(rt; element.coefficient(i), pattern[i % 4], "{source}, at {i}");
+            }
+            let encoded = small_encode(alloc, element)?;
+            assert!(rt; encoded.as_slice() == &bytes[..], "{source}");
+        }
+        (None, None) => {}
+        _ => assert!(rt; false, "{source}"),
+    }
+    Ok(())
+}
+
+#[test]
+fn small_elements_decode_where_they_are_well_formed(rt: HostRuntime) -> Result<(), Fail> {
+    for case in &SMALL_CASES {
+        assert_small::<Sntrup761>(&rt, rt.alloc(), case)?;
+        assert_small::<Sntrup857>(&rt, rt.alloc(), case)?;
+    }
+    Ok(())
+}

@@ -1,0 +1,225 @@
+ghost use Rattle.std.specs.Prelude.{◌≤◌, unsigned_abs};
+
+use ring_core::{Multiplier, Params, Plain, Small, Sntrup761, Sntrup857};
+use ring_inverse::quick::{quick_3, quick_3f};
+use ring_inverse::{Reciprocal, reciprocal_3, reciprocal_3f};
+use std::alloc::{AllocError as OutOfMemory, Global};
+use std::process::Abort;
+use std::test::Fail;
+
+const P: usize = 761;
+
+// Some coefficients by their places. The others are 0, where the list is whole.
+type Places = &'static [(usize, i32)];
+
+enum Want {
+    Inverse(Places),
+    Annihilator,
+}
+
+struct ReciprocalCase {
+    source: &'static str,
+    element: &'static [i8],
+    modulo_3: Want,
+    modulo_q: Want,
+}
+
+const RECIPROCALS_761: [ReciprocalCase; 3] = [
+    ReciprocalCase {
+        source: "own, by hand: x (x^760 - 1) = x^761 - x = 1, and 3 * 1530 = -1 modulo 4591",
+        element: &[0, 1],
+        modulo_3: Want::Inverse(&[(0, -1), (760, 1)]),
+        modulo_q: Want::Inverse(&[(0, 1530), (760, -1530)]),
+    },
+    ReciprocalCase {
+        source: "own, by hand: 1 is its own inverse, and 3 * -1530 = 1 modulo 4591",
+        element: &[1],
+        modulo_3: Want::Inverse(&[(0, 1)]),
+        modulo_q: Want::Inverse(&[(0, -1530)]),
+    },
+    ReciprocalCase {
+        source: "own, by hand: 0 has no inverse",
+        element: &[],
+        modulo_3: Want::Annihilator,
+        modulo_q: Want::Annihilator,
+    },
+];
+
+const RECIPROCALS_857: [ReciprocalCase; 1] = [ReciprocalCase {
+    source: "own, by hand: x (x^856 - 1) = x^857 - x = 1, and 3 * 1722 = -1 modulo 5167",
+    element: &[0, 1],
+    modulo_3: Want::Inverse(&[(0, -1), (856, 1)]),
+    modulo_q: Want::Inverse(&[(0, 1722), (856, -1722)]),
+}];
+
+// A factor of x^761 - x - 1 modulo 3, of the least degree that one has, from x^0 on. Found by the
+// distinct degrees of its factors in Python 3.11.7, and checked by sympy 1.14.0, which divides
+// Poly(x**761 - x - 1, x, modulus=3) by it without a rest.
+const FACTOR_761: [i8; 20] = [
+    -1, -1, 0, -1, -1, -1, 1, -1, 1, -1, 0, -1, 1, 1, 1, 1, -1, 0, 1, 1,
+];
+
+// The same of x^857 - x - 1, found in the same way.
+const FACTOR_857: [i8; 26] = [
+    1, 0, 0, 1, -1, 0, 0, 0, 1, 1, 1, -1, 0, -1, 1, -1, -1, 0, 0, 1, 1, 0, 1, -1, 0, 1,
+];
+
+// Coefficients of the inverses of `dense`, by the extended Euclid of x^761 - x - 1 and the element
+// over the field, in Python 3.11.7.
+const DENSE_MODULO_3: Places = &[(0, -1), (1, -1), (2, -1), (380, 1), (759, 0), (760, -1)];
+
+const DENSE_MODULO_Q: Places = &[
+    (0, 469),
+    (1, -2054),
+    (2, 2167),
+    (380, -358),
+    (759, 304),
+    (760, 2036),
+];
+
+// The element whose coefficient at k is what (k k + k / 7) mod 3 is, less 1.
+fn dense() -> [i8; 761] {
+    let mut list = [0i8; P];
+    for k in 0..P {
+        list[k] = ((k * k + k / 7) % 3) as i8 - 1;
+    }
+    list
+}
+
+fn sign(number: i8) -> i8
+    ensures { unsigned_abs result ≤ 1 }
+{
+    number.signum()
+}
+
+// The element that begins with the signs of these numbers.
+fn element<S: Params>(alloc: Global, front: &[i8]) -> Result<Small<S>, OutOfMemory> {
+    let mut list = Vec::with_capacity(alloc, S::P)?;
+    for k in 0..S::P {
+        list.push(if k < front.len() { sign(front[k]) } else { 0 })?;
+    }
+    Ok(Small::from_vec(list))
+}
+
+fn number_at(places: Places, k: usize) -> i32 {
+    for (place, number) in places {
+        if *place == k {
+            return *number;
+        }
+    }
+    0
+}
+
+fn is_inverse(want: &Want) -> bool {
+    match want {
+        Want::Inverse(_) => true,
+        Want::Annihilator => false,
+    }
+}
+
+// No contract says that a candidate is right: a wrong one costs the time of an elimination.
+fn assert_modulo_3<S: Params>(
+    rt: &impl Abort,
+    alloc: Global,
+    case: &ReciprocalCase,
+) -> Result<(), OutOfMemory> {
+    let source = case.source;
+    let a: Small<S> = element(alloc, case.element)?;
+    let found = quick_3(alloc, &Plain, &a)?.is_some();
+    assert_eq!(rt; found, is_inverse(&case.modulo_3), "{source}");
+    match (reciprocal_3(alloc, &Plain, &a)?, &case.modulo_3) {
+        (Reciprocal::Inverse(v), Want::Inverse(places)) => {
+            for k in 0..S::P {
+                let number = i32::from(v.coefficient(k));
+                assert_eq!(rt; number, number_at(places, k), "{source}: {k}");
+            }
+        }
+        (Reciprocal::Annihilator(u), Want::Annihilator) => assert!(rt; u.weight() > 0, "{source}"),
+        _ => assert!(rt; false, "{source}"),
+    }
+    Ok(())
+}
+
+fn assert_modulo_q<S: Params>(
+    rt: &impl Abort,
+    alloc: Global,
+    case: &ReciprocalCase,
+) -> Result<(), OutOfMemory> {
+    let source = case.source;
+    let f: Small<S> = element(alloc, case.element)?;
+    let found = quick_3f(alloc, &Plain, &f)?.is_some();
+    assert_eq!(rt; found, is_inverse(&case.modulo_q), "{source}");
+    match (reciprocal_3f(alloc, &Plain, &f)?, &case.modulo_q) {
+        (Reciprocal::Inverse(v), Want::Inverse(places)) => {
+            for k in 0..S::P {
+                assert_eq!(rt; v.coefficient(k), number_at(places, k), "{source}: {k}");
+            }
+        }
+        (Reciprocal::Annihilator(_), Want::Annihilator) => {}
+        _ => assert!(rt; false, "{source}"),
+    }
+    Ok(())
+}
+
+#[test]
+fn reciprocals_are_those_by_hand(rt: HostRuntime) -> Result<(), Fail> {
+    for case in &RECIPROCALS_761 {
+        assert_modulo_3::<Sntrup761>(&rt, rt.alloc(), case)?;
+        assert_modulo_q::<Sntrup761>(&rt, rt.alloc(), case)?;
+    }
+    for case in &RECIPROCALS_857 {
+        assert_modulo_3::<Sntrup857>(&rt, rt.alloc(), case)?;
+        assert_modulo_q::<Sntrup857>(&rt, rt.alloc(), case)?;
+    }
+    Ok(())
+}
+
+fn assert_annihilated<S: Params>(
+    rt: &impl Abort,
+    alloc: Global,
+    factor: &[i8],
+) -> Result<(), OutOfMemory> {
+    let a: Small<S> = element(alloc, factor)?;
+    match reciprocal_3(alloc, &Plain, &a)? {
+        Reciprocal::Annihilator(u) => {
+            assert!(rt; u.weight() > 0);
+            assert_eq!(rt; Plain.mul_3(alloc, &u, &a)?.weight(), 0);
+        }
+        Reciprocal::Inverse(_) => assert!(rt; false),
+    }
+    Ok(())
+}
+
+#[test]
+fn a_multiple_of_a_factor_has_an_annihilator(rt: HostRuntime) -> Result<(), Fail> {
+    assert_annihilated::<Sntrup761>(&rt, rt.alloc(), &FACTOR_761)?;
+    assert_annihilated::<Sntrup857>(&rt, rt.alloc(), &FACTOR_857)?;
+    Ok(())
+}
+
+#[test]
+fn a_dense_element_has_its_inverses(rt: HostRuntime) -> Result<(), Fail> {
+    let a: Small<Sntrup761> = element(rt.alloc(), &dense())?;
+    assert!(rt; quick_3f(rt.alloc(), &Plain, &a)?.is_some());
+    match quick_3(rt.alloc(), &Plain, &a)? {
+        Some(v) => {
+            for (k, number) in DENSE_MODULO_3 {
+                if *k < P {
+                    assert_eq!(rt; i32::from(v.coefficient(*k)), *number, "{k}");
+                }
+            }
+        }
+        None => assert!(rt; false),
+    }
+    match reciprocal_3f(rt.alloc(), &Plain, &a)? {
+        Reciprocal::Inverse(v) => {
+            for (k, number) in DENSE_MODULO_Q {
+                if *k < P {
+                    assert_eq!(rt; v.coefficient(*k), *number, "{k}");
+                }
+            }
+        }
+        Reciprocal::Annihilator(_) => assert!(rt; false),
+    }
+    Ok(())
+}

@@ -1,0 +1,11 @@
+use crate::examples::{PRODUCTS_761, PRODUCTS_857, assert_products};
+use ring_core::{Sntrup761, Sntrup857};
+use ring_karatsuba::Karatsuba;
+use std::test::Fail;
+
+#[test]
+fn products_are_those_of_the_ring(rt: HostRuntime) -> Result<(), Fail> {
+    assert_products::<Sntrup761, Karatsuba>(&rt, rt.alloc(), &Karatsuba, &PRODUCTS_761)?;
+    assert_products::<Sntrup857, Karatsuba>(&rt, rt.alloc(), &Karatsuba, &PRODUCTS_857)?;
+    Ok(())
+}

@@ -1,0 +1,74 @@
+use ring_core::{Sntrup761, Sntrup857};
+use sntrup_kem::{KemParams, KeyBytesFault, PublicKey, SecretKey};
+use std::alloc::{AllocError as OutOfMemory, Global};
+use std::process::Abort;
+use std::test::Fail;
+
+fn secret_fault<S: KemParams>(alloc: Global, bytes: &[u8]) -> Option<KeyBytesFault> {
+    SecretKey::<S>::from_bytes(alloc, bytes).err()
+}
+
+fn public_fault<S: KemParams>(alloc: Global, bytes: &[u8]) -> Option<KeyBytesFault> {
+    PublicKey::<S>::from_bytes(alloc, bytes).err()
+}
+
+// The secret key's bytes with all polynomials -1, and the byte ff at a place.
+fn secret_with<S: KemParams>(alloc: Global, place: usize) -> Result<Vec<u8>, OutOfMemory> {
+    let mut bytes = vec![in alloc; 0u8; S::SECRET]?;
+    if let Some(byte) = bytes.get_mut(place) {
+        *byte = 0xff;
+    }
+    Ok(bytes)
+}
+
+// `small` is the size of a small coding.
+fn assert_refused<S: KemParams>(
+    rt: &impl Abort,
+    alloc: Global,
+    small: usize,
+) -> Result<(), OutOfMemory> {
+    for place in [
+        0,
+        small.wrapping_sub(1),
+        small,
+        small.wrapping_mul(2).wrapping_sub(1),
+    ] {
+        let fault = secret_fault::<S>(alloc, &secret_with::<S>(alloc, place)?);
+        assert_eq!(rt; fault, Some(KeyBytesFault::Form), "ff at {place}");
+    }
+    let whole = secret_with::<S>(alloc, small.wrapping_mul(2))?;
+    assert_eq!(rt; secret_fault::<S>(alloc, &whole), None);
+    for count in [S::SECRET.wrapping_sub(1), S::SECRET.wrapping_add(1)] {
+        let fault = secret_fault::<S>(alloc, &vec![in alloc; 0u8; count]?);
+        assert_eq!(rt; fault, Some(KeyBytesFault::Length), "{count} bytes");
+    }
+    for (count, want) in [
+        (S::PUBLIC.wrapping_sub(1), Some(KeyBytesFault::Length)),
+        (S::PUBLIC, None),
+        (S::PUBLIC.wrapping_add(1), Some(KeyBytesFault::Length)),
+    ] {
+        let fault = public_fault::<S>(alloc, &vec![in alloc; 0xffu8; count]?);
+        assert_eq!(rt; fault, want, "{count} bytes");
+    }
+    Ok(())
+}
+
+#[test]
+fn bytes_of_no_key_are_refused(rt: HostRuntime) -> Result<(), Fail> {
+    assert_refused::<Sntrup761>(&rt, rt.alloc(), 191)?;
+    assert_refused::<Sntrup857>(&rt, rt.alloc(), 215)?;
+    Ok(())
+}
+
+#[test]
+fn each_fault_is_printed(rt: HostRuntime) -> Result<(), Fail> {
+    for (fault, text) in [
+        (KeyBytesFault::Length, "the key has another length"),
+        (KeyBytesFault::Form, "the bytes encode no key"),
+        (KeyBytesFault::OutOfMemory, "out of memory"),
+    ] {
+        let printed = format!(in rt.alloc(); "{fault}")?;
+        assert_eq!(rt; printed.as_str(), text);
+    }
+    Ok(())
+}

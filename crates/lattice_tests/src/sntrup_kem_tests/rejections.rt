@@ -1,0 +1,165 @@
+ghost use Rattle.std.specs.Prelude.{◌≡◌, length, IfOk, vec_len};
+
+use super::{bytes_of, decapsulated, encapsulated, keys_of};
+use radix_pack::{rounded_encode, rq_decode, small_decode, small_encode};
+use ring_core::{Plain, Small, Sntrup761, Sntrup857};
+use sha2::{Digest, Sha512};
+use sntrup_core::{PublicPoly, encrypt};
+use sntrup_kem::{KemParams, PublicKey, SecretKey, decap};
+use std::alloc::{AllocError as OutOfMemory, Global};
+use std::process::Abort;
+use std::test::Fail;
+
+// Rejection keys: with bit 0 of the byte at a place flipped, of the rounded part or of the hash;
+// and of what Hide makes of an r of weight w - 1, which is decrypted to that r. Its coding begins
+// with so many bytes of four ones.
+struct RejectedCase {
+    spoilt: [(usize, &'static str); 4],
+    whole_bytes: usize,
+    light: &'static str,
+}
+
+// Own, by Python 3.11: tools/vectors/sntrup_reject.py, with the key of stream 0 of the zero seed
+// and the encapsulation of stream 1.
+const REJECTED_761: RejectedCase = RejectedCase {
+    spoilt: [
+        (
+            0,
+            "bd892edc23a801796ba640041e4832fb5fbd17fbda8899afd61a27ff72ca22d6",
+        ),
+        (
+            1006,
+            "faaadbf0daa9ed31f6a21aff9efbfe249c4cb75cdf8adba15f899bf2870af968",
+        ),
+        (
+            1007,
+            "23a35eba929c21866627422191d304469b55f63b385a0f801460f17db6a1d9da",
+        ),
+        (
+            1038,
+            "57a1e830fc3c0691ee85920bbd35fda1f8e352fc1b4ce7be671495615cbed00a",
+        ),
+    ],
+    whole_bytes: 71,
+    light: "07f92fc7bf87edd155f9d1038e161f00ead1c62d9472afa8f44339dee5aa8754",
+};
+
+const REJECTED_857: RejectedCase = RejectedCase {
+    spoilt: [
+        (
+            0,
+            "1e9b0ab17f1133a44332236af90e1b274592941b9736e240edbd94090ec82096",
+        ),
+        (
+            1151,
+            "6694ff8674ca7c875b1caebbe4a73d61e56f579dec833b45f90dab45f5af1ba6",
+        ),
+        (
+            1152,
+            "60f05045adfa5be9b1c45ea8f03c47603c25535bf05e0bad0df3c4a90538a5ea",
+        ),
+        (
+            1183,
+            "e1a8a36d21ddcb0acbe24da52598b58b11b0441ff2ad5e50c2206861f3b9d579",
+        ),
+    ],
+    whole_bytes: 80,
+    light: "fa3512bf3b93fd140dc54671abfbe0b6f787e67243f99ad3212a50b73fe0fb67",
+};
+
+// The bytes with bit 0 of one flipped.
+fn spoilt(alloc: Global, enc: &[u8], place: usize) -> Result<Vec<u8>, OutOfMemory>
+    ensures { IfOk result (λ v. vec_len v ≡ length enc.now) }
+{
+    let mut bytes = Vec::from_slice(alloc, enc)?;
+    if let Some(byte) = bytes.get_mut(place) {
+        *byte ^= 1;
+    }
+    Ok(bytes)
+}
+
+// Makes the small coding of w - 1 ones followed by zeros of bytes 0x55: w - 1 is one more than a
+// multiple of 4 in both sets, and so is p.
+fn write_light(coding: &mut [u8], whole_bytes: usize) {
+    for (k, byte) in coding.iter_mut().enumerate() {
+        if k < whole_bytes {
+            *byte = 0xaa;
+        } else if k == whole_bytes {
+            *byte = 0x56;
+        }
+    }
+    if let Some(last) = coding.last_mut() {
+        *last = 0x01;
+    }
+}
+
+fn first_half(bytes: &[u8; 64]) -> [u8; 32] {
+    let mut half = [0u8; 32];
+    half.copy_from_slice(&bytes[..32]);
+    half
+}
+
+// Hash_b of two strings, one after the other.
+fn hash(b: u8, first: &[u8], second: &[u8]) -> [u8; 32] {
+    let mut hasher = Sha512::new();
+    hasher.update(&[b]);
+    hasher.update(first);
+    hasher.update(second);
+    first_half(&hasher.finalize())
+}
+
+// What Hide makes of r: the coding of c, and the hash that confirms r.
+fn hidden<S: KemParams>(
+    alloc: Global,
+    public: &PublicKey<S>,
+    r: &Small<S>,
+) -> Result<Vec<u8>, OutOfMemory> {
+    let h = rq_decode(alloc, public.as_slice())?;
+    let c = encrypt(alloc, &Plain, r, &PublicPoly { h })?;
+    let mut enc = Vec::from_slice(alloc, rounded_encode(alloc, &c)?.as_slice())?;
+    let r_hash = hash(3, small_encode(alloc, r)?.as_slice(), &[]);
+    let cache = hash(4, public.as_slice(), &[]);
+    enc.extend_from_slice(&hash(2, &r_hash, &cache))?;
+    Ok(enc)
+}
+
+// Its encapsulation, which has the right hash, decapsulated.
+fn light_key<S: KemParams>(
+    alloc: Global,
+    whole_bytes: usize,
+    public: &PublicKey<S>,
+    secret: &SecretKey<S>,
+) -> Option<[u8; 32]> {
+    let mut coding = vec![in alloc; 0x55u8; S::P.div_ceil(4)].ok()?;
+    write_light(&mut coding, whole_bytes);
+    let light = small_decode::<S>(alloc, &coding).ok()??;
+    let enc = hidden(alloc, public, &light).ok()?;
+    if enc.len() != S::ENC {
+        return None;
+    }
+    decap(alloc, &Plain, &enc, secret).ok()
+}
+
+fn assert_rejected<S: KemParams>(
+    rt: &impl Abort,
+    alloc: Global,
+    case: &RejectedCase,
+) -> Result<(), OutOfMemory> {
+    let (public, secret) = keys_of::<S>(rt, alloc, &[0; 32]);
+    let (enc, _) = encapsulated(rt, alloc, &[0; 32], &public);
+    for (place, digits) in &case.spoilt {
+        let other = spoilt(alloc, enc.as_slice(), *place)?;
+        let key = decapsulated(rt, alloc, &other, &secret);
+        assert_eq!(rt; key, bytes_of(rt, digits), "byte {place}");
+    }
+    let key = light_key(alloc, case.whole_bytes, &public, &secret);
+    assert_eq!(rt; key, Some(bytes_of(rt, case.light)), "weight");
+    Ok(())
+}
+
+#[test]
+fn other_ciphertexts_get_the_rejection_key(rt: HostRuntime) -> Result<(), Fail> {
+    assert_rejected::<Sntrup761>(&rt, rt.alloc(), &REJECTED_761)?;
+    assert_rejected::<Sntrup857>(&rt, rt.alloc(), &REJECTED_857)?;
+    Ok(())
+}
