@@ -18,8 +18,6 @@ mod memory;
 mod outside;
 mod pure;
 mod streams;
-#[cfg(test)]
-mod tests;
 
 pub use gates::{FreeGate, HoldGate};
 pub use memory::{MemorySink, MemorySource};

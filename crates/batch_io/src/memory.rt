@@ -1,6 +1,6 @@
 //! A source and a sink in memory, which move bytes in small steps and fail on demand.
 
-ghost use Rattle.std.specs.Prelude.{◌≡◌, ◌↔◌, ◌⊎◌, ◌<◌, ◌≤◌, ◌≢◌, length, Some, [], vec_len};
+ghost use Rattle.std.specs.Prelude.{◌≡◌, ◌↔◌, ◌⊎◌, ◌<◌, ◌≤◌, ◌≢◌, ◌+◌, ◌++◌, length, Some, [], vec_len};
 ghost use Rattle.batch_io.specs.Outside.{Gives, Takes, raised, faults_after_read, faults_after_write};
 ghost use Rattle.batch_io.specs.Memory.{NextFails, LacksRoom, most_given, most_taken};
 
@@ -147,6 +147,16 @@ impl MemorySink {
     {
         &self.room[..self.filled]
     }
+
+    // Writes bytes that there is room for.
+    fn fill(&mut self, bytes: &[u8])
+        requires { length self.old.written + length bytes.now ≤ self.old.room }
+        ensures { self.new ≡ record self.old { written = self.old.written ++ bytes.now } }
+    {
+        let count = bytes.len();
+        self.room[self.filled..self.filled + count].copy_from_slice(bytes);
+        self.filled += count;
+    }
 }
 
 impl Sink for MemorySink {
@@ -177,8 +187,7 @@ impl Sink for MemorySink {
             return Took::Failed;
         }
         let count = self.step.min(piece.len()).min(left);
-        self.room[self.filled..self.filled + count].copy_from_slice(&piece[..count]);
-        self.filled += count;
+        self.fill(&piece[..count]);
         Took::Bytes(count)
     }
 }

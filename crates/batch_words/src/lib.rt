@@ -22,6 +22,3 @@ mod schedules;
 pub use commands::{Command, Mult};
 pub use reading::read_words;
 pub use schedules::Schedule;
-
-#[cfg(test)]
-mod tests;

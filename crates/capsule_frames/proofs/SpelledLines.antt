@@ -1,35 +1,27 @@
--- The pieces of a key line or of a capsule line are those of what it spells.
-use Rattle.std.proofs.Common.{◌≡◌, ◌≢◌, ℕ, ◌≤◌, ◌==◌, cond, Bool, true, false, List, [], ◌∷◌, ◌++◌, length, drop, codes, decimal, Option, Result, Ok, refl, sym, ap, subst, ◌∙◌, lit<, arith}
+-- The pieces of a capsule line are those of what it spells.
+use Rattle.std.proofs.Common.{◌≡◌, ◌≢◌, ℕ, ◌≤◌, ◌==◌, cond, Bool, true, false, List, [], ◌∷◌, length, codes, decimal, Option, Ok, refl, sym, ap, subst, ◌∙◌, lit<, arith}
 use Rattle.std.specs.Prelude.{IsSome}
 use Rattle.std.proofs.lemmas.Bool.Decides.{nat_tests}
 use Rattle.hkdf_labelled.specs.Suites.{aead_id}
 use Rattle.hkdf_labelled.specs.declared.suites.Aead.{Aead}
 use Rattle.hkdf_labelled.specs.declared.suites.Aead.TheVariants.{Aes128, Aes256, ExportOnly}
-use Rattle.call_places.specs.declared.spans.Span.{Span}
-use Rattle.field_text.specs.declared.reasons.Reason.{Reason}
-use Rattle.field_text.specs.Fields.{◌>>=◌, exactly, number, bytes}
-use Rattle.field_text.proofs.Spellings.{ok_same, step_ok, choice_ok, word_ok, next_ok, exactly_ok, number_ok, bytes_ok, IsFront, IsFront-same, IsFront-then}
+use Rattle.field_text.specs.Fields.{number, bytes}
+use Rattle.field_text.proofs.Spellings.{ok_same, step_ok, word_ok, next_ok, exactly_ok, number_ok, bytes_ok, IsFront, IsFront-then}
 use Rattle.field_text.proofs.SpelledLines.{no_piece}
-use Rattle.batch_plans.specs.declared.plan.EncField.{EncField}
-use Rattle.batch_plans.specs.declared.plan.KeyLine.{KeyLine}
-use Rattle.batch_plans.specs.declared.plan.KeyLine.TheVariants as keys
-use Rattle.batch_plans.specs.Limits.{most_field, IsField, IsKeyWithin}
-use Rattle.request_frames.specs.Words.{kdf}
-use Rattle.request_frames.specs.Forms.{key_bytes, is_reference, reference}
-use Rattle.request_frames.specs.PlanText.{span_text, enc_text, key_pieces}
-use Rattle.request_frames.proofs.SpelledFields.{kdf_ok, reference_front, piece_is, front_length, field_within}
+use Rattle.batch_plans.specs.Limits.{most_field}
+use Rattle.key_frames.specs.Words.{kdf}
+use Rattle.key_frames.specs.Forms.{message}
+use Rattle.key_frames.proofs.SpelledFields.{kdf_ok, message_ok, piece_is, front_length, field_within}
 use Rattle.capsule_frames.specs.declared.words.LineWord.{LineWord}
-use Rattle.capsule_frames.specs.declared.words.LineWord.TheVariants.{Key, Capsule}
-use Rattle.capsule_frames.specs.declared.words.KeyWord.{KeyWord}
-use Rattle.capsule_frames.specs.declared.words.KeyWord.TheVariants.{Generate, Secret, Peer, Generate857, Secret857, Peer857}
+use Rattle.capsule_frames.specs.declared.words.LineWord.TheVariants.{Capsule}
 use Rattle.capsule_frames.specs.declared.words.CapsuleWord.{CapsuleWord}
 use Rattle.capsule_frames.specs.declared.words.CapsuleWord.TheVariants as words
 use Rattle.capsule_frames.specs.declared.lines.CapsuleLine.{CapsuleLine}
 use Rattle.capsule_frames.specs.Words.{word_text, word_among, draws}
-use Rattle.capsule_frames.specs.Forms.{key, most_text, most_request, most_response, cipher, message_bytes, message, ask, answer, take_line, capsule}
+use Rattle.capsule_frames.specs.Forms.{most_text, most_request, most_response, cipher, ask, answer, take_line, capsule}
 use Rattle.capsule_frames.specs.Capsules.{is_of}
 use Rattle.capsule_frames.specs.PlanText.{capsule_pieces}
-use Rattle.capsule_frames.specs.Within.{IsMessageWithin, IsLineWithin}
+use Rattle.capsule_frames.specs.Within.{IsLineWithin}
 
 pub among_ok : (words : List LineWord) (piece : List ℕ) (word : LineWord)
     → word_among words piece ≡ Ok word → word_text word ≡ piece
@@ -37,98 +29,6 @@ among_ok [] piece word e = absurd cc
 among_ok (first ∷ more) piece word e =
     word_ok (word_text first) piece first word (word_among more piece) _
     (λ is same. ap word_text (sym same) ∙ sym is) (λ rest. among_ok more piece word rest) e
-
--- ---- keys
-
--- a key line that was read: the pool grew, over each longer pool the key has the line's pieces, and
--- it is within its limits where a line that draws from the seed has one
-pub record IsKey (old new : List ℕ) (draws : Bool) (key : KeyLine) (pieces : List (List ℕ)) : Type 0 where
-  pub grown : IsFront old new
-  pub spelled : (whole : List ℕ) → IsFront new whole → key_pieces whole key ≡ pieces
-  pub within : (seed : Option (List ℕ)) (size : ℕ) → length new ≤ size → (draws ≡ true → IsSome seed)
-      → IsKeyWithin seed size key
-
-record IsBytes (old new : List ℕ) (bytes : Span) (pieces : List (List ℕ)) : Type 0 where
-  grown : IsFront old new
-  spelled : (whole : List ℕ) → IsFront new whole → span_text whole bytes ∷ [] ≡ pieces
-  within : (size : ℕ) → length new ≤ size → IsField most_field size bytes
-
-key_bytes_ok : (pool : List ℕ) (pieces : List (List ℕ)) (bytes : Span) (new : List ℕ)
-    → key_bytes pool pieces ≡ Ok (bytes, new) → IsBytes pool new bytes pieces
-unfolding key_bytes
-key_bytes_ok pool pieces span new e =
-    let counted = exactly_ok 1 pieces _ (span, new) e in
-    next_ok (bytes most_field pool) pieces _ (span, new) _
-    (λ p1 read r1 cut1 read1 e.
-    let field = bytes_ok most_field pool p1 read read1 in
-    let last : r1 ≡ [] = no_piece r1 (omega (arith, counted.0, ap length cut1)) in
-    let IsRead : Span × List ℕ → Type 0 = λ line. IsBytes pool line.1 line.0 pieces in
-    subst IsRead (ok_same _ _ e) record {
-      grown = field.grown;
-      spelled = λ whole h. piece_is cut1 (field.spelled whole h) (sym last);
-      within = λ size long. field_within most_field pool p1 read size field long;
-    })
-    counted.1
-
--- a word alone
-abbrev alone_read : KeyLine → List ℕ → List (List ℕ) → Result (KeyLine × List ℕ) Reason
-alone_read key pool pieces = do
-  pieces ← exactly 0 pieces
-  Ok (key, pool)
-
-alone : (key read : KeyLine) (word : List ℕ) (draws : Bool)
-    → ((whole : List ℕ) → key_pieces whole key ≡ word ∷ [])
-    → ((seed : Option (List ℕ)) (size : ℕ) → (draws ≡ true → IsSome seed) → IsKeyWithin seed size key)
-    → (pool new : List ℕ) (pieces : List (List ℕ)) → alone_read key pool pieces ≡ Ok (read, new)
-    → IsKey pool new draws read (word ∷ pieces)
-alone key read word draws text within pool new pieces e =
-    let counted = exactly_ok 0 pieces _ (read, new) e in
-    let IsRead : KeyLine × List ℕ → Type 0 = λ line. IsKey pool line.1 draws line.0 (word ∷ pieces) in
-    subst IsRead (ok_same _ _ counted.1) record {
-      grown = IsFront-same pool;
-      spelled = λ whole h.
-          text whole ∙ ap (λ (pieces : List (List ℕ)). word ∷ pieces) (sym (no_piece pieces counted.0));
-      within = λ seed size long given. within seed size given;
-    }
-
--- a word and HEX
-abbrev bytes_read : (Span → KeyLine) → List ℕ → List (List ℕ) → Result (KeyLine × List ℕ) Reason
-bytes_read key_of pool pieces = do
-  (bytes, pool) ← key_bytes pool pieces
-  Ok (key_of bytes, pool)
-
-of_bytes : (key_of : Span → KeyLine) (read : KeyLine) (word : List ℕ) (draws : Bool)
-    → ((whole : List ℕ) (bytes : Span) → key_pieces whole (key_of bytes) ≡ word ∷ span_text whole bytes ∷ [])
-    → ((seed : Option (List ℕ)) (size : ℕ) (bytes : Span) → IsField most_field size bytes
-    → IsKeyWithin seed size (key_of bytes))
-    → (pool new : List ℕ) (pieces : List (List ℕ)) → bytes_read key_of pool pieces ≡ Ok (read, new)
-    → IsKey pool new draws read (word ∷ pieces)
-of_bytes key_of read word draws text within pool new pieces e =
-    let found = step_ok (key_bytes pool pieces) _ (read, new) e in
-    let bytes = key_bytes_ok pool pieces found.0.0 found.0.1 found.1 in
-    let IsRead : KeyLine × List ℕ → Type 0 = λ line. IsKey pool line.1 draws line.0 (word ∷ pieces) in
-    subst IsRead (ok_same _ _ found.2) record {
-      grown = bytes.grown;
-      spelled = λ whole h.
-          text whole found.0.0 ∙ ap (λ (pieces : List (List ℕ)). word ∷ pieces) (bytes.spelled whole h);
-      within = λ seed size long given. within seed size found.0.0 (bytes.within size long);
-    }
-
-pub key_ok : (word : KeyWord) (pool : List ℕ) (pieces : List (List ℕ)) (read : KeyLine) (new : List ℕ)
-    → key word pool pieces ≡ Ok (read, new)
-    → IsKey pool new (draws (Key word)) read (word_text (Key word) ∷ pieces)
-key_ok Generate pool pieces read new e =
-    alone keys.Generate read _ _ (λ whole. refl) (λ seed size given. given refl) pool new pieces e
-key_ok Secret pool pieces read new e =
-    of_bytes (λ bytes. keys.Secret bytes) read _ _ (λ whole bytes. refl) (λ seed size bytes h. h) pool new pieces e
-key_ok Peer pool pieces read new e =
-    of_bytes (λ bytes. keys.Peer bytes) read _ _ (λ whole bytes. refl) (λ seed size bytes h. h) pool new pieces e
-key_ok Generate857 pool pieces read new e =
-    alone keys.Generate857 read _ _ (λ whole. refl) (λ seed size given. given refl) pool new pieces e
-key_ok Secret857 pool pieces read new e =
-    of_bytes (λ bytes. keys.Secret857 bytes) read _ _ (λ whole bytes. refl) (λ seed size bytes h. h) pool new pieces e
-key_ok Peer857 pool pieces read new e =
-    of_bytes (λ bytes. keys.Peer857 bytes) read _ _ (λ whole bytes. refl) (λ seed size bytes h. h) pool new pieces e
 
 -- ---- capsules
 
@@ -152,44 +52,6 @@ cipher_ok piece value e =
       spelled = ap decimal (ap aead_id (sym same) ∙ cipher_back found.0 id.least id.most) ∙ id.spelled;
       can = λ e. encrypts (found.0 == 1) (same ∙ e);
     }
-
-record IsMessage (most : ℕ) (old new piece : List ℕ) (read : EncField) : Type 0 where
-  grown : IsFront old new
-  spelled : (whole : List ℕ) → IsFront new whole → enc_text whole read ≡ piece
-  within : (size : ℕ) → length new ≤ size → IsMessageWithin most size read
-
-reference_ok : (most : ℕ) (pool piece : List ℕ) (read : EncField) (new : List ℕ)
-    → is_reference piece ≡ true → reference pool piece ≡ Ok (read, new)
-    → IsMessage most pool new piece read
-reference_ok most pool piece read new is e =
-    let found = step_ok (number 0 65535 (drop 1 piece)) _ (read, new) e in
-    let id = number_ok 0 65535 (drop 1 piece) found.0 (lit< tt) found.1 in
-    let IsRead : EncField × List ℕ → Type 0 = λ line. IsMessage most pool line.1 piece line.0 in
-    subst IsRead (ok_same _ _ found.2) record {
-      grown = IsFront-same pool;
-      spelled = λ whole h.
-          ap (λ (digits : List ℕ). codes "@" ++ digits) id.spelled ∙ reference_front piece is;
-      within = λ size long. id.most;
-    }
-
-message_bytes_ok : (most : ℕ) (pool piece : List ℕ) (read : EncField) (new : List ℕ)
-    → message_bytes most pool piece ≡ Ok (read, new) → IsMessage most pool new piece read
-message_bytes_ok most pool piece read new e =
-    let found = step_ok (bytes most pool piece) _ (read, new) e in
-    let field = bytes_ok most pool piece found.0 found.1 in
-    let IsRead : EncField × List ℕ → Type 0 = λ line. IsMessage most pool line.1 piece line.0 in
-    subst IsRead (ok_same _ _ found.2) record {
-      grown = field.grown;
-      spelled = field.spelled;
-      within = λ size long. field_within most pool piece found.0 size field long;
-    }
-
-message_ok : (most : ℕ) (pool piece : List ℕ) (read : EncField) (new : List ℕ)
-    → message most pool piece ≡ Ok (read, new) → IsMessage most pool new piece read
-message_ok most pool piece read new e =
-    choice_ok (is_reference piece) (reference pool piece) (message_bytes most pool piece) (read, new) _
-    (λ is ok. reference_ok most pool piece read new is ok)
-    (λ _ ok. message_bytes_ok most pool piece read new ok) e
 
 -- a capsule line that was read: its kind, its pieces, and its limits
 pub record IsCapsule (old new : List ℕ) (word : CapsuleWord) (line : CapsuleLine)

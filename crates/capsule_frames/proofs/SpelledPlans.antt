@@ -1,54 +1,39 @@
 -- A text that was read is the text of its plan, which is within its limits: each line adds its own text
 -- to that of the plan, and keeps the plan within them.
-use Rattle.std.proofs.Common.{◌≡◌, ℕ, ◌+◌, ◌≤◌, ◌==◌, ◌&&◌, ◌||◌, not, nat_le, rules, Bool, true, false, List, [], ◌∷◌, ◌++◌, length, get_or, codes, Option, Some, None, Result, Ok, Err, refl, sym, ap, subst, ◌∙◌, inr, cond, append_assoc, append-nil, arith}
+use Rattle.std.proofs.Common.{◌≡◌, ℕ, ◌+◌, ◌≤◌, ◌==◌, ◌&&◌, ◌||◌, not, Bool, true, false, List, [], ◌∷◌, ◌++◌, length, get_or, codes, Option, Ok, Err, refl, sym, ap, subst, ◌∙◌, inr, cond, append_assoc, append-nil, arith}
 use Rattle.std.specs.Prelude.{IsSome, is_some}
 use Rattle.std.specs.List.{All, flat_map}
-use Rattle.std.proofs.lemmas.Bool.{cond-true, cond-false, eqb-true, leb-true, and_parts}
+use Rattle.std.proofs.lemmas.Bool.{cond-true, cond-false, eqb-true, and_parts}
 use Rattle.std.proofs.lemmas.List.Sums.{sum_by_push}
-use Rattle.std.proofs.lemmas.List.{nil_from_length}
-use Rattle.std.proofs.lemmas.List.Concat.{flat_map-append}
 use Rattle.std.proofs.lemmas.List.Elements.{All-nil, All-push}
-use Rattle.field_text.specs.declared.reasons.Reason.{Reason}
 use Rattle.field_text.specs.declared.reasons.Reason.TheVariants as reasons
 use Rattle.field_text.specs.Cuts.{line_text}
-use Rattle.field_text.specs.Fields.{◌>>=◌}
 use Rattle.field_text.specs.Lines.{front, whole}
-use Rattle.field_text.proofs.Spellings.{ok_same, step_ok, test_ok, word_ok, IsFront, IsFront-same, IsFront-then}
+use Rattle.field_text.proofs.Spellings.{ok_same, step_ok, word_ok, IsFront, IsFront-same, IsFront-then}
 use Rattle.field_text.proofs.SpelledLines.{IsSpelling, text_read}
-use Rattle.call_places.specs.declared.spans.Span.{Span}
-use Rattle.batch_plans.specs.declared.plan.EncField.{EncField}
-use Rattle.batch_plans.specs.declared.plan.EncField.TheVariants.{Bytes, Of}
-use Rattle.batch_plans.specs.Limits.{most_input, most_keys, IsField}
-use Rattle.request_frames.specs.Forms.{rand}
-use Rattle.request_frames.specs.Batch.{at_most}
-use Rattle.request_frames.specs.PlanText.{seed_text, key_text}
-use Rattle.request_frames.proofs.SpelledFields.{front_length}
-use Rattle.request_frames.proofs.SpelledKeys.{rand_ok}
+use Rattle.batch_plans.specs.Limits.{most_input, most_keys}
+use Rattle.key_frames.specs.declared.words.KeyWord.{KeyWord}
+use Rattle.key_frames.specs.Forms.{rand, key}
+use Rattle.key_frames.specs.KeyText.{seed_text, key_text}
+use Rattle.key_frames.proofs.SpelledFields.{front_length}
+use Rattle.key_frames.proofs.SpelledKeys.{rand_ok, key_ok}
+use Rattle.key_frames.proofs.MoreLines.{field_grown, message_grown, last_more, before_none, texts_none, counted_ok, seed_given, no_seed}
 use Rattle.request_frames.proofs.Growth as growth
 use Rattle.capsule_frames.specs.declared.words.LineWord.{LineWord}
 use Rattle.capsule_frames.specs.declared.words.LineWord.TheVariants.{Rand, Key, Capsule}
-use Rattle.capsule_frames.specs.declared.words.KeyWord.{KeyWord}
 use Rattle.capsule_frames.specs.declared.words.CapsuleWord.{CapsuleWord}
 use Rattle.capsule_frames.specs.declared.words.CapsuleWord.TheVariants as words
 use Rattle.capsule_frames.specs.declared.lines.CapsuleLine.{CapsuleLine}
 use Rattle.capsule_frames.specs.declared.lines.CapsuleLine.TheVariants.{Ask, Answer, Take}
 use Rattle.capsule_frames.specs.declared.lines.CapsulePlan.{CapsulePlan}
 use Rattle.capsule_frames.specs.Words.{word_text, line_words, draws}
-use Rattle.capsule_frames.specs.Forms.{key, capsule, most_text, most_request, most_response}
+use Rattle.capsule_frames.specs.Forms.{capsule, most_text, most_request, most_response}
 use Rattle.capsule_frames.specs.Capsules.{is_bare, may_stand, most_lines, is_of, count_of, with_rand, with_key, with_capsule, with_line, empty, header, capsule_lines, capsules, Spells}
 use Rattle.capsule_frames.specs.PlanText.{capsule_text, text_of}
-use Rattle.capsule_frames.specs.Within.{IsMessageWithin, IsLineWithin, IsWithin}
-use Rattle.capsule_frames.proofs.SpelledLines.{among_ok, key_ok, capsule_ok}
+use Rattle.capsule_frames.specs.Within.{IsLineWithin, IsWithin}
+use Rattle.capsule_frames.proofs.SpelledLines.{among_ok, capsule_ok}
 
 -- ---- limits, over a pool that is as long
-
-field_grown : (most n m : ℕ) (span : Span) → n ≤ m → IsField most n span → IsField most m span
-field_grown most n m span long h = record { in_pool = omega (arith, h.in_pool); size = h.size }
-
-message_grown : (most n m : ℕ) (message : EncField) → n ≤ m → IsMessageWithin most n message
-    → IsMessageWithin most m message
-message_grown most n m (Bytes bytes) long h = field_grown most n m bytes long h
-message_grown most n m (Of number) long h = h
 
 line_grown : (seed : Option (List ℕ)) (n m : ℕ) (line : CapsuleLine) → n ≤ m
     → IsLineWithin seed n line → IsLineWithin seed m line
@@ -117,46 +102,6 @@ record Adds (p new : CapsulePlan) (text : List ℕ) : Type 0 where
   grown : IsFront p.plan.pool new.plan.pool
   added : (whole : List ℕ) → IsFront new.plan.pool whole → body whole new ≡ body whole p ++ text
   built : length new.plan.pool ≤ most_input → IsBuilt p → IsBuilt new
-
--- at the end of a list that stands behind another text
-last_more : {A : Type 0} (front : List ℕ) (f : A → List ℕ) (xs : List A) (x : A) (line : List ℕ)
-    → f x ≡ line → front ++ flat_map f (xs ++ x ∷ []) ≡ (front ++ flat_map f xs) ++ line
-last_more front f xs x line same =
-    ap (λ (more : List ℕ). front ++ more)
-    (flat_map-append f xs (x ∷ []) ∙ ap (λ (more : List ℕ). flat_map f xs ++ more)
-    (append-nil (f x) ∙ same))
-    ∙ sym (append_assoc front (flat_map f xs) line)
-
--- before a text that has no bytes
-before_none : (old new line after : List ℕ) → after ≡ [] → new ≡ old ++ line
-    → new ++ after ≡ (old ++ after) ++ line
-before_none old new line after none same =
-    ap (λ (rest : List ℕ). new ++ rest) none ∙ append-nil new ∙ same
-    ∙ ap (λ (front : List ℕ). front ++ line)
-    (sym (append-nil old) ∙ ap (λ (rest : List ℕ). old ++ rest) (sym none))
-
--- of an empty list
-texts_none : {A : Type 0} (f : A → List ℕ) (xs : List A) → (length xs == 0) ≡ true
-    → flat_map f xs ≡ []
-texts_none f xs none = ap (flat_map f) (nil_from_length xs (eqb-true (length xs) 0 none))
-
--- a count that was within its limit
-counted_ok : {B : Type 0} (limit n : ℕ) (then : ℕ → Result B Reason) (y : B)
-    → (at_most limit n >>= then) ≡ Ok y → (n ≤ limit) × (then n ≡ Ok y)
-counted_ok limit n then y e =
-    let found = test_ok (nat_le n limit) n reasons.Count then y e in
-    (leb-true n limit found.0, found.1)
-
--- a line that draws stands where there is a seed
-seed_given : (draws : Bool) (seed : Option (List ℕ)) → (not draws || is_some seed) ≡ true
-    → draws ≡ true → IsSome seed
-seed_given true (Some seed) e is = search rules
-seed_given true None e is = absurd cc
-seed_given false seed e is = absurd cc
-
-no_seed : (seed : Option (List ℕ)) → not (is_some seed) ≡ true → seed ≡ None
-no_seed None e = refl
-no_seed (Some seed) e = absurd cc
 
 rand_adds : (p new : CapsulePlan) (pieces : List (List ℕ)) → is_bare p ≡ true
     → with_rand p pieces ≡ Ok new → Adds p new (line_text (codes "rand" ∷ pieces))

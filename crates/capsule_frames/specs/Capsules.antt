@@ -9,18 +9,18 @@ use Rattle.field_text.specs.Fields.{◌>>=◌}
 use Rattle.field_text.specs.Lines.{Grammar, bad, front, whole}
 use Rattle.field_text.specs.declared.faults.BadBatch.{BadBatch}
 use Rattle.batch_plans.specs.Limits.{most_input, most_keys}
-use Rattle.request_frames.specs.Forms.{rand}
-use Rattle.request_frames.specs.Batch.{at_most, empty_plan}
+use Rattle.key_frames.specs.declared.words.KeyWord.{KeyWord}
+use Rattle.key_frames.specs.Forms.{rand, key, at_most}
+use Rattle.request_frames.specs.Batch.{empty_plan}
 use Rattle.capsule_frames.specs.declared.words.LineWord.{LineWord}
 use Rattle.capsule_frames.specs.declared.words.LineWord.TheVariants.{Rand, Key, Capsule}
-use Rattle.capsule_frames.specs.declared.words.KeyWord.{KeyWord}
 use Rattle.capsule_frames.specs.declared.words.CapsuleWord.{CapsuleWord}
 use Rattle.capsule_frames.specs.declared.words.CapsuleWord.TheVariants as words
 use Rattle.capsule_frames.specs.declared.lines.CapsuleLine.{CapsuleLine}
 use Rattle.capsule_frames.specs.declared.lines.CapsuleLine.TheVariants as lines
 use Rattle.capsule_frames.specs.declared.lines.CapsulePlan.{CapsulePlan}
 use Rattle.capsule_frames.specs.Words.{line_word, draws}
-use Rattle.capsule_frames.specs.Forms.{key, capsule}
+use Rattle.capsule_frames.specs.Forms.{capsule}
 
 -- ---- order
 

@@ -1,48 +1,17 @@
--- The lines of a batch of capsules without their first word: what each one spells. The bytes of each
+-- The capsule lines of a batch without their first word: what each one spells. The bytes of each
 -- bytes field go to the end of the pool in turn.
 use Rattle.std.specs.Prelude.{ℕ, ◌==◌, List, Result, Ok, if◌then◌else◌}
 use Rattle.hkdf_labelled.specs.declared.suites.Aead.{Aead}
 use Rattle.hkdf_labelled.specs.declared.suites.Aead.TheVariants.{Aes128, Aes256}
 use Rattle.field_text.specs.declared.reasons.Reason.{Reason}
 use Rattle.field_text.specs.Fields.{◌>>=◌, next, exactly, number, bytes}
-use Rattle.batch_plans.specs.declared.plan.KeyLine.{KeyLine}
-use Rattle.batch_plans.specs.declared.plan.KeyLine.TheVariants as keys
-use Rattle.batch_plans.specs.declared.plan.EncField.{EncField}
-use Rattle.batch_plans.specs.declared.plan.EncField.TheVariants.{Bytes}
 use Rattle.batch_plans.specs.Limits.{most_field}
-use Rattle.request_frames.specs.Words.{kdf}
-use Rattle.request_frames.specs.Forms.{key_bytes, is_reference, reference}
-use Rattle.capsule_frames.specs.declared.words.KeyWord.{KeyWord}
-use Rattle.capsule_frames.specs.declared.words.KeyWord.TheVariants.{Generate, Secret, Peer, Generate857, Secret857, Peer857}
+use Rattle.key_frames.specs.Words.{kdf}
+use Rattle.key_frames.specs.Forms.{message}
 use Rattle.capsule_frames.specs.declared.words.CapsuleWord.{CapsuleWord}
 use Rattle.capsule_frames.specs.declared.words.CapsuleWord.TheVariants as words
 use Rattle.capsule_frames.specs.declared.lines.CapsuleLine.{CapsuleLine}
 use Rattle.capsule_frames.specs.declared.lines.CapsuleLine.TheVariants.{Ask, Answer, Take}
-
--- ---- key lines
-
--- `keygen`, `secret HEX`, `peer HEX`, and the same of sntrup857
-abbrev pub key : KeyWord → List ℕ → List (List ℕ) → Result (KeyLine × List ℕ) Reason
-key Generate pool pieces = do
-  pieces ← exactly 0 pieces
-  Ok (keys.Generate, pool)
-key Secret pool pieces = do
-  (bytes, pool) ← key_bytes pool pieces
-  Ok (keys.Secret bytes, pool)
-key Peer pool pieces = do
-  (bytes, pool) ← key_bytes pool pieces
-  Ok (keys.Peer bytes, pool)
-key Generate857 pool pieces = do
-  pieces ← exactly 0 pieces
-  Ok (keys.Generate857, pool)
-key Secret857 pool pieces = do
-  (bytes, pool) ← key_bytes pool pieces
-  Ok (keys.Secret857 bytes, pool)
-key Peer857 pool pieces = do
-  (bytes, pool) ← key_bytes pool pieces
-  Ok (keys.Peer857 bytes, pool)
-
--- ---- capsule lines
 
 -- the text of a request or of a response
 abbrev pub most_text : ℕ
@@ -61,17 +30,6 @@ abbrev pub cipher : List ℕ → Result Aead Reason
 cipher piece = do
   id ← number 1 2 piece
   Ok (if id == 1 then Aes128 else Aes256)
-
--- the bytes of a message
-abbrev pub message_bytes : ℕ → List ℕ → List ℕ → Result (EncField × List ℕ) Reason
-message_bytes most pool piece = do
-  read ← bytes most pool piece
-  Ok (Bytes read.span, read.pool)
-
--- REQ or RESP: a message of so many bytes at most, or `@` and the number of the line that made it
-abbrev pub message : ℕ → List ℕ → List ℕ → Result (EncField × List ℕ) Reason
-message most pool piece =
-    if is_reference piece then reference pool piece else message_bytes most pool piece
 
 -- `ask KEY ID KDF AEAD TEXT`
 unfoldable pub ask : List ℕ → List (List ℕ) → Result (CapsuleLine × List ℕ) Reason

@@ -1,20 +1,14 @@
 -- What every plan of capsules that is read keeps.
 use Rattle.std.specs.Prelude.{◌≢◌, ℕ, ◌≤◌, List, length, All, Option, IsSome}
 use Rattle.hkdf_labelled.specs.declared.suites.Aead.TheVariants.{ExportOnly}
-use Rattle.batch_plans.specs.declared.plan.EncField.{EncField}
-use Rattle.batch_plans.specs.declared.plan.EncField.TheVariants.{Bytes, Of}
 use Rattle.batch_plans.specs.Limits.{most_field, IsField, IsWithinLimits}
+pub use Rattle.key_frames.specs.Forms.{IsMessageWithin}
 use Rattle.capsule_frames.specs.declared.words.CapsuleWord.{CapsuleWord}
 use Rattle.capsule_frames.specs.declared.lines.CapsuleLine.{CapsuleLine}
 use Rattle.capsule_frames.specs.declared.lines.CapsuleLine.TheVariants.{Ask, Answer, Take}
 use Rattle.capsule_frames.specs.declared.lines.CapsulePlan.{CapsulePlan}
 use Rattle.capsule_frames.specs.Forms.{most_text, most_request, most_response}
 use Rattle.capsule_frames.specs.Capsules.{most_lines, count_of}
-
--- REQ or RESP, of so many bytes at most, over a pool of this length
-abbrev pub IsMessageWithin : ℕ → ℕ → EncField → Type 0
-IsMessageWithin most pool (Bytes bytes) = IsField most pool bytes
-IsMessageWithin most pool (Of number) = number ≤ 65535
 
 -- a capsule line over a pool of this length; a request is made from a seed
 abbrev pub IsLineWithin : Option (List ℕ) → ℕ → CapsuleLine → Type 0

@@ -3,20 +3,16 @@ use Rattle.std.specs.Prelude.{ℕ, Bool, true, false, List, [], ◌∷◌, codes
 use Rattle.std.specs.Str.{bytes_eq}
 use Rattle.field_text.specs.declared.reasons.Reason.{Reason}
 use Rattle.field_text.specs.declared.reasons.Reason.TheVariants.{Word}
+use Rattle.key_frames.specs.declared.words.KeyWord.TheVariants.{Generate, Secret, Peer, Generate857, Secret857, Peer857}
+use Rattle.key_frames.specs.Words.{key_word_text, key_draws}
 use Rattle.capsule_frames.specs.declared.words.LineWord.{LineWord}
 use Rattle.capsule_frames.specs.declared.words.LineWord.TheVariants.{Rand, Key, Capsule}
-use Rattle.capsule_frames.specs.declared.words.KeyWord.TheVariants.{Generate, Secret, Peer, Generate857, Secret857, Peer857}
 use Rattle.capsule_frames.specs.declared.words.CapsuleWord.TheVariants.{Ask, Answer, Take}
 
 -- how each word is spelled
 abbrev pub word_text : LineWord → List ℕ
 word_text Rand = codes "rand"
-word_text (Key Generate) = codes "keygen"
-word_text (Key Secret) = codes "secret"
-word_text (Key Peer) = codes "peer"
-word_text (Key Generate857) = codes "keygen857"
-word_text (Key Secret857) = codes "secret857"
-word_text (Key Peer857) = codes "peer857"
+word_text (Key word) = key_word_text word
 word_text (Capsule Ask) = codes "ask"
 word_text (Capsule Answer) = codes "answer"
 word_text (Capsule Take) = codes "take"
@@ -48,7 +44,6 @@ line_word piece = word_among line_words piece
 
 -- the lines that stand only where there is a seed
 abbrev pub draws : LineWord → Bool
-draws (Key Generate) = true
-draws (Key Generate857) = true
+draws (Key word) = key_draws word
 draws (Capsule Ask) = true
 draws other = false

@@ -9,11 +9,12 @@ ghost use Rattle.capsule_frames.specs.Capsules.{with_key as key_of, with_capsule
 ghost use Rattle.capsule_frames.specs.Drafts.{plan_of, IsKept};
 
 use crate::lines::{CapsuleLine, CapsulePlan};
-use crate::words::{CapsuleWord, KeyWord, LineWord};
-use crate::{forms, key_lines, words};
+use crate::words::{CapsuleWord, LineWord};
+use crate::{forms, words};
 use batch_plans::limits::{MOST_INPUT, MOST_KEYS};
 use batch_plans::{KeyLine, PlainList, Plan};
 use field_text::{Draft, Pieces, Reason, Stop};
+use key_frames::{KeyWord, read_key, read_rand};
 use std::alloc::Global;
 
 /// The capsule lines of each kind.
@@ -84,7 +85,7 @@ impl CapsuleDraft {
         ensures size { OnOk result
             (vec_len self.new.pool ≤ vec_len self.old.pool + sum_by length fields.old) }
     {
-        let seed = key_lines::rand(self.alloc, fields)?;
+        let seed = read_rand(self.alloc, fields)?;
         self.seed = Some(seed);
         Ok(())
     }
@@ -100,7 +101,7 @@ impl CapsuleDraft {
         ensures size { OnOk result
             (vec_len self.new.pool ≤ vec_len self.old.pool + sum_by length fields.old) }
     {
-        let key = key_lines::key(word, &mut self.pool, fields)?;
+        let key = read_key(word, &mut self.pool, fields)?;
         if self.keys.len() >= MOST_KEYS {
             return Err(Stop::Bad(Reason::Count));
         }

@@ -1,18 +1,16 @@
 //! What a capsule line spells, by its form.
 
 ghost use Rattle.std.specs.Prelude.{◌≡◌, ◌+◌, ◌<◌, ◌≤◌, ◌^◌, length, vec_len, sum_by, OnOk};
-ghost use Rattle.field_text.specs.Fields.{Gives, next};
-ghost use Rattle.request_frames.specs.Forms.{is_reference as reference_test};
-ghost use Rattle.capsule_frames.specs.Forms.{message as message_of, ask as ask_of};
-ghost use Rattle.capsule_frames.specs.Forms.{answer as answer_of, take_line as take_of};
-ghost use Rattle.capsule_frames.specs.Forms.{capsule as capsule_of};
+ghost use Rattle.field_text.specs.Fields.{Gives};
+ghost use Rattle.capsule_frames.specs.Forms.{ask as ask_of, answer as answer_of};
+ghost use Rattle.capsule_frames.specs.Forms.{take_line as take_of, capsule as capsule_of};
 
 use crate::lines::CapsuleLine;
 use crate::words;
 use crate::words::CapsuleWord;
-use batch_plans::EncField;
 use batch_plans::limits::MOST_FIELD;
-use field_text::{Pieces, Stop, read_bytes, read_number};
+use field_text::{Pieces, Stop};
+use key_frames::{read_kdf, read_message};
 
 /// TEXT.
 const MOST_TEXT: usize = 1_048_576;
@@ -22,42 +20,6 @@ const MOST_REQUEST: usize = 1_049_783;
 
 /// RESP: 32 bytes of the longer nonce, and a text with its tag.
 const MOST_RESPONSE: usize = 1_048_624;
-
-fn is_reference(piece: &[u8]) -> bool
-    ensures { result ≡ reference_test piece.now }
-{
-    match piece {
-        [] => false,
-        [first, ..] => *first == b'@',
-    }
-}
-
-fn message_field(pool: &mut Vec<u8>, piece: &[u8], most: usize) -> Result<EncField, Stop>
-    requires room { vec_len pool.old + length piece.now < 2 ^ 32 }
-    ensures read { Gives (λ message. (message, pool.new.items)) result
-        (message_of most pool.old.items piece.now) }
-    ensures size { OnOk result (vec_len pool.new ≤ vec_len pool.old + length piece.now) }
-{
-    if is_reference(piece) {
-        let number = read_number(&piece[1..], 0, 65_535)?;
-        return Ok(EncField::Of(number as u32));
-    }
-    let bytes = read_bytes(pool, piece, most)?;
-    Ok(EncField::Bytes(bytes))
-}
-
-// The next piece as REQ or RESP.
-#[tactic(auto, unfolding(field_text::specs::Fields::next))]
-fn message(pool: &mut Vec<u8>, fields: &mut Pieces, most: usize) -> Result<EncField, Stop>
-    requires room { vec_len pool.old + sum_by length fields.old < 2 ^ 32 }
-    ensures read { Gives (λ message. ((message, pool.new.items), fields.new)) result
-        (next (message_of most pool.old.items) fields.old) }
-    ensures size { OnOk result (vec_len pool.new + sum_by length fields.new
-        ≤ vec_len pool.old + sum_by length fields.old) }
-{
-    let piece = fields.piece()?;
-    message_field(pool, piece, most)
-}
 
 // `ask KEY ID KDF AEAD TEXT`
 #[tactic(auto, unfolding(crate::specs::Forms::ask))]
@@ -70,7 +32,7 @@ fn ask(pool: &mut Vec<u8>, fields: &mut Pieces) -> Result<CapsuleLine, Stop>
     fields.exactly(5)?;
     let key = fields.number(0, 65_535)? as u32;
     let id = fields.number(0, 255)? as u8;
-    let kdf = words::kdf(fields)?;
+    let kdf = read_kdf(fields)?;
     let aead = words::cipher(fields)?;
     let text = fields.bytes(pool, MOST_TEXT)?;
     Ok(CapsuleLine::Ask {
@@ -93,7 +55,7 @@ fn answer(pool: &mut Vec<u8>, fields: &mut Pieces) -> Result<CapsuleLine, Stop>
     fields.exactly(5)?;
     let key = fields.number(0, 65_535)? as u32;
     let id = fields.number(0, 255)? as u8;
-    let request = message(pool, fields, MOST_REQUEST)?;
+    let request = read_message(pool, fields, MOST_REQUEST)?;
     let nonce = fields.bytes(pool, MOST_FIELD)?;
     let text = fields.bytes(pool, MOST_TEXT)?;
     Ok(CapsuleLine::Answer {
@@ -115,7 +77,7 @@ fn take(pool: &mut Vec<u8>, fields: &mut Pieces) -> Result<CapsuleLine, Stop>
 {
     fields.exactly(2)?;
     let ask = fields.number(0, 65_535)? as u32;
-    let response = message(pool, fields, MOST_RESPONSE)?;
+    let response = read_message(pool, fields, MOST_RESPONSE)?;
     Ok(CapsuleLine::Take { ask, response })
 }
 

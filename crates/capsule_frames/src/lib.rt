@@ -14,13 +14,10 @@
 
 mod draft;
 mod forms;
-mod key_lines;
 mod lines;
 mod printing;
 mod reading;
 mod replies;
-#[cfg(test)]
-mod tests;
 mod words;
 
 pub use lines::{CapsuleLine, CapsuleLines, CapsulePlan};

@@ -1,18 +1,18 @@
 //! The printing of a whole reply.
 
-ghost use Rattle.std.specs.Prelude.{◌≡◌, ◌≤◌, [], ◌++◌, map, codes};
+ghost use Rattle.std.specs.Prelude.{◌≡◌, ◌≤◌, map};
 ghost use Rattle.std.specs.List.{concat};
 ghost use Rattle.std.specs.Io.KnownBytes.{Appends};
 ghost use Rattle.batch_io.specs.Outside.{Rose};
-ghost use Rattle.field_text.specs.Printing.{Prints, Puts, AppendsPrefix};
-ghost use Rattle.reply_texts.specs.ReplyText.{setup_text};
+ghost use Rattle.field_text.specs.Printing.{Puts, AppendsPrefix};
 ghost use Rattle.capsule_frames.specs.Text.{refusal_word, capsule_words, capsule_line};
-ghost use Rattle.capsule_frames.specs.Text.{replies_text, capsules_text};
+ghost use Rattle.capsule_frames.specs.Text.{capsules_text};
 
 use crate::replies::{CapsuleRefusal, CapsuleReply};
 use batch_io::Sink;
 use field_text::{Buffer, Printed};
-use request_frames::{KeyReplies, KeyReply, print_setup};
+use key_frames::put_keys;
+use request_frames::KeyReplies;
 
 fn word_of_refusal(refusal: CapsuleRefusal) -> &'static [u8]
     ensures { result.now ≡ refusal_word refusal }
@@ -70,34 +70,19 @@ fn put_lines<K: Sink>(out: &mut Buffer, sink: &mut K, replies: &[CapsuleReply])
     }
 }
 
-// The first line.
-fn print_version<K: Sink>(sink: &mut K) -> Printed
-    ensures { Prints K.written K.faults sink.old sink.new result (codes "hpkebatch 2\n") }
+fn put_capsules<K: Sink>(
+    out: &mut Buffer,
+    sink: &mut K,
+    keys: &KeyReplies,
+    replies: &[CapsuleReply],
+)
+    ensures { Puts K.written K.faults sink.old sink.new out.old out.new
+        (capsules_text keys.now replies.now) }
 {
-    let mut out = Buffer::new();
     out.put_text(sink, b"hpkebatch 2\n");
-    out.finish(sink)
-}
-
-// The replies to capsule lines, and the last line.
-fn print_replies<K: Sink>(replies: &[CapsuleReply], sink: &mut K) -> Printed
-    ensures { Prints K.written K.faults sink.old sink.new result (replies_text replies.now) }
-{
-    let mut out = Buffer::new();
-    put_lines(&mut out, sink, replies);
-    out.put_text(sink, b"end\n");
-    out.finish(sink)
-}
-
-// What follows the first line.
-fn print_rest<K: Sink>(keys: &[KeyReply], replies: &[CapsuleReply], sink: &mut K) -> Printed
-    ensures { Prints K.written K.faults sink.old sink.new result
-        (setup_text keys.now [] ++ replies_text replies.now) }
-{
-    match print_setup(keys, &[], sink) {
-        Printed::Whole => print_replies(replies, sink),
-        Printed::Failed => Printed::Failed,
-    }
+    put_keys(out, sink, keys.as_slice());
+    put_lines(out, sink, replies);
+    out.put_text(sink, b"end\n")
 }
 
 /// Writes the reply to a batch of capsules: its keys, and its capsule lines in the order of the
@@ -114,8 +99,7 @@ pub fn print_capsules<K: Sink>(keys: &KeyReplies, replies: &[CapsuleReply], sink
     ensures failed { result ≡ Printed.Failed → Rose (K.faults sink.old) (K.faults sink.new) }
     ensures later { K.faults sink.old ≤ K.faults sink.new }
 {
-    match print_version(sink) {
-        Printed::Whole => print_rest(keys.as_slice(), replies, sink),
-        Printed::Failed => Printed::Failed,
-    }
+    let mut out = Buffer::new();
+    put_capsules(&mut out, sink, keys, replies);
+    out.finish(sink)
 }

@@ -2,12 +2,12 @@
 
 ghost use Rattle.std.specs.Prelude.{◌≡◌, ◌≤◌, length, sum_by, OnOk};
 ghost use Rattle.field_text.specs.Fields.{Reads, next};
-ghost use Rattle.request_frames.specs.Words.{kdf as kdf_field};
 ghost use Rattle.capsule_frames.specs.Words.{line_word as line_word_of, draws};
 ghost use Rattle.capsule_frames.specs.Forms.{cipher as cipher_field};
 
 use field_text::{Pieces, Reason, read_number};
-use hkdf_labelled::{Aead, Kdf};
+use hkdf_labelled::Aead;
+use key_frames::KeyWord;
 
 /// The first word of a line, other than `end`, by what the line is for.
 #[derive(Clone, Copy, Debug, PartialEq, Eq)]
@@ -15,16 +15,6 @@ pub enum LineWord {
     Rand,
     Key(KeyWord),
     Capsule(CapsuleWord),
-}
-
-#[derive(Clone, Copy, Debug, PartialEq, Eq)]
-pub enum KeyWord {
-    Generate,
-    Secret,
-    Peer,
-    Generate857,
-    Secret857,
-    Peer857,
 }
 
 #[derive(Clone, Copy, Debug, PartialEq, Eq)]
@@ -39,11 +29,11 @@ impl LineWord {
     pub fn draws(self) -> bool
         ensures { result ≡ draws self }
     {
-        matches!(
-            self,
-            LineWord::Key(KeyWord::Generate | KeyWord::Generate857)
-                | LineWord::Capsule(CapsuleWord::Ask)
-        )
+        match self {
+            LineWord::Rand => false,
+            LineWord::Key(word) => word.draws(),
+            LineWord::Capsule(word) => word == CapsuleWord::Ask,
+        }
     }
 }
 
@@ -74,26 +64,6 @@ pub fn line_word(piece: &[u8]) -> Result<LineWord, Reason>
     } else {
         Err(Reason::Word)
     }
-}
-
-fn kdf_of(piece: &[u8]) -> Result<Kdf, Reason>
-    ensures { Reads (λ kdf. kdf) result (kdf_field piece.now) }
-{
-    match read_number(piece, 1, 3)? {
-        1 => Ok(Kdf::Sha256),
-        2 => Ok(Kdf::Sha384),
-        _ => Ok(Kdf::Sha512),
-    }
-}
-
-/// The next piece as KDF: its id in RFC 9180, 7.2.
-#[tactic(auto, unfolding(field_text::specs::Fields::next))]
-pub fn kdf(fields: &mut Pieces) -> Result<Kdf, Reason>
-    ensures read { Reads (λ kdf. (kdf, fields.new)) result (next kdf_field fields.old) }
-    ensures size { OnOk result (sum_by length fields.new ≤ sum_by length fields.old) }
-{
-    let piece = fields.piece()?;
-    kdf_of(piece)
 }
 
 fn cipher_of(piece: &[u8]) -> Result<Aead, Reason>

@@ -8,11 +8,12 @@ use Rattle.field_text.specs.Cuts.{lines_of, pieces_of}
 use Rattle.field_text.specs.Fields.{next, pooled, bytes}
 use Rattle.batch_plans.specs.declared.plan.Plan.{Plan}
 use Rattle.batch_plans.specs.declared.plan.KeyLine.TheVariants.{Generate}
+use Rattle.key_frames.specs.declared.words.KeyWord.TheVariants as keys
+use Rattle.key_frames.specs.Forms.{rand}
 use Rattle.request_frames.specs.declared.words.LineWord.TheVariants.{Rand, Key, Context}
-use Rattle.request_frames.specs.declared.words.KeyWord.TheVariants as keys
 use Rattle.request_frames.specs.declared.words.ContextWord.TheVariants as contexts
 use Rattle.request_frames.specs.Batch.{with_line, with_rand, with_key, with_context, empty_plan}
-use Rattle.request_frames.specs.Forms.{rand, schedule, send, recv}
+use Rattle.request_frames.specs.Forms.{schedule, send, recv}
 use Rattle.demo_texts.specs.Texts.{seed_bytes, rand_line, set_up_lines}
 use Rattle.demo_texts.specs.Plans.{sender_line, set_up_plan}
 use Rattle.demo_texts.proofs.HexFields.{no_feed, no_space, cut_behind, hex_is, field}

@@ -17,20 +17,14 @@
 #![tactic(auto)]
 
 mod buffer;
-#[cfg(test)]
-mod buffer_tests;
 mod cuts;
 mod faults;
 mod fields;
 mod hex_printing;
 mod hex_reading;
-#[cfg(test)]
-mod hex_tests;
 mod lines;
 mod pieces;
 mod printing;
-#[cfg(test)]
-mod reading_tests;
 mod reasons;
 mod stop;
 

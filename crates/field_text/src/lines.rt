@@ -1,10 +1,10 @@
 //! Texts that are judged line by line, up to their line `end`.
 
 ghost use Rattle.std.specs.Prelude.{◌≡◌, ℕ, ◌+◌, ◌<◌, ◌≤◌, ◌^◌, length, sum_by, true};
-ghost use Rattle.std.specs.Prelude.{OnOk, IfOk};
+ghost use Rattle.std.specs.Prelude.{OnOk, IfOk, Some};
 ghost use Rattle.field_text.specs.Cuts.{lines_of};
 ghost use Rattle.field_text.specs.Fields.{Reads, Gives};
-ghost use Rattle.field_text.specs.Lines.{Grammar, FrontText, Finds, line_after, judged, front, whole};
+ghost use Rattle.field_text.specs.Lines.{Grammar, FrontText, Finds, line_after, with_word, judged, front, whole};
 
 use crate::cuts::cut_at;
 use crate::faults::{BadBatch, ReadBatchFault};
@@ -91,6 +91,23 @@ fn bad(line: u32, reason: Reason) -> ReadBatchFault
     ReadBatchFault::Bad(BadBatch { line, reason })
 }
 
+// Takes what stands behind the word of a line.
+fn take_word<D: Draft>(draft: &mut D, word: D::Word, fields: &mut Pieces) -> Result<Next, Stop>
+    requires room { D.size draft.old + sum_by length fields.old ≤ D.MOST_INPUT }
+    requires few { length fields.old ≤ D.MOST_INPUT }
+    requires kept { D.kept draft.old }
+    ensures read { Gives (λ next. (next, D.plan draft.new)) result
+        (with_word D.grammar (D.plan draft.old) fields.old (Some word)) }
+    ensures size { OnOk result (D.size draft.new ≤ D.size draft.old + sum_by length fields.old) }
+    ensures kept { OnOk result (D.kept draft.new) }
+{
+    if !draft.may_stand(word) {
+        return Err(Stop::Bad(Reason::Order));
+    }
+    draft.add(word, fields)?;
+    Ok(Next::More)
+}
+
 // Takes the next finished line.
 #[tactic(auto, unfolding(crate::specs::Fields::next, crate::specs::Lines::line_after))]
 fn take_line<D: Draft>(draft: &mut D, line: &[u8]) -> Result<Next, Stop>
@@ -108,11 +125,7 @@ fn take_line<D: Draft>(draft: &mut D, line: &[u8]) -> Result<Next, Stop>
         return Ok(Next::Last);
     }
     let word = draft.word(piece)?;
-    if !draft.may_stand(word) {
-        return Err(Stop::Bad(Reason::Order));
-    }
-    draft.add(word, &mut fields)?;
-    Ok(Next::More)
+    take_word(draft, word, &mut fields)
 }
 
 // Takes the lines behind the first.

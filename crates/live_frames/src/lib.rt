@@ -15,11 +15,7 @@
 mod draft;
 mod lane_replies;
 mod printing;
-#[cfg(test)]
-mod printing_tests;
 mod reading;
-#[cfg(test)]
-mod reading_tests;
 mod words;
 
 pub use printing::print_live;

@@ -4,25 +4,20 @@ use Rattle.std.specs.List.{All}
 use Rattle.std.proofs.lemmas.List.{length-append, take-append-le, drop-append-le, length-drop, drop_at, take_all}
 use Rattle.std.proofs.lemmas.List.Elements.{All-nil, All-cons, All-head, All-tail, All-push, All-append}
 use Rattle.std.proofs.lemmas.List.Sums.{sum_by-cons, sum_by_push}
-use Rattle.call_places.specs.declared.spans.Span.{Span}
 use Rattle.call_places.specs.declared.spans.Item.{Item}
 use Rattle.batch_plans.specs.declared.plan.Plan.{Plan}
 use Rattle.batch_plans.specs.declared.plan.KeyLine.{KeyLine}
 use Rattle.batch_plans.specs.declared.plan.KeyLine.TheVariants as keys
-use Rattle.batch_plans.specs.declared.plan.EncField.{EncField}
-use Rattle.batch_plans.specs.declared.plan.EncField.TheVariants as encs
 use Rattle.batch_plans.specs.declared.plan.ContextKind.{ContextKind}
 use Rattle.batch_plans.specs.declared.plan.ContextKind.TheVariants as kinds
 use Rattle.batch_plans.specs.declared.plan.ContextLine.{ContextLine}
 use Rattle.batch_plans.specs.declared.plan.CallLine.{CallLine}
 use Rattle.batch_plans.specs.declared.plan.CallLine.TheVariants as calls
-use Rattle.batch_plans.specs.Limits.{most_input, most_keys, most_contexts, most_lanes, most_items, most_exported, most_field, most_ciphertext, items_of, size_of, items_from, text_size, all_items, all_sizes, all_texts, IsField, IsItemWithin, IsKeyWithin, IsEncWithin, IsKindWithin, IsContextWithin, IsCallWithin, IsWithinLimits, IsPlainCall, IsPlain}
+use Rattle.batch_plans.specs.Limits.{most_input, most_keys, most_contexts, most_lanes, most_items, most_exported, most_field, most_ciphertext, items_of, size_of, items_from, text_size, all_items, all_sizes, all_texts, IsItemWithin, IsKeyWithin, IsKindWithin, IsContextWithin, IsCallWithin, IsWithinLimits, IsPlainCall, IsPlain}
+use Rattle.key_frames.proofs.MoreLines.{field_grown, message_grown}
 use Rattle.request_frames.specs.Batch.{add_call, empty_plan}
 
 -- ---- one line, over a pool that is as long and items that are as many
-
-field_grown : (most n m : ℕ) (span : Span) → n ≤ m → IsField most n span → IsField most m span
-field_grown most n m span long h = record { in_pool = omega (arith, h.in_pool); size = h.size }
 
 item_grown : (most n m : ℕ) (item : Item) → n ≤ m → IsItemWithin most n item → IsItemWithin most m item
 item_grown most n m item long h = record { aad = field_grown most_field n m item.aad long h.aad; text = field_grown most n m item.text long h.text }
@@ -35,14 +30,10 @@ key_grown seed n m keys.Generate857 long h = h
 key_grown seed n m (keys.Secret857 bytes) long h = field_grown most_field n m bytes long h
 key_grown seed n m (keys.Peer857 bytes) long h = field_grown most_field n m bytes long h
 
-enc_grown : (n m : ℕ) (enc : EncField) → n ≤ m → IsEncWithin n enc → IsEncWithin m enc
-enc_grown n m (encs.Bytes bytes) long h = field_grown most_field n m bytes long h
-enc_grown n m (encs.Of number) long h = h
-
 kind_grown : (seed : Option (List ℕ)) (n m : ℕ) (kind : ContextKind) → n ≤ m → IsKindWithin seed n kind → IsKindWithin seed m kind
 kind_grown seed n m (kinds.Share role kem secret) long h = (h.0, field_grown most_field n m secret long h.1)
 kind_grown seed n m (kinds.Send key) long h = h
-kind_grown seed n m (kinds.Recv key enc) long h = (h.0, enc_grown n m enc long h.1)
+kind_grown seed n m (kinds.Recv key enc) long h = (h.0, message_grown most_field n m enc long h.1)
 
 context_grown : (seed : Option (List ℕ)) (n m : ℕ) (line : ContextLine) → n ≤ m → IsContextWithin seed n line → IsContextWithin seed m line
 context_grown seed n m line long h = record {

@@ -1,7 +1,6 @@
 pub mod Lanes
 pub mod Pairs
 pub mod SpelledFields
-pub mod SpelledKeys
 pub mod SpelledContexts
 pub mod SpelledCalls
 pub mod AddedContexts

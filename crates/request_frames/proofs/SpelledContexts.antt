@@ -1,25 +1,27 @@
 -- The pieces of a context line are those of what it spells.
-use Rattle.std.proofs.Common.{◌≡◌, ℕ, ◌≤◌, Bool, false, true, List, [], ◌∷◌, ◌++◌, length, drop, codes, decimal, Option, Some, Ok, refl, sym, ap, subst, ◌∙◌, lit<, arith}
+use Rattle.std.proofs.Common.{◌≡◌, ℕ, ◌≤◌, Bool, true, List, [], ◌∷◌, length, drop, codes, decimal, Option, Some, Ok, refl, sym, ap, subst, ◌∙◌, lit<, arith}
 use Rattle.std.specs.Prelude.{IsSome}
 use Rattle.hkdf_labelled.specs.Suites.{kdf_id, aead_id}
 use Rattle.hkdf_labelled.specs.declared.suites.Kdf.{Kdf}
 use Rattle.hkdf_labelled.specs.declared.suites.Aead.{Aead}
 use Rattle.field_text.specs.Fields.{number, bytes}
-use Rattle.field_text.proofs.Spellings.{ok_same, step_ok, choice_ok, next_ok, exactly_ok, number_ok, bytes_ok, IsFront, IsFront-same, IsFront-then}
+use Rattle.field_text.proofs.Spellings.{ok_same, next_ok, exactly_ok, number_ok, bytes_ok, IsFront, IsFront-then}
 use Rattle.field_text.proofs.SpelledLines.{no_piece}
-use Rattle.batch_plans.specs.declared.plan.EncField.{EncField}
 use Rattle.batch_plans.specs.declared.plan.ContextKind.{ContextKind}
 use Rattle.batch_plans.specs.declared.plan.ContextKind.TheVariants as kinds
 use Rattle.batch_plans.specs.declared.plan.ContextLine.{ContextLine}
-use Rattle.batch_plans.specs.Limits.{most_field, IsEncWithin, IsKindWithin, IsContextWithin}
+use Rattle.batch_plans.specs.Limits.{most_field, IsKindWithin, IsContextWithin}
+use Rattle.key_frames.specs.Words.{kdf}
+use Rattle.key_frames.specs.Forms.{message}
+use Rattle.key_frames.proofs.SpelledFields.{kdf_ok, message_ok, piece_is, front_length, field_within}
 use Rattle.request_frames.specs.declared.words.LineWord.TheVariants.{Context}
 use Rattle.request_frames.specs.declared.words.ContextWord.{ContextWord}
 use Rattle.request_frames.specs.declared.words.ContextWord.TheVariants.{Share, Send, Recv}
-use Rattle.request_frames.specs.Words.{word_text, draws, role, mode, kdf, aead}
-use Rattle.request_frames.specs.Forms.{schedule, share, send, recv, enc, is_reference, reference, enc_bytes, context}
-use Rattle.request_frames.specs.PlanText.{enc_text, schedule_pieces, context_fields, context_pieces, added_pieces}
+use Rattle.request_frames.specs.Words.{word_text, draws, role, mode, aead}
+use Rattle.request_frames.specs.Forms.{schedule, share, send, recv, context}
+use Rattle.request_frames.specs.PlanText.{schedule_pieces, context_fields, context_pieces, added_pieces}
 use Rattle.request_frames.specs.Added.{IsShare}
-use Rattle.request_frames.proofs.SpelledFields.{role_ok, mode_ok, kdf_ok, aead_ok, reference_front, piece_is, front_length, field_within}
+use Rattle.request_frames.proofs.SpelledFields.{role_ok, mode_ok, aead_ok}
 
 -- ---- the end of each context line
 
@@ -86,10 +88,16 @@ pub record IsContext (old new : List ℕ) (draws : Bool) (line : ContextLine) (p
   pub spelled : (whole : List ℕ) → IsFront new whole → context_pieces whole line line.kind ≡ pieces
   pub within : (seed : Option (List ℕ)) (size : ℕ) → length new ≤ size → (draws ≡ true → IsSome seed) → IsContextWithin seed size line
 
-share_ok : (pool : List ℕ) (pieces : List (List ℕ)) (line : ContextLine) (new : List ℕ) (draws : Bool) → share pool pieces ≡ Ok (line, new)
-    → IsContext pool new draws line (codes "share" ∷ pieces)
+-- the same of a line `share`, whatever draws from the seed, and its kind
+record IsShared (old new : List ℕ) (line : ContextLine) (pieces : List (List ℕ)) : Type 0 where
+  grown : IsFront old new
+  spelled : (whole : List ℕ) → IsFront new whole → context_pieces whole line line.kind ≡ codes "share" ∷ pieces
+  within : (seed : Option (List ℕ)) (size : ℕ) → length new ≤ size → IsContextWithin seed size line
+  shared : IsShare line.kind
+
+share_ok : (pool : List ℕ) (pieces : List (List ℕ)) (line : ContextLine) (new : List ℕ) → share pool pieces ≡ Ok (line, new) → IsShared pool new line pieces
 unfolding share
-share_ok pool pieces line new draws e =
+share_ok pool pieces line new e =
     let counted = exactly_ok 10 pieces _ (line, new) e in
     next_ok role pieces _ (line, new) _
     (λ p1 role r1 cut1 read1 e.
@@ -115,8 +123,9 @@ share_ok pool pieces line new draws e =
           let from3 = piece_is cut3 is3 (piece_is cut4 is4 (piece_is cut5 is5 (rest.spelled whole h))) in
           ap (context_pieces whole line) rest.kind_is
           ∙ ap (λ (pieces : List (List ℕ)). codes "share" ∷ pieces) (piece_is cut1 (role_ok p1 role read1) (piece_is cut2 field2.spelled from3));
-      within = λ seed size long given.
+      within = λ seed size long.
           rest.within seed size long (omega (arith, field2.most), field_within most_field pool p5 secret size field5 (omega (arith, few, long)));
+      shared = subst IsShare (sym rest.kind_is) tt;
     })
     e) e) e) e)
     counted.1
@@ -131,36 +140,16 @@ pub record IsAdded (old new : List ℕ) (line : ContextLine) (pieces : List (Lis
 fields_same : (one other : List ℕ) (xs ys : List (List ℕ)) → ◌≡◌ {A = List (List ℕ)} (one ∷ xs) (other ∷ ys) → xs ≡ ys
 fields_same one other xs ys e = ap (λ (pieces : List (List ℕ)). drop 1 pieces) e
 
-share_shared : (pool : List ℕ) (pieces : List (List ℕ)) (line : ContextLine) (new : List ℕ) → share pool pieces ≡ Ok (line, new) → IsShare line.kind
-unfolding share
-share_shared pool pieces line new e =
-    let counted = exactly_ok 10 pieces _ (line, new) e in
-    next_ok role pieces _ (line, new) _
-    (λ p1 role r1 cut1 read1 e.
-    next_ok (number 0 65535) r1 _ (line, new) _
-    (λ p2 kem r2 cut2 read2 e.
-    next_ok kdf r2 _ (line, new) _
-    (λ p3 kdf r3 cut3 read3 e.
-    next_ok aead r3 _ (line, new) _
-    (λ p4 aead r4 cut4 read4 e.
-    next_ok (bytes most_field pool) r4 _ (line, new) _
-    (λ p5 secret r5 cut5 read5 e.
-    let five : length r5 ≡ 5 = omega (arith, counted.0, ap length cut1, ap length cut2, ap length cut3, ap length cut4, ap length cut5) in
-    let rest = schedule_ok (kinds.Share role kem secret.span) kdf aead secret.pool r5 line new five e in
-    subst IsShare (sym rest.kind_is) tt)
-    e) e) e) e)
-    counted.1
-
 pub added_ok : (pool : List ℕ) (pieces : List (List ℕ)) (line : ContextLine) (new : List ℕ) → share pool pieces ≡ Ok (line, new) → IsAdded pool new line pieces
 added_ok pool pieces line new e =
-    let read = share_ok pool pieces line new false e in
+    let read = share_ok pool pieces line new e in
     record {
       grown = read.grown;
       spelled = λ whole h.
           let fields : context_fields whole line line.kind ≡ pieces = fields_same _ _ _ _ (read.spelled whole h) in
           ap (λ (pieces : List (List ℕ)). codes "add" ∷ pieces) fields;
-      within = λ seed size long. read.within seed size long (λ is. absurd cc);
-      shared = share_shared pool pieces line new e;
+      within = read.within;
+      shared = read.shared;
     }
 
 send_ok : (pool : List ℕ) (pieces : List (List ℕ)) (line : ContextLine) (new : List ℕ) → send pool pieces ≡ Ok (line, new)
@@ -190,34 +179,6 @@ send_ok pool pieces line new e =
     e) e)
     counted.1
 
--- ENC
-record IsEnc (old new : List ℕ) (read : EncField) (piece : List ℕ) : Type 0 where
-  grown : IsFront old new
-  spelled : (whole : List ℕ) → IsFront new whole → enc_text whole read ≡ piece
-  within : (size : ℕ) → length new ≤ size → IsEncWithin size read
-
-enc_ok : (pool piece : List ℕ) (read : EncField × List ℕ) → enc pool piece ≡ Ok read → IsEnc pool read.1 read.0 piece
-enc_ok pool piece read e =
-    let IsRead : EncField × List ℕ → Type 0 = λ read. IsEnc pool read.1 read.0 piece in
-    choice_ok (is_reference piece) (reference pool piece) (enc_bytes pool piece) read _
-    (λ refers ok.
-    let found = step_ok (number 0 65535 (drop 1 piece)) _ read ok in
-    let number = number_ok 0 65535 (drop 1 piece) found.0 (lit< tt) found.1 in
-    subst IsRead (ok_same _ _ found.2) record {
-      grown = IsFront-same pool;
-      spelled = λ whole h. ap (λ (digits : List ℕ). codes "@" ++ digits) number.spelled ∙ reference_front piece refers;
-      within = λ size long. number.most;
-    })
-    (λ _ ok.
-    let found = step_ok (bytes most_field pool piece) _ read ok in
-    let field = bytes_ok most_field pool piece found.0 found.1 in
-    subst IsRead (ok_same _ _ found.2) record {
-      grown = field.grown;
-      spelled = field.spelled;
-      within = λ size long. field_within most_field pool piece found.0 size field long;
-    })
-    e
-
 recv_ok : (pool : List ℕ) (pieces : List (List ℕ)) (line : ContextLine) (new : List ℕ) (draws : Bool) → recv pool pieces ≡ Ok (line, new)
     → IsContext pool new draws line (codes "recv" ∷ pieces)
 unfolding recv
@@ -229,12 +190,12 @@ recv_ok pool pieces line new draws e =
     (λ p2 aead r2 cut2 read2 e.
     next_ok (number 0 65535) r2 _ (line, new) _
     (λ p3 key r3 cut3 read3 e.
-    next_ok (enc pool) r3 _ (line, new) _
+    next_ok (message most_field pool) r3 _ (line, new) _
     (λ p4 enc r4 cut4 read4 e.
     let five : length r4 ≡ 5 = omega (arith, counted.0, ap length cut1, ap length cut2, ap length cut3, ap length cut4) in
     let rest = schedule_ok (kinds.Recv key enc.0) kdf aead enc.1 r4 line new five e in
     let field3 = number_ok 0 65535 p3 key (lit< tt) read3 in
-    let field4 = enc_ok pool p4 enc read4 in
+    let field4 = message_ok most_field pool p4 enc.0 enc.1 read4 in
     let few = front_length enc.1 new rest.grown in
     record {
       grown = IsFront-then pool enc.1 new field4.grown rest.grown;
@@ -252,6 +213,8 @@ recv_ok pool pieces line new draws e =
 
 pub context_ok : (word : ContextWord) (pool : List ℕ) (pieces : List (List ℕ)) (line : ContextLine) (new : List ℕ) → context word pool pieces ≡ Ok (line, new)
     → IsContext pool new (draws (Context word)) line (word_text (Context word) ∷ pieces)
-context_ok Share pool pieces line new e = share_ok pool pieces line new _ e
+context_ok Share pool pieces line new e =
+    let read = share_ok pool pieces line new e in
+    record { grown = read.grown; spelled = read.spelled; within = λ seed size long given. read.within seed size long }
 context_ok Send pool pieces line new e = send_ok pool pieces line new e
 context_ok Recv pool pieces line new e = recv_ok pool pieces line new _ e

@@ -1,11 +1,8 @@
 -- The piece that was read as a word or a number is that of its value.
-use Rattle.std.proofs.Common.{◌≡◌, ℕ, ◌+◌, ◌-◌, ◌<◌, ◌≤◌, ◌==◌, ◌&&◌, nat_lt, cond, Bool, false, true, List, [], ◌∷◌, ◌++◌, length, drop, codes, decimal, Ok, Err, refl, sym, ap, subst, ◌∙◌, lit<, arith}
+use Rattle.std.proofs.Common.{◌≡◌, ℕ, ◌+◌, ◌-◌, ◌<◌, ◌==◌, ◌&&◌, nat_lt, cond, Bool, false, true, List, [], ◌∷◌, ◌++◌, drop, codes, decimal, Ok, Err, refl, sym, ap, subst, ◌∙◌, lit<, arith}
 use Rattle.std.proofs.lemmas.Bool.{eqb-true, and_parts, lt-ltb}
 use Rattle.std.proofs.lemmas.Bool.Decides.{nat_tests}
-use Rattle.std.proofs.lemmas.List.{length-append}
-use Rattle.hkdf_labelled.specs.Suites.{kdf_id, aead_id}
-use Rattle.hkdf_labelled.specs.declared.suites.Kdf.{Kdf}
-use Rattle.hkdf_labelled.specs.declared.suites.Kdf.TheVariants.{Sha256, Sha384, Sha512}
+use Rattle.hkdf_labelled.specs.Suites.{aead_id}
 use Rattle.hkdf_labelled.specs.declared.suites.Aead.{Aead}
 use Rattle.hkdf_labelled.specs.declared.suites.Aead.TheVariants.{Aes128, Aes256, ExportOnly}
 use Rattle.key_schedule.specs.declared.modes.Role.{Role}
@@ -13,12 +10,12 @@ use Rattle.key_schedule.specs.declared.modes.Role.TheVariants.{Sender, Recipient
 use Rattle.key_schedule.specs.declared.modes.Mode.{Mode}
 use Rattle.key_schedule.specs.declared.modes.Mode.TheVariants.{Base, Psk}
 use Rattle.field_text.specs.declared.reasons.Reason.TheVariants.{Word, Number, Range}
-use Rattle.field_text.specs.Fields.{number, Pooled}
-use Rattle.field_text.proofs.Spellings.{ok_same, step_ok, choice_ok, word_ok, number_ok, IsFront, IsPooled}
-use Rattle.batch_plans.specs.Limits.{first_name, IsField, IsNumber}
+use Rattle.field_text.specs.Fields.{number}
+use Rattle.field_text.proofs.Spellings.{ok_same, step_ok, choice_ok, word_ok, number_ok}
+use Rattle.batch_plans.specs.Limits.{first_name, IsNumber}
 use Rattle.request_frames.specs.declared.words.LineWord.{LineWord}
-use Rattle.request_frames.specs.Words.{word_text, word_among, role, mode, kdf, aead}
-use Rattle.request_frames.specs.Forms.{is_reference, is_name, name, named, ctx}
+use Rattle.request_frames.specs.Words.{word_text, word_among, role, mode, aead}
+use Rattle.request_frames.specs.Forms.{is_name, name, named, ctx}
 use Rattle.request_frames.specs.PlanText.{role_word, mode_word, ctx_text}
 
 -- ---- words
@@ -42,16 +39,6 @@ mode_ok piece value e =
     word_ok (codes "psk") piece Psk value (Err Word) _ (λ is same. ap mode_word (sym same) ∙ sym is) (λ err. absurd cc) rest)
     e
 
-kdf_back : (id : ℕ) → 1 ≤ id → id ≤ 3 → kdf_id (cond (id == 1) Sha256 (cond (id == 2) Sha384 Sha512)) ≡ id
-kdf_back id least most = grind (arith, nat_tests)
-
-pub kdf_ok : (piece : List ℕ) (value : Kdf) → kdf piece ≡ Ok value → decimal (kdf_id value) ≡ piece
-kdf_ok piece value e =
-    let found = step_ok (number 1 3 piece) _ value e in
-    let id = number_ok 1 3 piece found.0 (lit< tt) found.1 in
-    let same : cond (found.0 == 1) Sha256 (cond (found.0 == 2) Sha384 Sha512) ≡ value = cc in
-    ap decimal (ap kdf_id (sym same) ∙ kdf_back found.0 id.least id.most) ∙ id.spelled
-
 aead_back : (id : ℕ) (value : Aead)
     → cond (id == 1) (Ok Aes128) (cond (id == 2) (Ok Aes256) (cond (id == 65535) (Ok ExportOnly) (Err Range))) ≡ Ok value → aead_id value ≡ id
 aead_back id value e =
@@ -67,13 +54,6 @@ pub aead_ok : (piece : List ℕ) (value : Aead) → aead piece ≡ Ok value → 
 aead_ok piece value e =
     let found = step_ok (number 1 65535 piece) _ value e in
     ap decimal (aead_back found.0 value found.2) ∙ (number_ok 1 65535 piece found.0 (lit< tt) found.1).spelled
-
--- ---- parts of lines
-
--- a piece that begins with `@`
-pub reference_front : (piece : List ℕ) → is_reference piece ≡ true → codes "@" ++ drop 1 piece ≡ piece
-reference_front [] e = absurd cc
-reference_front (first ∷ more) e = ap (λ (c : ℕ). c ∷ more) (sym (eqb-true first 64 e))
 
 -- ---- the context of a call
 
@@ -137,17 +117,3 @@ ctx_ok names piece value e =
     choice_ok (names && is_name piece) (named piece) (number 0 65535 piece) value _
     (λ is ok. named_ok names piece value (and_parts names (is_name piece) is).0 ok)
     (λ _ ok. line_ok names piece value ok) e
-
--- ---- parts of lines
-
--- one piece, and those after it
-pub piece_is : {text piece : List ℕ} {pieces rest more : List (List ℕ)} → pieces ≡ piece ∷ rest → text ≡ piece → more ≡ rest → text ∷ more ≡ pieces
-piece_is {text} {piece} {pieces} {rest} {more} cut same after = cc
-
--- a pool is no shorter than its front
-pub front_length : (front whole : List ℕ) → IsFront front whole → length front ≤ length whole
-front_length front whole h = omega (arith, ap length h.parts, length-append front h.rest)
-
--- the bytes of a field are within its limit, in each pool that is as long
-pub field_within : (most : ℕ) (pool piece : List ℕ) (read : Pooled) (size : ℕ) → IsPooled most pool piece read → length read.pool ≤ size → IsField most size read.span
-field_within most pool piece read size h long = record { in_pool = omega (arith, h.end, long); size = h.size }

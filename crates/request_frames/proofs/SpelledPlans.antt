@@ -1,39 +1,39 @@
 -- A text that was read is the text of its plan: each line adds its own text to that of the plan, and keeps the
 -- plan within its limits.
-use Rattle.std.proofs.Common.{◌≡◌, ℕ, ◌+◌, ◌<◌, ◌≤◌, ◌==◌, ◌&&◌, ◌||◌, not, nat_le, nat_lt, rules, Bool, true, false, List, [], ◌∷◌, ◌++◌, length, sum_by, codes, decimal, Option, Some, None, Result, Ok, refl, sym, ap, subst, ◌∙◌, append_assoc, append-nil, arith}
+use Rattle.std.proofs.Common.{◌≡◌, ℕ, ◌+◌, ◌<◌, ◌≤◌, ◌==◌, ◌&&◌, ◌||◌, not, nat_lt, Bool, true, false, List, [], ◌∷◌, ◌++◌, length, sum_by, codes, decimal, Option, Result, Ok, refl, sym, ap, subst, ◌∙◌, append_assoc, append-nil, arith}
 use Rattle.std.specs.Prelude.{IsSome, is_some}
 use Rattle.std.specs.List.{flat_map}
-use Rattle.std.proofs.lemmas.Bool.{eqb-true, leb-true, ltb-true, and_parts}
+use Rattle.std.proofs.lemmas.Bool.{eqb-true, ltb-true, and_parts}
 use Rattle.std.proofs.lemmas.List.{nil_from_length, length-append, length-take-le}
-use Rattle.std.proofs.lemmas.List.Concat.{flat_map-append}
 use Rattle.std.proofs.lemmas.List.Elements.{All-nil}
 use Rattle.call_places.specs.declared.spans.Item.{Item}
 use Rattle.field_text.specs.declared.reasons.Reason.{Reason}
-use Rattle.field_text.specs.declared.reasons.Reason.TheVariants as reasons
 use Rattle.field_text.specs.Cuts.{line_text}
-use Rattle.field_text.specs.Fields.{◌>>=◌}
-use Rattle.field_text.specs.Lines.{front}
-use Rattle.field_text.proofs.Spellings.{ok_same, step_ok, test_ok, next_ok, exactly_ok, IsFront, IsFront-same, IsFront-then}
+use Rattle.field_text.proofs.Spellings.{ok_same, step_ok, next_ok, exactly_ok, IsFront, IsFront-same, IsFront-then}
 use Rattle.field_text.proofs.SpelledLines.{IsSpelling, no_piece}
 use Rattle.batch_plans.specs.declared.plan.Plan.{Plan}
 use Rattle.batch_plans.specs.declared.plan.ContextLine.{ContextLine}
 use Rattle.batch_plans.specs.declared.plan.CallLine.{CallLine}
 use Rattle.batch_plans.specs.declared.plan.CallLine.TheVariants as calls
+use Rattle.key_frames.specs.declared.words.KeyWord.{KeyWord}
+use Rattle.key_frames.specs.Forms.{rand, key}
+use Rattle.key_frames.specs.KeyText.{seed_text, key_text}
+use Rattle.key_frames.proofs.SpelledFields.{piece_is, front_length}
+use Rattle.key_frames.proofs.SpelledKeys.{rand_ok, key_ok}
+use Rattle.key_frames.proofs.MoreLines.{last_more, before_none, texts_none, counted_ok, seed_given, no_seed}
 use Rattle.request_frames.specs.declared.words.LineWord.{LineWord}
 use Rattle.request_frames.specs.declared.words.LineWord.TheVariants.{Rand, Key, Context, Lane, Call}
-use Rattle.request_frames.specs.declared.words.KeyWord.{KeyWord}
 use Rattle.request_frames.specs.declared.words.ContextWord.{ContextWord}
 use Rattle.request_frames.specs.declared.words.CallWord.{CallWord}
 use Rattle.request_frames.specs.declared.words.CallWord.TheVariants.{Seal, Unseal, UnsealAll, Export}
 use Rattle.request_frames.specs.Words.{word_text, words_of, draws}
-use Rattle.request_frames.specs.Forms.{rand, key, share, context, name, seal, unseal, unseal_all, export}
-use Rattle.request_frames.specs.Batch.{is_bare, takes_keys, may_stand, at_most, add_call, counted, with_rand, with_key, with_context, with_lane, with_one, with_several, with_call, with_line, batch_lines}
+use Rattle.request_frames.specs.Forms.{share, context, name, seal, unseal, unseal_all, export}
+use Rattle.request_frames.specs.Batch.{is_bare, takes_keys, may_stand, add_call, counted, with_rand, with_key, with_context, with_lane, with_one, with_several, with_call, with_line, batch_lines}
 use Rattle.batch_plans.specs.Names.{line_count}
 use Rattle.batch_plans.specs.Limits.{most_input, most_keys, most_contexts, most_lanes, most_opening, most_items, most_exported, items_of, size_of, items_from, text_size, all_items, all_sizes, IsPlain}
-use Rattle.request_frames.specs.PlanText.{ctx_text, seed_text, key_text, context_text, added_pieces, item_pieces, call_text, lane_text}
+use Rattle.request_frames.specs.PlanText.{ctx_text, context_text, added_pieces, item_pieces, call_text, lane_text}
 use Rattle.request_frames.specs.Added.{with_added, with_retired, added_contexts, IsLive}
-use Rattle.request_frames.proofs.SpelledFields.{among_ok, name_ok, piece_is, front_length}
-use Rattle.request_frames.proofs.SpelledKeys.{rand_ok, key_ok}
+use Rattle.request_frames.proofs.SpelledFields.{among_ok, name_ok}
 use Rattle.request_frames.proofs.SpelledContexts.{context_ok, added_ok}
 use Rattle.request_frames.proofs.SpelledCalls.{IsCall, seal_ok, unseal_ok, export_ok, unseal_all_ok}
 use Rattle.request_frames.proofs.AddedContexts.{Begins, Begins-same, Begins-then, IsOrdered, line_contexts, all_lines, line_begins, line_live, longer, lines_stay, added_begins, named_here, names_lane, call_live, added_live}
@@ -60,22 +60,6 @@ pub record Adds (names : Bool) (plan new : Plan) (text : List ℕ) : Type 0 wher
 
 -- ---- one element more
 
--- at the end of a list that stands behind another text
-last_more : {A : Type 0} (front : List ℕ) (f : A → List ℕ) (xs : List A) (x : A) (line : List ℕ) → f x ≡ line → front ++ flat_map f (xs ++ x ∷ []) ≡ (front ++ flat_map f xs) ++ line
-last_more front f xs x line same =
-    ap (λ (more : List ℕ). front ++ more) (flat_map-append f xs (x ∷ []) ∙ ap (λ (more : List ℕ). flat_map f xs ++ more) (append-nil (f x) ∙ same))
-    ∙ sym (append_assoc front (flat_map f xs) line)
-
--- before a text that has no bytes
-before_none : (old new line after : List ℕ) → after ≡ [] → new ≡ old ++ line → new ++ after ≡ (old ++ after) ++ line
-before_none old new line after none same =
-    ap (λ (rest : List ℕ). new ++ rest) none ∙ append-nil new ∙ same
-    ∙ ap (λ (front : List ℕ). front ++ line) (sym (append-nil old) ∙ ap (λ (rest : List ℕ). old ++ rest) (sym none))
-
--- of an empty list
-texts_none : {A : Type 0} (f : A → List ℕ) (xs : List A) → (length xs == 0) ≡ true → flat_map f xs ≡ []
-texts_none f xs none = ap (flat_map f) (nil_from_length xs (eqb-true (length xs) 0 none))
-
 -- of the context lines of a plan that has no context
 lines_none : (whole : List ℕ) (plan : Plan) → (length plan.contexts == 0) ≡ true → flat_map (context_text whole) (line_contexts plan) ≡ []
 lines_none whole plan none =
@@ -94,23 +78,7 @@ calls_more whole items extra (lane ∷ next ∷ more) call some =
     ap (λ (rest : List ℕ). lane_text whole items extra lane ++ rest) (calls_more whole items extra (next ∷ more) call (omega arith))
     ∙ sym (append_assoc (lane_text whole items extra lane) (flat_map (lane_text whole items extra) (next ∷ more)) (call_text whole items extra call))
 
--- a count that was within its limit
-counted_ok : {B : Type 0} (limit n : ℕ) (then : ℕ → Result B Reason) (y : B) → (at_most limit n >>= then) ≡ Ok y → (n ≤ limit) × (then n ≡ Ok y)
-counted_ok limit n then y e =
-    let found = test_ok (nat_le n limit) n reasons.Count then y e in
-    (leb-true n limit found.0, found.1)
-
--- a line that draws stands where there is a seed
-seed_given : (draws : Bool) (seed : Option (List ℕ)) → (not draws || is_some seed) ≡ true → draws ≡ true → IsSome seed
-seed_given true (Some seed) e is = search rules
-seed_given true None e is = absurd cc
-seed_given false seed e is = absurd cc
-
 -- ---- what each line adds
-
-no_seed : (seed : Option (List ℕ)) → not (is_some seed) ≡ true → seed ≡ None
-no_seed None e = refl
-no_seed (Some seed) e = absurd cc
 
 rand_adds : (names : Bool) (plan new : Plan) (pieces : List (List ℕ)) → is_bare plan ≡ true → with_rand plan pieces ≡ Ok new → Adds names plan new (line_text (codes "rand" ∷ pieces))
 unfolding with_rand

@@ -13,10 +13,11 @@ use Rattle.field_text.proofs.Spellings.{joined, word_ok, IsFront-same}
 use Rattle.field_text.proofs.SpelledLines.{IsText, text_read, front_read}
 use Rattle.batch_plans.specs.declared.plan.Plan.{Plan}
 use Rattle.batch_plans.specs.declared.plan.ContextLine.{ContextLine}
+use Rattle.key_frames.specs.KeyText.{seed_text, key_text}
 use Rattle.request_frames.specs.Added.{added_contexts, IsLive}
 use Rattle.request_frames.specs.Batch.{ended, front_batch, header, batch_lines, batch, empty_plan, Spells}
 use Rattle.batch_plans.specs.Limits.{most_input, IsWithinLimits, IsPlain}
-use Rattle.request_frames.specs.PlanText.{seed_text, key_text, context_text, lane_text, text_of}
+use Rattle.request_frames.specs.PlanText.{context_text, lane_text, text_of}
 use Rattle.request_frames.proofs.Growth as growth
 use Rattle.request_frames.proofs.AddedContexts.{Begins-same, IsOrdered, line_contexts}
 use Rattle.request_frames.proofs.SpelledPlans.{body, Adds, spelling}

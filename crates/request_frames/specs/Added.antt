@@ -12,8 +12,9 @@ use Rattle.batch_plans.specs.declared.plan.CallLine.{CallLine}
 use Rattle.batch_plans.specs.declared.plan.CallLine.TheVariants.{Seal, Unseal, UnsealAll, Export, Add, Retire}
 use Rattle.batch_plans.specs.Limits.{most_contexts}
 use Rattle.batch_plans.specs.Names.{line_count}
+use Rattle.key_frames.specs.Forms.{at_most}
 use Rattle.request_frames.specs.Forms.{share, name}
-use Rattle.request_frames.specs.Batch.{at_most, counted}
+use Rattle.request_frames.specs.Batch.{counted}
 
 -- `add` and the fields of `share`: a context behind all others. Its name is the next number
 unfoldable pub with_added : Plan → List (List ℕ) → Result Plan Reason

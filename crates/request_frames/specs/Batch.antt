@@ -1,7 +1,7 @@
 -- The batch text: which bytes spell which plan, and which line of all other bytes is the first bad
 -- one, with its first reason. How a text of lines is judged says `Lines.antt` of field_text; here
 -- stands which lines there are, and what each adds to the plan of the lines before it.
-use Rattle.std.specs.Prelude.{◌≡◌, ℕ, ◌+◌, ◌-◌, ◌==◌, ◌&&◌, ◌||◌, not, nat_lt, nat_le, Bool, false, true, List, [], ◌∷◌, ◌++◌, length, Some, None, is_some, codes, Result, Ok, Err, if◌then◌else◌}
+use Rattle.std.specs.Prelude.{◌≡◌, ℕ, ◌+◌, ◌-◌, ◌==◌, ◌&&◌, ◌||◌, not, nat_lt, Bool, false, true, List, [], ◌∷◌, ◌++◌, length, Some, None, is_some, codes, Result, Ok, Err, if◌then◌else◌}
 use Rattle.std.specs.List.{join_with_byte}
 use Rattle.std.specs.Str.{bytes_eq}
 use Rattle.field_text.specs.declared.reasons.Reason.{Reason}
@@ -15,14 +15,15 @@ use Rattle.field_text.specs.declared.faults.ReadBatchFault.TheVariants as faults
 use Rattle.batch_plans.specs.declared.plan.Plan.{Plan}
 use Rattle.batch_plans.specs.declared.plan.CallLine.{CallLine}
 use Rattle.batch_plans.specs.declared.plan.CallLine.TheVariants as calls
+use Rattle.key_frames.specs.declared.words.KeyWord.{KeyWord}
+use Rattle.key_frames.specs.Forms.{rand, key, at_most}
 use Rattle.request_frames.specs.declared.words.LineWord.{LineWord}
 use Rattle.request_frames.specs.declared.words.LineWord.TheVariants.{Rand, Key, Context, Lane, Call}
-use Rattle.request_frames.specs.declared.words.KeyWord.{KeyWord}
 use Rattle.request_frames.specs.declared.words.ContextWord.{ContextWord}
 use Rattle.request_frames.specs.declared.words.CallWord.{CallWord}
 use Rattle.request_frames.specs.declared.words.CallWord.TheVariants.{Seal, Unseal, UnsealAll, Export}
 use Rattle.request_frames.specs.Words.{line_word, draws}
-use Rattle.request_frames.specs.Forms.{rand, key, context, seal, unseal, unseal_all, export}
+use Rattle.request_frames.specs.Forms.{context, seal, unseal, unseal_all, export}
 use Rattle.batch_plans.specs.Limits.{most_input, most_keys, most_contexts, most_lanes, most_opening, most_items, most_exported, items_of, size_of, all_items, all_sizes}
 
 -- ---- order
@@ -49,10 +50,6 @@ abbrev pub may_stand : LineWord → Plan → Bool
 may_stand word plan = has_place word plan && (not (draws word) || is_some plan.seed)
 
 -- ---- what a line adds to the plan of the lines before it
-
--- a quantity that is not above its limit
-abbrev pub at_most : ℕ → ℕ → Result ℕ Reason
-at_most limit n = if nat_le n limit then Ok n else Err reasons.Count
 
 -- a call at the end of the last lane
 abbrev pub add_call : List (List CallLine) → CallLine → List (List CallLine)

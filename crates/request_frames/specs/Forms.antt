@@ -1,73 +1,23 @@
--- The lines of a batch without their first word: what each one spells. The bytes of each bytes
+-- The lines of contexts and of calls without their first word: what each one spells. The bytes of each bytes
 -- field go to the end of the pool in turn.
 use Rattle.std.specs.Prelude.{ℕ, ◌+◌, ◌%◌, ◌==◌, ◌&&◌, nat_lt, Bool, false, List, [], ◌∷◌, ◌++◌, length, drop, Result, Ok, Err, if◌then◌else◌}
-use Rattle.call_places.specs.declared.spans.Span.{Span}
 use Rattle.call_places.specs.declared.spans.Item.{Item}
 use Rattle.hkdf_labelled.specs.declared.suites.Kdf.{Kdf}
 use Rattle.hkdf_labelled.specs.declared.suites.Aead.{Aead}
 use Rattle.field_text.specs.declared.reasons.Reason.{Reason}
-use Rattle.field_text.specs.declared.reasons.Reason.TheVariants.{Fields, Number, Size}
+use Rattle.field_text.specs.declared.reasons.Reason.TheVariants.{Fields, Number}
 use Rattle.field_text.specs.Fields.{◌>>=◌, next, exactly, number, bytes}
-use Rattle.batch_plans.specs.declared.plan.KeyLine.{KeyLine}
-use Rattle.batch_plans.specs.declared.plan.KeyLine.TheVariants as keys
-use Rattle.batch_plans.specs.declared.plan.EncField.{EncField}
-use Rattle.batch_plans.specs.declared.plan.EncField.TheVariants.{Bytes, Of}
 use Rattle.batch_plans.specs.declared.plan.ContextKind.{ContextKind}
 use Rattle.batch_plans.specs.declared.plan.ContextKind.TheVariants as kinds
 use Rattle.batch_plans.specs.declared.plan.ContextLine.{ContextLine}
 use Rattle.batch_plans.specs.declared.plan.CallLine.{CallLine}
 use Rattle.batch_plans.specs.declared.plan.CallLine.TheVariants.{Seal, Unseal, Export}
-use Rattle.request_frames.specs.declared.words.KeyWord.{KeyWord}
-use Rattle.request_frames.specs.declared.words.KeyWord.TheVariants.{Generate, Secret, Peer, Generate857, Secret857, Peer857}
+use Rattle.key_frames.specs.Words.{kdf}
+use Rattle.key_frames.specs.Forms.{message}
 use Rattle.request_frames.specs.declared.words.ContextWord.{ContextWord}
 use Rattle.request_frames.specs.declared.words.ContextWord.TheVariants.{Share, Send, Recv}
-use Rattle.request_frames.specs.Words.{role, mode, kdf, aead}
+use Rattle.request_frames.specs.Words.{role, mode, aead}
 use Rattle.batch_plans.specs.Limits.{most_field, most_plaintext, most_ciphertext, first_name}
-
--- ---- the seed
-
--- H64: a bytes field of exactly 32 bytes
-abbrev pub seed_field : List ℕ → Result (List ℕ) Reason
-seed_field piece = do
-  read ← bytes 32 [] piece
-  if length read.pool == 32 then Ok read.pool else Err Size
-
--- `rand H64`
-unfoldable pub rand : List (List ℕ) → Result (List ℕ) Reason
-rand pieces = do
-  pieces ← exactly 1 pieces
-  (seed, pieces) ← next seed_field pieces
-  Ok seed
-
--- ---- key lines
-
--- HEX alone, the bytes of a key
-unfoldable pub key_bytes : List ℕ → List (List ℕ) → Result (Span × List ℕ) Reason
-key_bytes pool pieces = do
-  pieces ← exactly 1 pieces
-  (read, pieces) ← next (bytes most_field pool) pieces
-  Ok (read.span, read.pool)
-
--- `keygen`, `secret HEX`, `peer HEX`, and the same of sntrup857
-abbrev pub key : KeyWord → List ℕ → List (List ℕ) → Result (KeyLine × List ℕ) Reason
-key Generate pool pieces = do
-  pieces ← exactly 0 pieces
-  Ok (keys.Generate, pool)
-key Secret pool pieces = do
-  (bytes, pool) ← key_bytes pool pieces
-  Ok (keys.Secret bytes, pool)
-key Peer pool pieces = do
-  (bytes, pool) ← key_bytes pool pieces
-  Ok (keys.Peer bytes, pool)
-key Generate857 pool pieces = do
-  pieces ← exactly 0 pieces
-  Ok (keys.Generate857, pool)
-key Secret857 pool pieces = do
-  (bytes, pool) ← key_bytes pool pieces
-  Ok (keys.Secret857 bytes, pool)
-key Peer857 pool pieces = do
-  (bytes, pool) ← key_bytes pool pieces
-  Ok (keys.Peer857 bytes, pool)
 
 -- ---- context lines
 
@@ -114,27 +64,6 @@ send pool pieces = do
   (key, pieces) ← next (number 0 65535) pieces
   schedule (kinds.Send key) kdf aead pool pieces
 
--- a piece that begins with `@`
-abbrev pub is_reference : List ℕ → Bool
-is_reference [] = false
-is_reference (first ∷ more) = first == 64
-
--- `@` and the number of a context line
-abbrev pub reference : List ℕ → List ℕ → Result (EncField × List ℕ) Reason
-reference pool piece = do
-  number ← number 0 65535 (drop 1 piece)
-  Ok (Of number, pool)
-
--- the bytes of an encapsulation
-abbrev pub enc_bytes : List ℕ → List ℕ → Result (EncField × List ℕ) Reason
-enc_bytes pool piece = do
-  read ← bytes most_field pool piece
-  Ok (Bytes read.span, read.pool)
-
--- ENC
-abbrev pub enc : List ℕ → List ℕ → Result (EncField × List ℕ) Reason
-enc pool piece = if is_reference piece then reference pool piece else enc_bytes pool piece
-
 -- `recv KDF AEAD KEY ENC MODE INFO PSK PSKID LIMIT`
 unfoldable pub recv : List ℕ → List (List ℕ) → Result (ContextLine × List ℕ) Reason
 recv pool pieces = do
@@ -142,7 +71,7 @@ recv pool pieces = do
   (kdf, pieces) ← next kdf pieces
   (aead, pieces) ← next aead pieces
   (key, pieces) ← next (number 0 65535) pieces
-  ((enc, pool), pieces) ← next (enc pool) pieces
+  ((enc, pool), pieces) ← next (message most_field pool) pieces
   schedule (kinds.Recv key enc) kdf aead pool pieces
 
 -- a context line of each word

@@ -3,8 +3,6 @@
 -- hex digits, `-` for none. A span names bytes of the plan's pool.
 use Rattle.std.specs.Prelude.{ℕ, ◌-◌, nat_lt, if◌then◌else◌, List, [], ◌∷◌, ◌++◌, take, slice_get, Option, Some, None, codes, decimal}
 use Rattle.std.specs.List.{flat_map}
-use Rattle.call_places.specs.Spans.{span_bytes}
-use Rattle.call_places.specs.declared.spans.Span.{Span}
 use Rattle.call_places.specs.declared.spans.Item.{Item}
 use Rattle.hkdf_labelled.specs.Suites.{kdf_id, aead_id}
 use Rattle.key_schedule.specs.declared.modes.Role.{Role}
@@ -12,19 +10,15 @@ use Rattle.key_schedule.specs.declared.modes.Role.TheVariants.{Sender, Recipient
 use Rattle.key_schedule.specs.declared.modes.Mode.{Mode}
 use Rattle.key_schedule.specs.declared.modes.Mode.TheVariants.{Base, Psk}
 use Rattle.field_text.specs.Cuts.{line_text}
-use Rattle.field_text.specs.Printing.{hex_text}
-use Rattle.batch_plans.specs.declared.plan.KeyLine.{KeyLine}
-use Rattle.batch_plans.specs.declared.plan.KeyLine.TheVariants.{Generate, Secret, Peer, Generate857, Secret857, Peer857}
 use Rattle.batch_plans.specs.declared.plan.ContextKind.{ContextKind}
 use Rattle.batch_plans.specs.declared.plan.ContextKind.TheVariants.{Share, Send, Recv}
-use Rattle.batch_plans.specs.declared.plan.EncField.{EncField}
-use Rattle.batch_plans.specs.declared.plan.EncField.TheVariants.{Bytes, Of}
 use Rattle.batch_plans.specs.declared.plan.ContextLine.{ContextLine}
 use Rattle.batch_plans.specs.declared.plan.CallLine.{CallLine}
 use Rattle.batch_plans.specs.declared.plan.CallLine.TheVariants.{Seal, Unseal, UnsealAll, Export, Add, Retire}
 use Rattle.batch_plans.specs.declared.plan.Plan.{Plan}
 use Rattle.batch_plans.specs.Limits.{first_name, items_from}
 use Rattle.batch_plans.specs.Names.{line_count}
+use Rattle.key_frames.specs.KeyText.{span_text, enc_text, seed_text, key_text}
 use Rattle.request_frames.specs.Added.{added_contexts}
 
 -- ---- pieces
@@ -38,24 +32,6 @@ role_word Recipient = codes "recv"
 abbrev pub mode_word : Mode → List ℕ
 mode_word Base = codes "base"
 mode_word Psk = codes "psk"
-
--- a bytes field
-abbrev pub span_text : List ℕ → Span → List ℕ
-span_text pool span = hex_text (span_bytes pool span)
-
--- ENC: `@N`, or a bytes field
-abbrev pub enc_text : List ℕ → EncField → List ℕ
-enc_text pool (Bytes span) = span_text pool span
-enc_text pool (Of number) = codes "@" ++ decimal number
-
--- of a key line
-abbrev pub key_pieces : List ℕ → KeyLine → List (List ℕ)
-key_pieces pool Generate = codes "keygen" ∷ []
-key_pieces pool (Secret bytes) = codes "secret" ∷ span_text pool bytes ∷ []
-key_pieces pool (Peer bytes) = codes "peer" ∷ span_text pool bytes ∷ []
-key_pieces pool Generate857 = codes "keygen857" ∷ []
-key_pieces pool (Secret857 bytes) = codes "secret857" ∷ span_text pool bytes ∷ []
-key_pieces pool (Peer857 bytes) = codes "peer857" ∷ span_text pool bytes ∷ []
 
 -- `MODE INFO PSK PSKID LIMIT`
 abbrev pub schedule_pieces : List ℕ → ContextLine → List (List ℕ)
@@ -129,15 +105,6 @@ call_pieces pool items added (Add name) = added_pieces pool (slice_get added nam
 call_pieces pool items added (Retire name) = codes "retire" ∷ (codes "+" ++ decimal name) ∷ []
 
 -- ---- lines
-
--- `rand H64`, where there is a seed
-abbrev pub seed_text : Option (List ℕ) → List ℕ
-seed_text None = []
-seed_text (Some seed) = line_text (codes "rand" ∷ hex_text seed ∷ [])
-
--- a key line
-abbrev pub key_text : List ℕ → KeyLine → List ℕ
-key_text pool key = line_text (key_pieces pool key)
 
 -- a context line
 abbrev pub context_text : List ℕ → ContextLine → List ℕ

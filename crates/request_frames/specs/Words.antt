@@ -1,8 +1,6 @@
 -- The pieces of a line that are one of a few words or numbers.
 use Rattle.std.specs.Prelude.{ℕ, ◌==◌, Bool, true, false, List, [], ◌∷◌, ◌++◌, codes, Result, Ok, Err, if◌then◌else◌}
 use Rattle.std.specs.Str.{bytes_eq}
-use Rattle.hkdf_labelled.specs.declared.suites.Kdf.{Kdf}
-use Rattle.hkdf_labelled.specs.declared.suites.Kdf.TheVariants.{Sha256, Sha384, Sha512}
 use Rattle.hkdf_labelled.specs.declared.suites.Aead.{Aead}
 use Rattle.hkdf_labelled.specs.declared.suites.Aead.TheVariants.{Aes128, Aes256, ExportOnly}
 use Rattle.key_schedule.specs.declared.modes.Role.{Role}
@@ -12,9 +10,10 @@ use Rattle.key_schedule.specs.declared.modes.Mode.TheVariants.{Base, Psk}
 use Rattle.field_text.specs.declared.reasons.Reason.{Reason}
 use Rattle.field_text.specs.declared.reasons.Reason.TheVariants.{Word, Range}
 use Rattle.field_text.specs.Fields.{◌>>=◌, number}
+use Rattle.key_frames.specs.declared.words.KeyWord.TheVariants.{Generate, Secret, Peer, Generate857, Secret857, Peer857}
+use Rattle.key_frames.specs.Words.{key_word_text, key_draws}
 use Rattle.request_frames.specs.declared.words.LineWord.{LineWord}
 use Rattle.request_frames.specs.declared.words.LineWord.TheVariants.{Rand, Key, Context, Lane, Call}
-use Rattle.request_frames.specs.declared.words.KeyWord.TheVariants.{Generate, Secret, Peer, Generate857, Secret857, Peer857}
 use Rattle.request_frames.specs.declared.words.ContextWord.TheVariants.{Share, Send, Recv}
 use Rattle.request_frames.specs.declared.words.CallWord.TheVariants.{Seal, Unseal, UnsealAll, Export}
 
@@ -23,12 +22,7 @@ use Rattle.request_frames.specs.declared.words.CallWord.TheVariants.{Seal, Unsea
 -- how each word is spelled
 abbrev pub word_text : LineWord → List ℕ
 word_text Rand = codes "rand"
-word_text (Key Generate) = codes "keygen"
-word_text (Key Secret) = codes "secret"
-word_text (Key Peer) = codes "peer"
-word_text (Key Generate857) = codes "keygen857"
-word_text (Key Secret857) = codes "secret857"
-word_text (Key Peer857) = codes "peer857"
+word_text (Key word) = key_word_text word
 word_text (Context Share) = codes "share"
 word_text (Context Send) = codes "send"
 word_text (Context Recv) = codes "recv"
@@ -74,8 +68,7 @@ line_word version piece = word_among (words_of version) piece
 
 -- the lines that stand only where there is a seed
 abbrev pub draws : LineWord → Bool
-draws (Key Generate) = true
-draws (Key Generate857) = true
+draws (Key word) = key_draws word
 draws (Context Send) = true
 draws other = false
 
@@ -94,12 +87,6 @@ mode piece =
     if bytes_eq piece (codes "base") then Ok Base
     else if bytes_eq piece (codes "psk") then Ok Psk
     else Err Word
-
--- KDF: kdf_id (RFC 9180, 7.2)
-abbrev pub kdf : List ℕ → Result Kdf Reason
-kdf piece = do
-  id ← number 1 3 piece
-  Ok (if id == 1 then Sha256 else if id == 2 then Sha384 else Sha512)
 
 -- AEAD: aead_id (RFC 9180, 7.3), without ChaCha20Poly1305
 abbrev pub aead : List ℕ → Result Aead Reason

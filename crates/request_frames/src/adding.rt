@@ -12,13 +12,14 @@ ghost use Rattle.request_frames.specs.Added.{with_added as added_of, with_retire
 ghost use Rattle.request_frames.specs.Drafts.{plan_of, pool_size, IsKept};
 
 use crate::draft::BatchDraft;
-use crate::words::{CallWord, ContextWord, KeyWord, LineWord};
-use crate::{call_lines, contexts, key_lines, names};
+use crate::words::{CallWord, ContextWord, LineWord};
+use crate::{call_lines, contexts, names};
 use batch_plans::limits::{
     MOST_CONTEXTS, MOST_EXPORTED, MOST_ITEMS, MOST_KEYS, MOST_LANES, MOST_OPENING,
 };
 use batch_plans::{CallLine, PlainList, items_of};
 use field_text::{Pieces, Reason, Stop};
+use key_frames::{KeyWord, read_key, read_rand};
 use std::mem;
 
 // The LEN of a call.
@@ -71,7 +72,7 @@ impl BatchDraft {
         ensures size { OnOk result
             (vec_len self.new.pool ≤ vec_len self.old.pool + sum_by length fields.old) }
     {
-        let seed = key_lines::rand(self.alloc, fields)?;
+        let seed = read_rand(self.alloc, fields)?;
         self.seed = Some(seed);
         Ok(())
     }
@@ -87,7 +88,7 @@ impl BatchDraft {
         ensures size { OnOk result
             (vec_len self.new.pool ≤ vec_len self.old.pool + sum_by length fields.old) }
     {
-        let key = key_lines::key(word, &mut self.pool, fields)?;
+        let key = read_key(word, &mut self.pool, fields)?;
         if self.keys.len() >= MOST_KEYS {
             return Err(Stop::Bad(Reason::Count));
         }

@@ -1,17 +1,17 @@
 //! What a context line spells, by its form.
 
 ghost use Rattle.std.specs.Prelude.{◌≡◌, ◌+◌, ◌<◌, ◌≤◌, ◌^◌, length, vec_len, sum_by, OnOk};
-ghost use Rattle.field_text.specs.Fields.{Gives, next};
+ghost use Rattle.field_text.specs.Fields.{Gives};
 ghost use Rattle.request_frames.specs.Forms.{schedule as schedule_of, share as share_of};
-ghost use Rattle.request_frames.specs.Forms.{send as send_of, recv as recv_of, enc as enc_of};
-ghost use Rattle.request_frames.specs.Forms.{context as context_of, is_reference as reference_test};
+ghost use Rattle.request_frames.specs.Forms.{send as send_of, recv as recv_of, context as context_of};
 
 use crate::words;
 use crate::words::ContextWord;
 use batch_plans::limits::MOST_FIELD;
-use batch_plans::{ContextKind, ContextLine, EncField};
-use field_text::{Pieces, Stop, read_bytes, read_number};
+use batch_plans::{ContextKind, ContextLine};
+use field_text::{Pieces, Stop};
 use hkdf_labelled::{Aead, Kdf};
+use key_frames::{read_kdf, read_message};
 
 // `MODE INFO PSK PSKID LIMIT`, behind what the line says before.
 #[tactic(auto, unfolding(crate::specs::Forms::schedule))]
@@ -55,7 +55,7 @@ fn share(pool: &mut Vec<u8>, fields: &mut Pieces) -> Result<ContextLine, Stop>
     fields.exactly(10)?;
     let role = words::role(fields)?;
     let kem = fields.number(0, 65_535)? as u16;
-    let kdf = words::kdf(fields)?;
+    let kdf = read_kdf(fields)?;
     let aead = words::aead(fields)?;
     let secret = fields.bytes(pool, MOST_FIELD)?;
     let kind = ContextKind::Share { role, kem, secret };
@@ -71,45 +71,10 @@ fn send(pool: &mut Vec<u8>, fields: &mut Pieces) -> Result<ContextLine, Stop>
     ensures size { OnOk result (vec_len pool.new ≤ vec_len pool.old + sum_by length fields.old) }
 {
     fields.exactly(8)?;
-    let kdf = words::kdf(fields)?;
+    let kdf = read_kdf(fields)?;
     let aead = words::aead(fields)?;
     let key = fields.number(0, 65_535)? as u32;
     schedule(ContextKind::Send { key }, kdf, aead, pool, fields)
-}
-
-fn is_reference(piece: &[u8]) -> bool
-    ensures { result ≡ reference_test piece.now }
-{
-    match piece {
-        [] => false,
-        [first, ..] => *first == b'@',
-    }
-}
-
-fn enc_field(pool: &mut Vec<u8>, piece: &[u8]) -> Result<EncField, Stop>
-    requires room { vec_len pool.old + length piece.now < 2 ^ 32 }
-    ensures read { Gives (λ enc. (enc, pool.new.items)) result (enc_of pool.old.items piece.now) }
-    ensures size { OnOk result (vec_len pool.new ≤ vec_len pool.old + length piece.now) }
-{
-    if is_reference(piece) {
-        let number = read_number(&piece[1..], 0, 65_535)?;
-        return Ok(EncField::Of(number as u32));
-    }
-    let bytes = read_bytes(pool, piece, MOST_FIELD)?;
-    Ok(EncField::Bytes(bytes))
-}
-
-// The next piece as ENC.
-#[tactic(auto, unfolding(field_text::specs::Fields::next))]
-fn enc(pool: &mut Vec<u8>, fields: &mut Pieces) -> Result<EncField, Stop>
-    requires room { vec_len pool.old + sum_by length fields.old < 2 ^ 32 }
-    ensures read { Gives (λ enc. ((enc, pool.new.items), fields.new)) result
-        (next (enc_of pool.old.items) fields.old) }
-    ensures size { OnOk result (vec_len pool.new + sum_by length fields.new
-        ≤ vec_len pool.old + sum_by length fields.old) }
-{
-    let piece = fields.piece()?;
-    enc_field(pool, piece)
 }
 
 // `recv KDF AEAD KEY ENC MODE INFO PSK PSKID LIMIT`
@@ -121,10 +86,10 @@ fn recv(pool: &mut Vec<u8>, fields: &mut Pieces) -> Result<ContextLine, Stop>
     ensures size { OnOk result (vec_len pool.new ≤ vec_len pool.old + sum_by length fields.old) }
 {
     fields.exactly(9)?;
-    let kdf = words::kdf(fields)?;
+    let kdf = read_kdf(fields)?;
     let aead = words::aead(fields)?;
     let key = fields.number(0, 65_535)? as u32;
-    let enc = enc(pool, fields)?;
+    let enc = read_message(pool, fields, MOST_FIELD)?;
     schedule(ContextKind::Recv { key, enc }, kdf, aead, pool, fields)
 }
 

@@ -13,40 +13,24 @@
 //! of it where the sink failed; [`print_setup`] and [`print_reply`] do the same for parts of it. For
 //! replies of other texts the parts can be put into a buffer: [`put_setup`],
 //! [`put_replies`], [`put_guesses`], [`put_journals`].
-//! The plan, the answers and the calls on them are those of batch_plans, and are given out again.
+//! The plan, the answers and the calls on them are those of batch_plans, the lines of keys and their
+//! replies those of key_frames, and are given out again.
 //!
 //! What a call does that is served is not known here, nor whether a context's psk inputs go with
 //! its mode (RFC 9180, 5.1).
 #![tactic(auto)]
 
 mod adding;
-#[cfg(test)]
-mod bad_set_ups;
-#[cfg(test)]
-mod bad_texts;
 mod call_lines;
 mod contexts;
 mod draft;
 mod fields;
-mod key_lines;
 mod lane_replies;
-#[cfg(test)]
-mod long_texts;
 mod names;
-#[cfg(test)]
-mod plan_tests;
 mod printing;
-#[cfg(test)]
-mod printing_tests;
 mod reading;
-#[cfg(test)]
-mod reading_tests;
 mod reply_lines;
-#[cfg(test)]
-mod reply_text_tests;
 mod reply_words;
-#[cfg(test)]
-mod room_tests;
 mod spelling;
 mod words;
 
@@ -59,6 +43,7 @@ pub use batch_plans::{
 pub use draft::BatchDraft;
 pub use field_text::{BadBatch, Printed, ReadBatchFault, Reason};
 pub use fields::{FieldFault, read_bytes, read_number};
+pub use key_frames::KeyWord;
 pub use lane_replies::{guesses_of, put_guesses, put_replies, reply_count};
 pub use printing::{
     print_answers, print_bad, print_reply, print_setup, put_journals, put_marks, put_setup,
@@ -66,4 +51,4 @@ pub use printing::{
 };
 pub use reading::{fronts_are_batches, one_reading, read_batch, read_front};
 pub use spelling::one_spelling;
-pub use words::{CallWord, ContextWord, KeyWord, LineWord, line_word};
+pub use words::{CallWord, ContextWord, LineWord, line_word};

@@ -6,18 +6,19 @@ ghost use Rattle.std.specs.Io.KnownBytes.{Appends};
 ghost use Rattle.batch_io.specs.Outside.{Rose};
 ghost use Rattle.batch_plans.specs.Replies.{IsInRange, IsPrintable};
 ghost use Rattle.field_text.specs.Printing.{Puts, AppendsPrefix};
-ghost use Rattle.reply_texts.specs.Lines.{key_line, context_line, reply_line};
+ghost use Rattle.reply_texts.specs.Lines.{context_line, reply_line};
 ghost use Rattle.reply_texts.specs.ReplyText.{numbered, all_lines, setup_text, version_line};
 ghost use Rattle.reply_texts.specs.ReplyText.{answered_lines, lanes_lines, lane_lines};
 ghost use Rattle.reply_texts.specs.ReplyText.{has_stamps, mark_line, journal_lines};
 ghost use Rattle.reply_texts.specs.ReplyText.{answers_text, bad_text, IsAnswered};
 
 use crate::lane_replies::put_calls;
-use crate::reply_lines::{put_bad, put_context_line, put_key_line, put_mark, put_reply};
+use crate::reply_lines::{put_bad, put_context_line, put_mark, put_reply};
 use batch_io::Sink;
 use batch_plans::{Answers, CallLine, ContextReply, KeyReply, LaneAnswers, PlainList, Plan, Reply};
 use call_places::Mark;
 use field_text::{BadBatch, Buffer, Printed};
+use key_frames::put_keys;
 
 /// Writes the reply to a batch: its keys, its contexts, its lanes and its journals.
 ///
@@ -144,15 +145,6 @@ pub fn put_setup<K: Sink>(
 {
     put_keys(out, sink, keys);
     put_contexts(out, sink, contexts)
-}
-
-fn put_keys<K: Sink>(out: &mut Buffer, sink: &mut K, keys: &[KeyReply])
-    ensures { Puts K.written K.faults sink.old sink.new out.old out.new
-        (concat (numbered key_line 0 keys.now)) }
-{
-    'keys: for (key, reply) in keys.iter().enumerate() {
-        put_key_line(out, sink, key as u64, reply);
-    }
 }
 
 fn put_contexts<K: Sink>(out: &mut Buffer, sink: &mut K, contexts: &[ContextReply])

@@ -4,49 +4,15 @@ ghost use Rattle.std.specs.Prelude.{◌≡◌, length};
 ghost use Rattle.batch_plans.specs.Replies.{IsInRange};
 ghost use Rattle.call_places.specs.Spans.{span_bytes};
 ghost use Rattle.field_text.specs.Printing.{Puts};
-ghost use Rattle.reply_texts.specs.Lines.{key_words, key_line, context_words, context_line};
+ghost use Rattle.reply_texts.specs.Lines.{context_words, context_line};
 ghost use Rattle.reply_texts.specs.Lines.{served_line, reply_line};
 ghost use Rattle.reply_texts.specs.ReplyText.{guess_line, stamp_words, mark_line, bad_text};
 
-use crate::reply_words::{
-    word_of_call_refusal, word_of_context_refusal, word_of_key_refusal, word_of_reason,
-};
+use crate::reply_words::{word_of_call_refusal, word_of_context_refusal, word_of_reason};
 use batch_io::Sink;
-use batch_plans::{Batch, ContextReply, KeyReply, Reply};
+use batch_plans::{Batch, ContextReply, Reply};
 use call_places::Mark;
 use field_text::{BadBatch, Buffer};
-
-pub(crate) fn put_key_line<K: Sink>(out: &mut Buffer, sink: &mut K, key: u64, reply: &KeyReply)
-    ensures { Puts K.written K.faults sink.old sink.new out.old out.new (key_line key reply.now) }
-{
-    out.put_text(sink, b"key ");
-    out.put_number(sink, key);
-    out.put_text(sink, b" ");
-    put_key_words(out, sink, reply);
-    out.put_text(sink, b"\n")
-}
-
-fn put_key_words<K: Sink>(out: &mut Buffer, sink: &mut K, reply: &KeyReply)
-    ensures { Puts K.written K.faults sink.old sink.new out.old out.new (key_words reply.now) }
-{
-    match reply {
-        KeyReply::Generated { public, secret } => {
-            out.put_text(sink, b"generated ");
-            out.put_hex(sink, public.as_slice());
-            out.put_text(sink, b" ");
-            out.put_hex(sink, secret.as_slice())
-        }
-        KeyReply::Secret { public } => {
-            out.put_text(sink, b"secret ");
-            out.put_hex(sink, public.as_slice())
-        }
-        KeyReply::Peer => out.put_text(sink, b"peer"),
-        KeyReply::Refused(refusal) => {
-            out.put_text(sink, b"refused ");
-            out.put_text(sink, word_of_key_refusal(*refusal))
-        }
-    }
-}
 
 pub(crate) fn put_context_line<K: Sink>(
     out: &mut Buffer,

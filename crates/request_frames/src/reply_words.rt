@@ -1,22 +1,10 @@
 //! The words of refusals and reasons in the reply text.
 
 ghost use Rattle.std.specs.Prelude.{◌≡◌};
-ghost use Rattle.reply_texts.specs.Words.{key_refusal_word, context_refusal_word};
-ghost use Rattle.reply_texts.specs.Words.{call_refusal_word, reason_word};
+ghost use Rattle.reply_texts.specs.Words.{context_refusal_word, call_refusal_word, reason_word};
 
-use batch_plans::{CallRefusal, ContextRefusal, KeyRefusal};
+use batch_plans::{CallRefusal, ContextRefusal};
 use field_text::Reason;
-
-pub(crate) fn word_of_key_refusal(refusal: KeyRefusal) -> &'static [u8]
-    ensures { result.now ≡ key_refusal_word refusal }
-{
-    match refusal {
-        KeyRefusal::Exhausted => b"exhausted",
-        KeyRefusal::NoInverse => b"noinverse",
-        KeyRefusal::Length => b"length",
-        KeyRefusal::Form => b"form",
-    }
-}
 
 pub(crate) fn word_of_context_refusal(refusal: ContextRefusal) -> &'static [u8]
     ensures { result.now ≡ context_refusal_word refusal }

@@ -4,10 +4,11 @@ ghost use Rattle.std.specs.Prelude.{◌≡◌, ◌+◌, ◌++◌, ◌≤◌, len
 ghost use Rattle.field_text.specs.Fields.{Reads, next};
 ghost use Rattle.request_frames.specs.Words.{set_up_words, lane_words, word_among, draws};
 ghost use Rattle.request_frames.specs.Words.{line_word as line_word_of, role as role_of};
-ghost use Rattle.request_frames.specs.Words.{mode as mode_of, kdf as kdf_field, aead as aead_field};
+ghost use Rattle.request_frames.specs.Words.{mode as mode_of, aead as aead_field};
 
 use field_text::{Pieces, Reason, read_number};
-use hkdf_labelled::{Aead, Kdf};
+use hkdf_labelled::Aead;
+use key_frames::KeyWord;
 use key_schedule::{Mode, Role};
 
 /// The first word of a line, other than `end`, by what the line is for.
@@ -18,16 +19,6 @@ pub enum LineWord {
     Context(ContextWord),
     Lane,
     Call(CallWord),
-}
-
-#[derive(Clone, Copy, Debug, PartialEq, Eq)]
-pub enum KeyWord {
-    Generate,
-    Secret,
-    Peer,
-    Generate857,
-    Secret857,
-    Peer857,
 }
 
 #[derive(Clone, Copy, Debug, PartialEq, Eq)]
@@ -50,11 +41,11 @@ impl LineWord {
     pub fn draws(self) -> bool
         ensures { result ≡ draws self }
     {
-        matches!(
-            self,
-            LineWord::Key(KeyWord::Generate | KeyWord::Generate857)
-                | LineWord::Context(ContextWord::Send)
-        )
+        match self {
+            LineWord::Key(word) => word.draws(),
+            LineWord::Context(word) => word == ContextWord::Send,
+            _ => false,
+        }
     }
 }
 
@@ -146,26 +137,6 @@ pub fn mode(fields: &mut Pieces) -> Result<Mode, Reason>
     } else {
         Err(Reason::Word)
     }
-}
-
-fn kdf_of(piece: &[u8]) -> Result<Kdf, Reason>
-    ensures { Reads (λ kdf. kdf) result (kdf_field piece.now) }
-{
-    match read_number(piece, 1, 3)? {
-        1 => Ok(Kdf::Sha256),
-        2 => Ok(Kdf::Sha384),
-        _ => Ok(Kdf::Sha512),
-    }
-}
-
-/// The next piece as KDF: its id in RFC 9180, 7.2.
-#[tactic(auto, unfolding(field_text::specs::Fields::next))]
-pub fn kdf(fields: &mut Pieces) -> Result<Kdf, Reason>
-    ensures read { Reads (λ kdf. (kdf, fields.new)) result (next kdf_field fields.old) }
-    ensures size { OnOk result (sum_by length fields.new ≤ sum_by length fields.old) }
-{
-    let piece = fields.piece()?;
-    kdf_of(piece)
 }
 
 fn aead_of(piece: &[u8]) -> Result<Aead, Reason>

@@ -8,7 +8,7 @@ ghost use Rattle.result_lines.specs.Places.{Tells};
 ghost use Rattle.result_lines.specs.Told.{with_lines, with_setup, with_lanes, with_journals};
 ghost use Rattle.result_lines.specs.Told.{told_by};
 
-use crate::due_lines::{context_line, key_line, numbered_line};
+use crate::due_lines::{context_line, key_line};
 use crate::stop::Stop;
 use crate::told::Told;
 use batch_plans::{CallLine, ContextLine, ContextReply, KeyReply, PlainList, Plan};
@@ -49,8 +49,7 @@ fn read_setup(
 ) -> Result<(), Stop>
     ensures { Tells (λ _. told.new) result (with_setup version keys.now replies.now told.old) }
 {
-    let line = numbered_line(alloc, b"hpkebatch ", version as u64)?;
-    told.expect(&line)?;
+    told.expect_numbered(alloc, b"hpkebatch ", version as u64)?;
     read_keys(told, alloc, keys)?;
     read_contexts(told, alloc, replies)
 }

@@ -1,6 +1,6 @@
 //! What a result tells.
 
-ghost use Rattle.std.specs.Prelude.{◌≡◌, ◌≤◌, length};
+ghost use Rattle.std.specs.Prelude.{◌≡◌, ◌≤◌, ◌++◌, codes, decimal, length};
 ghost use Rattle.result_lines.specs.Places.{Tells};
 ghost use Rattle.result_lines.specs.Told.{nothing_yet, with_line, with_reply, with_replies};
 ghost use Rattle.result_lines.specs.Told.{with_guess, with_served, with_call, with_calls};
@@ -9,11 +9,11 @@ ghost use Rattle.batch_plans.specs.Limits.{most_input};
 
 use crate::due_lines::numbered_line;
 use crate::lines::Lines;
-use crate::refusals::refusal_of;
 use crate::replies::Replies;
 use crate::stop::Stop;
 use batch_plans::{Batch, CallLine, PlainList};
 use call_places::Mark;
+use due_replies::refusal_of;
 use hpke_context::Context;
 use std::alloc::Global;
 use std::marker::Model;
@@ -109,6 +109,15 @@ impl<'a> Told<'a> {
         self.lines.expect(due)
     }
 
+    // The next line has to be a word and a number.
+    pub fn expect_numbered(&mut self, alloc: Global, word: &[u8], number: u64) -> Result<(), Stop>
+        ensures { Tells (λ _. self.new) result
+            (with_line (word.now ++ decimal number ++ codes "\n") self.old) }
+    {
+        let line = numbered_line(alloc, word, number)?;
+        self.expect(&line)
+    }
+
     // A reply.
     #[tactic(auto, unfolding(crate::specs::Told::with_reply))]
     fn reply(&mut self) -> Result<(), Stop>
@@ -198,8 +207,7 @@ impl<'a> Told<'a> {
     ) -> Result<(), Stop>
         ensures { Tells (λ _. self.new) result (with_lane contexts.now number calls.now self.old) }
     {
-        let line = numbered_line(alloc, b"lane ", number)?;
-        self.expect(&line)?;
+        self.expect_numbered(alloc, b"lane ", number)?;
         self.calls(contexts, calls)?;
         self.end_lane(alloc)
     }
@@ -209,8 +217,7 @@ impl<'a> Told<'a> {
     pub fn journal(&mut self, alloc: Global, stamps: bool, number: u64) -> Result<(), Stop>
         ensures { Tells (λ _. self.new) result (with_journal stamps number self.old) }
     {
-        let line = numbered_line(alloc, b"journal ", number)?;
-        self.expect(&line)?;
+        self.expect_numbered(alloc, b"journal ", number)?;
         let marks = self.lines.marks(alloc, stamps)?;
         self.journals.push(PlainList::from_vec(marks))?;
         Ok(())

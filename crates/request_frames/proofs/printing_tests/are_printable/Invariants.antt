@@ -1,7 +1,0 @@
-use Rattle.std.proofs.Common.{take}
-use Rattle.std.specs.List.{All}
-use Rattle.batch_plans.specs.Replies.{IsPrintable}
-use Rattle.request_frames.proofs.printing_tests.are_printable.Given as goal
-
-abbrev pub invariant-lanes : goal.invariant-lanes
-invariant-lanes l = All IsPrintable (take l.lane-index l.lanes)

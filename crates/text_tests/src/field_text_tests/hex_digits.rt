@@ -1,0 +1,31 @@
+//! Hex digits, against the crate `hex`.
+
+use batch_io::MemorySink;
+use field_text::{Buffer, Printed, read_bytes};
+use std::test::Fail;
+
+// The plain program is the crate `hex`. Up to 100 bytes, so that there are whole blocks of lanes and
+// rests of each size behind them.
+#[test]
+fn lanes_print_and_read_as_hex_does(rt: HostRuntime) -> Result<(), Fail> {
+    let alloc = rt.alloc();
+    for count in 1..100usize {
+        let mut bytes = vec![in alloc; 0u8; count]?;
+        for i in 0..count {
+            bytes[i] = ((i * 167 + count) % 256) as u8;
+        }
+        let mut digits = vec![in alloc; 0u8; 2 * count]?;
+        assert_eq!(rt; hex::encode_to_slice(&bytes, &mut digits), Ok(()));
+
+        let mut sink = MemorySink::new(vec![in alloc; 0; 200]?, 200, Vec::new(alloc));
+        let mut out = Buffer::new();
+        out.put_hex(&mut sink, &bytes);
+        assert_eq!(rt; out.finish(&mut sink), Printed::Whole);
+        assert_eq!(rt; sink.bytes(), digits.as_slice());
+
+        let mut pool = Vec::new(alloc);
+        assert!(rt; read_bytes(&mut pool, &digits, 100).is_ok());
+        assert_eq!(rt; pool, bytes);
+    }
+    Ok(())
+}

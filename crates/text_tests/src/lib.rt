@@ -1,0 +1,25 @@
+//! Tests of the texts: of batch_io, field_text, request_frames, live_frames, capsule_frames and
+//! batch_words, a module a crate.
+//!
+//! They see what a caller sees, and stand apart from what they test so that each of those crates is
+//! proved once. There is nothing here to call.
+#![tactic(auto)]
+
+#[cfg(test)]
+mod bad_case;
+#[cfg(test)]
+mod batch_io_tests;
+#[cfg(test)]
+mod batch_words_tests;
+#[cfg(test)]
+mod capsule_frames_tests;
+#[cfg(test)]
+mod field_text_tests;
+#[cfg(test)]
+mod live_frames_tests;
+#[cfg(test)]
+mod printable;
+#[cfg(test)]
+mod request_frames_tests;
+#[cfg(test)]
+mod sinks;

@@ -1,0 +1,156 @@
+//! Texts that are read, and texts that are bad.
+
+use crate::live_frames_tests::bad_texts::{BAD, LONG};
+use batch_plans::{CallLine, ContextKind, ContextLine, Plan};
+use call_places::{Item, Span};
+use field_text::{BadBatch, ReadBatchFault, Reason};
+use hkdf_labelled::{Aead, Kdf};
+use key_schedule::{Mode, Role};
+use live_frames::read_live;
+use std::alloc::{AllocError, Global};
+use std::process::Abort;
+use std::test::Fail;
+
+// Whether the text behind the first line is bad at this line, for this reason.
+fn is_bad(alloc: Global, behind: &[u8], line: u32, reason: Reason) -> Result<bool, AllocError> {
+    let mut text = Vec::from_slice(alloc, b"hpkebatch 2\n")?;
+    text.extend_from_slice(behind)?;
+    match read_live(alloc, &text) {
+        Err(ReadBatchFault::Bad(bad)) => Ok(bad == BadBatch { line, reason }),
+        _ => Ok(false),
+    }
+}
+
+#[test]
+fn a_bad_text_has_its_first_bad_line_and_reason(rt: HostRuntime) -> Result<(), Fail> {
+    let alloc = rt.alloc();
+    for case in &BAD {
+        let what = case.what;
+        assert!(rt; is_bad(alloc, case.text, case.line, case.reason)?, "{what}");
+    }
+    for case in &LONG {
+        let what = case.what;
+        let mut text = Vec::from_slice(alloc, case.before)?;
+        for _ in 0..case.times {
+            text.extend_from_slice(case.part)?;
+        }
+        assert!(rt; is_bad(alloc, &text, case.line, case.reason)?, "{what}");
+    }
+    match read_live(alloc, b"hpkebatch 1\nlane\nend\n".as_slice()) {
+        Err(ReadBatchFault::Bad(bad)) => {
+            let want = BadBatch {
+                line: 1,
+                reason: Reason::Header,
+            };
+            assert_eq!(rt; bad, want)
+        }
+        _ => panic!(rt; "version 1"),
+    }
+    Ok(())
+}
+
+fn span(start: u32, len: u32) -> Span {
+    Span { start, len }
+}
+
+fn item(aad: u32, text: u32) -> Item {
+    Item {
+        aad: span(aad, 1),
+        text: span(text, 2),
+    }
+}
+
+// A lane has these calls.
+fn expect_calls(rt: &impl Abort, plan: &Plan, lane: usize, calls: &[CallLine]) {
+    match plan.lanes.as_slice().get(lane) {
+        Some(found) => assert_eq!(rt; found.as_slice(), calls),
+        None => panic!(rt; "no lane"),
+    }
+}
+
+// Own, by hand: a context is called before it is added, while it may be, and when it is retired.
+#[test]
+fn a_context_is_added_called_and_retired(rt: HostRuntime) -> Result<(), Fail> {
+    let text =
+        b"hpkebatch 2\nlane\nseal +0 a0 b0b1\nadd send 32 1 1 5e base 1f - - 9\nseal +0 a0 b0b1\nretire +0\nseal +0 a0 b0b1\nend\n";
+    let Ok(plan) = read_live(rt.alloc(), text.as_slice()) else {
+        panic!(rt; "not read");
+    };
+    assert_eq!(rt; plan.version, 2);
+    assert_eq!(rt; plan.added, 1);
+    let context = ContextLine {
+        kind: ContextKind::Share {
+            role: Role::Sender,
+            kem: 32,
+            secret: span(3, 1),
+        },
+        kdf: Kdf::Sha256,
+        aead: Aead::Aes128,
+        mode: Mode::Base,
+        info: span(4, 1),
+        psk: span(5, 0),
+        psk_id: span(5, 0),
+        limit: 9,
+    };
+    assert_eq!(rt; plan.contexts.as_slice(), [context].as_slice());
+    let calls = [
+        CallLine::Seal {
+            context: 65_536,
+            item: item(0, 1),
+        },
+        CallLine::Add { name: 0 },
+        CallLine::Seal {
+            context: 65_536,
+            item: item(5, 6),
+        },
+        CallLine::Retire { name: 0 },
+        CallLine::Seal {
+            context: 65_536,
+            item: item(8, 9),
+        },
+    ];
+    assert_eq!(rt; plan.lanes.as_slice().len(), 1);
+    expect_calls(&rt, &plan, 0, calls.as_slice());
+    Ok(())
+}
+
+// Own, by hand: contexts are named in the order of the text, behind those of context lines.
+#[test]
+fn contexts_are_named_over_all_lanes(rt: HostRuntime) -> Result<(), Fail> {
+    let text =
+        b"hpkebatch 2\nshare recv 7 1 2 - base - - - 1\nlane\nadd recv 8 1 2 - base - - - 1\nunsealall 0 - 00 - 11\nlane\nadd recv 9 1 2 - base - - - 1\nretire +65535\nexport +1 - 7\nunseal 65535 - 00\nend\n";
+    let Ok(plan) = read_live(rt.alloc(), text.as_slice()) else {
+        panic!(rt; "not read");
+    };
+    assert_eq!(rt; plan.added, 2);
+    assert_eq!(rt; plan.contexts.as_slice().len(), 3);
+    let first = [
+        CallLine::Add { name: 0 },
+        CallLine::UnsealAll {
+            context: 0,
+            first: 0,
+            count: 2,
+        },
+    ];
+    let last = Item {
+        aad: span(2, 0),
+        text: span(2, 1),
+    };
+    let second = [
+        CallLine::Add { name: 1 },
+        CallLine::Retire { name: 65_535 },
+        CallLine::Export {
+            context: 65_537,
+            exporter: span(2, 0),
+            size: 7,
+        },
+        CallLine::Unseal {
+            context: 65_535,
+            item: last,
+        },
+    ];
+    assert_eq!(rt; plan.lanes.as_slice().len(), 2);
+    expect_calls(&rt, &plan, 0, first.as_slice());
+    expect_calls(&rt, &plan, 1, second.as_slice());
+    Ok(())
+}
