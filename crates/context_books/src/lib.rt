@@ -12,7 +12,5 @@
 
 mod book;
 mod settling;
-#[cfg(test)]
-mod tests;
 
 pub use book::{Book, Draw};

@@ -222,3 +222,18 @@ book_read (b ∷ books) zero book read found is here some =
     let both : Some read ≡ Some book = sym some ∙ second ∙ first in cc
 book_read (b ∷ books) (suc number) book read found is here some =
     book_read books number book read found is here some
+
+-- what a lane may add to the book that is read
+pub record MayAddTo (read : BookView) (lane count places : ℕ) : Type 0 where
+  pub lane_there : lane < length read.quotas
+  pub room : length (own lane read.entries) + count ≤ slice_index read.quotas lane
+  pub stamps : StampsBelow places read.entries
+
+pub may_add_read : (books : Books) (number lane count : ℕ) (read : BookView)
+    (found : Option BookView) → MayAdd books number lane count
+    → found ≡ slice_index_or books.books.items number found → found ≡ Some read
+    → MayAddTo read lane count books.places
+may_add_read books number lane count read found may here some =
+    subst (λ (book : BookView). MayAddTo book lane count books.places)
+    (sym (book_read books.books.items number may.book read found may.is here some))
+    (record { lane_there = may.lane_there; room = may.room; stamps = may.stamps })

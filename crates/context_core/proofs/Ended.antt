@@ -3,7 +3,7 @@ use Rattle.std.proofs.Common.{◌≡◌, ◌<◌, ◌≤◌, ℕ, zero, suc, ◌
 use Rattle.std.specs.Prelude.{slice_get, replicate}
 use Rattle.std.specs.List.{All, range_with_len, refill}
 use Rattle.std.proofs.lemmas.List.{length-map, length-replicate, take_all, take-append-le, drop_all, nil_from_length}
-use Rattle.std.proofs.lemmas.List.FromFn.{fill_by_all, get_or-map-range_with_len}
+use Rattle.std.proofs.lemmas.List.FromFn.{fill_by_all, get_or-map-range_with_len, length-map-range_with_len}
 use Rattle.std.proofs.lemmas.Option.{slice_get-get_or, get_or_from_slice_get}
 use Rattle.call_places.specs.declared.entries.Mark.{Mark}
 use Rattle.call_places.specs.declared.entries.Entry.{Entry}
@@ -25,7 +25,7 @@ use Rattle.batch_plans.specs.declared.plan.Plan.{Plan}
 use Rattle.batch_plans.specs.declared.replies.LaneAnswers.{LaneAnswers}
 use Rattle.batch_plans.specs.Limits.{IsWithinLimits}
 use Rattle.batch_plans.specs.Calls.{all_items_on}
-use Rattle.batch_plans.specs.Room.{journal_room, blank_mark}
+use Rattle.batch_plans.specs.Room.{lane_room, journal_room, blank_mark}
 use Rattle.reply_texts.specs.ReplyText.{answered_lines, lanes_lines, numbered}
 use Rattle.reply_texts.proofs.Lanes.{lanes_lines-numbered}
 use Rattle.due_replies.specs.Standing.{standing_at, export_limits, AreOfLines}
@@ -50,6 +50,22 @@ use Rattle.context_core.proofs.Events.{ends_are}
 pub refill_is : {X : Type 0} (n : ℕ) (xs ws : List X) → length ws ≡ n → refill n xs ws ≡ ws
 refill_is n xs ws size =
     take-append-le n ws (drop (length ws) xs) (omega arith) ∙ take_all n ws (omega arith)
+
+-- ---- how many answers there are
+
+pub lane_count : (plan : Plan) (limits : List ℕ) (answers : List LaneAnswers)
+    → answers ≡ map (lane_room plan limits) plan.lanes → length answers ≡ length plan.lanes
+lane_count plan limits answers room = ap length room ∙ length-map plan.lanes (lane_room plan limits)
+
+pub journals_count : (plan : Plan) (limits : List ℕ) (journals : List (List Mark))
+    → journals ≡ map (journal_room plan.contexts limits plan.lanes)
+    (range_with_len 0 (length plan.contexts)) → length journals ≡ length plan.contexts
+journals_count plan limits journals room =
+    ap length room
+    ∙ length-map-range_with_len (journal_room plan.contexts limits plan.lanes) 0
+    (length plan.contexts)
+
+-- ---- each lane at its end
 
 nothing_left : (stage : Stage) (k : ℕ) (asks : List Ask) → tasks_at stage k asks ≡ [] → asks ≡ []
 nothing_left stage k [] e = refl

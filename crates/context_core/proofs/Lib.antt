@@ -9,4 +9,3 @@ pub mod Events
 pub mod Fresh
 pub mod Begun
 pub mod Ended
-pub mod SmallPlans

@@ -2,4 +2,3 @@ pub mod Rehearsals
 pub mod Books
 pub mod Following
 pub mod Preparing
-pub mod Tests

@@ -15,14 +15,14 @@ use crate::books::{Books, draw, due, settle};
 use batch_plans::{Batch, CallLine, LaneProgress, Plan, context_of};
 use call_places::{Place, Step};
 use context_books::Draw;
+use due_replies::{refusal_of, standing};
 use hpke_context::Context;
-use lane_quotas::{refusal_of, standing};
 use lane_replies::{export, finish_opening, finish_seal, items_of_opening, refuse};
 use speculative_open::GuessTable;
 use std::thread::Threads;
 
 /// How far a lane is with its next call.
-#[derive(Clone, Copy, Debug, PartialEq, Eq)]
+#[derive(Clone, Copy)]
 pub(crate) enum Stage {
     /// No step of it is done.
     Fresh,

@@ -16,7 +16,5 @@ mod lanes;
 pub mod laws;
 mod preparing;
 mod rehearsals;
-#[cfg(test)]
-mod tests;
 
 pub use rehearsals::rehearse;

@@ -10,8 +10,9 @@ use crate::lanes::{Lane, Stage};
 use batch_plans::{CallLine, LaneAnswers, LaneProgress, PlainList, Plan, items_of};
 use call_places::Step;
 use context_books::Book;
+use due_replies::standing;
 use hpke_context::Context;
-use lane_quotas::{quotas, standing};
+use lane_quotas::quotas;
 use speculative_open::GuessTable;
 use std::alloc::{AllocError, Global};
 

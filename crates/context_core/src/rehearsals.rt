@@ -2,9 +2,9 @@
 
 ghost use Rattle.std.specs.Prelude.{ℕ, ◌≡◌, ◌^◌, [], None, All, get_or, ◌≤◌, ◌<◌, ◌*◌, length, map, replicate, OnOk, OnErr, IfOk};
 ghost use Rattle.batch_plans.specs.Limits.{IsWithinLimits};
-ghost use Rattle.batch_plans.specs.Room.{room_for};
+ghost use Rattle.batch_plans.specs.Room.{room_for, lane_room};
 ghost use Rattle.reply_texts.specs.ReplyText.{IsAnswered};
-ghost use Rattle.core_schedules.specs.Core.{Core, happens, all_happen};
+ghost use Rattle.core_schedules.specs.Core.{Core, happens, all_happen, start, core};
 ghost use Rattle.due_replies.specs.Standing.{AreOfLines, export_limits};
 ghost use Rattle.due_replies.specs.Asks.{batch_of, cipher_at};
 ghost use Rattle.context_core.specs.Rehearsals.{rehearsed, AreAnswersOf};
@@ -17,7 +17,7 @@ use crate::books::Books;
 use crate::lanes::Lane;
 use crate::preparing::{books, lanes, no_answers};
 use aes_gcm::Checks;
-use batch_plans::{Answers, LaneAnswers, LaneProgress, PlainList, Plan};
+use batch_plans::{Answers, LaneAnswerList, LaneAnswers, LaneProgress, Plan};
 use hpke_context::Context;
 use lane_quotas::write_journals;
 use std::alloc::{AllocError, Global};
@@ -128,6 +128,26 @@ impl Rehearsal {
             self.end(rt, plan, contexts, number as u8);
         }
     }
+
+    // All events: those of the schedule, and then those of each lane up to its end.
+    fn run<R: Threads + Sync>(
+        &mut self,
+        rt: &R,
+        plan: &Plan,
+        contexts: &[Option<Context>],
+        schedule: &[u8],
+    )
+        requires within { IsWithinLimits plan.now }
+        requires standing { AreOfLines plan.now.contexts contexts.now }
+        requires begun { IsRehearsal plan.now contexts.now
+            (start (batch_of plan.now contexts.now)) self.old.lanes.items self.old.books }
+        ensures { IsRehearsal plan.now contexts.now
+            (core (batch_of plan.now contexts.now) (cipher_at contexts.now) schedule.now)
+            self.new.lanes.items self.new.books }
+    {
+        self.follow(rt, plan, contexts, schedule);
+        self.end_all(rt, plan, contexts);
+    }
 }
 
 // Each lane gets its answers.
@@ -143,6 +163,33 @@ fn hand_out(alloc: Global, answers: &mut [LaneAnswers], lanes: &mut [Lane])
         let lane = &mut lanes[i];
         lane.progress = LaneProgress::new(given);
     }
+}
+
+// The books and the lanes of a plan before the first step. The lanes get their answers.
+fn begun<R: Threads + Sync>(
+    rt: &R,
+    alloc: Global,
+    plan: &Plan,
+    contexts: &[Option<Context>],
+    answers: &mut LaneAnswerList,
+) -> Result<Rehearsal, AllocError>
+    requires within { IsWithinLimits plan.now }
+    requires standing { AreOfLines plan.now.contexts contexts.now }
+    requires room { answers.old
+        ≡ map (lane_room plan.now (export_limits contexts.now)) plan.now.lanes }
+    ensures begun { IfOk result (λ r. IsRehearsal plan.now contexts.now
+        (start (batch_of plan.now contexts.now)) r.lanes.items r.books) }
+    ensures count { OnOk result (length answers.new ≡ length answers.old) }
+    ensures kept { OnErr result (answers.new ≡ answers.old) }
+{
+    let books = Books {
+        books: books(alloc, plan, contexts)?,
+        places: 0,
+        checks: Checks::new(rt),
+    };
+    let mut lanes = lanes(alloc, plan)?;
+    hand_out(alloc, answers.as_mut_slice(), lanes.as_mut_slice());
+    Ok(Rehearsal { books, lanes })
 }
 
 // The answers of the lanes, which are at their ends.
@@ -191,20 +238,8 @@ pub fn rehearse<R: Threads + Sync>(
     ensures printable { OnOk result (IsAnswered plan.now answers.new) }
     ensures kept { OnErr result (answers.new ≡ answers.old) }
 {
-    let books = Books {
-        books: books(alloc, plan, contexts)?,
-        places: 0,
-        checks: Checks::new(rt),
-    };
-    let lanes = lanes(alloc, plan)?;
-    let mut rehearsal = Rehearsal { books, lanes };
-    hand_out(
-        alloc,
-        answers.lanes.as_mut_slice(),
-        rehearsal.lanes.as_mut_slice(),
-    );
-    rehearsal.follow(rt, plan, contexts, schedule);
-    rehearsal.end_all(rt, plan, contexts);
+    let mut rehearsal = begun(rt, alloc, plan, contexts, &mut answers.lanes)?;
+    rehearsal.run(rt, plan, contexts, schedule);
     take_back(
         alloc,
         rehearsal.lanes.as_mut_slice(),

@@ -1,19 +1,22 @@
 -- What the calls of the KEM ensure, as the definitions say it.
-use Rattle.std.proofs.Common.{◌≡◌, ℕ, List, length, Option, Some, Ok, sym, ap, subst, ◌∙◌}
+use Rattle.std.proofs.Common.{◌≡◌, ◌≢◌, ℕ, List, length, Option, Some, Result, Ok, Err, sym, ap, subst, ◌∙◌, inl, inr}
 use Rattle.std.specs.Prelude.{slice_get}
+use Rattle.std.proofs.lemmas.Bool.{cases_eq}
 use Rattle.ring_core.specs.Sets.{Set}
 use Rattle.sntrup_core.specs.Keys.{FindsG, FindsNoInverse}
-use Rattle.sntrup_kem.specs.Kem.{IsGenerated}
+use Rattle.sntrup_kem.specs.declared.keys.KeyBytesFault.{KeyBytesFault}
+use Rattle.sntrup_kem.specs.Sizes.{secret_size}
+use Rattle.sntrup_kem.specs.Kem.{IsGenerated, public_part, HasMalformedPart}
 use Rattle.batch_plans.specs.declared.plan.Plan.{Plan}
 use Rattle.batch_plans.specs.declared.plan.ContextKind.{ContextKind}
 use Rattle.batch_plans.specs.declared.plan.ContextKind.TheVariants.{Send}
 use Rattle.batch_plans.specs.declared.replies.KeyReply.{KeyReply}
-use Rattle.batch_plans.specs.declared.replies.KeyReply.TheVariants.{Generated}
+use Rattle.batch_plans.specs.declared.replies.KeyReply.TheVariants.{Generated, Secret}
 use Rattle.batch_plans.specs.declared.replies.ContextReply.{ContextReply}
 use Rattle.context_table.specs.declared.keys.Key.{Key}
 use Rattle.context_table.specs.declared.exchanges.Exchange.{Exchange}
 use Rattle.context_table.specs.Streams.{context_words}
-use Rattle.context_table.specs.Keys.{IsPairReply}
+use Rattle.context_table.specs.Keys.{IsPairReply, IsSecretReply}
 use Rattle.context_table.specs.Contexts.{sender_exchange, exchange}
 use Rattle.context_table.specs.Slots.{view_of, held_in, HoldKeys}
 
@@ -26,6 +29,24 @@ pair_reply set word place j pk sk start some found made reply is =
     × ((i : ℕ) × FindsG set word n i × IsGenerated set word n i pk sk) in
     let Q : KeyReply → Type 0 = λ r. IsPairReply set word r in
     subst Q (sym is) (subst P start (some, (j, found, made)))
+
+-- a key that is taken has no fault
+pub no_fault : (made : Result (List ℕ) KeyBytesFault) (key : List ℕ) (fault : KeyBytesFault)
+    → made ≡ Ok key → made ≡ Err fault → ⊥
+no_fault made key fault is other = cc
+
+pub secret_reply : (set : Set) (size : ℕ) (bytes secret : List ℕ) → size ≡ secret_size set
+    → secret ≡ bytes → (length bytes ≢ size → ⊥)
+    → ((length bytes ≡ size) × HasMalformedPart set bytes → ⊥)
+    → (reply : KeyReply) → reply ≡ Secret (public_part set secret) → IsSecretReply set bytes reply
+secret_reply set size bytes secret size_is same long form reply is =
+    let long_is : length bytes ≡ size = elim (cases_eq (length bytes) size) [
+      | inl e ↦ e
+      | inr other ↦ absurd (long other)
+    ] in
+    let Q : KeyReply → Type 0 = λ r. IsSecretReply set bytes r in
+    subst Q (sym is)
+    (long_is ∙ size_is, (λ bad. form (long_is, bad)), ap (public_part set) same)
 
 pub sends : (plan : Plan) (keys : List KeyReply) (slots : List (Option Key))
     (earlier : List ContextReply) (kind : ContextKind) (k : ℕ) (key : Key) (word : ℕ → ℕ)

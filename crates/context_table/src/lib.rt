@@ -20,8 +20,6 @@ mod pairs;
 mod parts;
 mod setups;
 mod streams;
-#[cfg(test)]
-mod tests;
 
 pub use keys::{Key, KeySlots, KeyTable, key_table};
 pub use pairs::KeyPair;

@@ -1,6 +1,7 @@
 //! Keys of one parameter set, and what their lines are answered.
 
 ghost use Rattle.std.specs.Prelude.{◌≡◌, ◌+◌, ◌*◌, ◌^◌, ◌≤◌, [], IfOk, option_copied};
+ghost use Rattle.sntrup_kem.specs.Kem.{public_part};
 ghost use Rattle.context_table.specs.Keys.{IsPairReply, IsSecretReply, IsPeerReply, key_by};
 ghost use Rattle.context_table.specs.Contexts.{sender_exchange, recipient_exchange};
 
@@ -162,6 +163,26 @@ pub(crate) fn made_pair<S: KemParams, R: Words, M: Multiplier>(
     }
 }
 
+// The secret key stands, with the public key in it.
+fn held<S: KemParams>(alloc: Global, secret: SecretKey<S>) -> Result<Answered<S>, OutOfMemory>
+    ensures reply { IfOk result (λ a. a.reply ≡ KeyReply.Secret (public_part S.set secret)) }
+    ensures pair { IfOk result (λ a. a.pair ≡ Some (record {
+      kem = record { id = S.ID; set = S.set };
+      public = public_part S.set secret;
+      secret = Some secret;
+    })) }
+{
+    let public = secret.public(alloc)?;
+    let reply = KeyReply::Secret {
+        public: copied(alloc, public.as_slice())?,
+    };
+    let secret = Some(secret);
+    Ok(Answered {
+        reply,
+        pair: Some(KeyPair { public, secret }),
+    })
+}
+
 /// Takes the bytes of a secret key.
 pub(crate) fn given_secret<S: KemParams>(
     alloc: Global,
@@ -172,17 +193,7 @@ pub(crate) fn given_secret<S: KemParams>(
         ≡ key_by (record { id = S.ID; set = S.set }) bytes.now a.reply) }
 {
     match SecretKey::<S>::from_bytes(alloc, bytes) {
-        Ok(secret) => {
-            let public = secret.public(alloc)?;
-            let reply = KeyReply::Secret {
-                public: copied(alloc, public.as_slice())?,
-            };
-            let secret = Some(secret);
-            Ok(Answered {
-                reply,
-                pair: Some(KeyPair { public, secret }),
-            })
-        }
+        Ok(secret) => held(alloc, secret),
         Err(KeyBytesFault::Length) => Ok(refused(KeyRefusal::Length)),
         Err(KeyBytesFault::Form) => Ok(refused(KeyRefusal::Form)),
         Err(KeyBytesFault::OutOfMemory) => Err(OutOfMemory),

@@ -3,6 +3,7 @@ use Rattle.std.proofs.Common.{◌≡◌, ◌<◌, ◌+◌, ℕ, zero, suc, Bool,
 use Rattle.std.specs.Prelude.{slice_get, nat_lt}
 use Rattle.std.proofs.lemmas.Bool.{lt-ltb, ltb-true}
 use Rattle.call_places.specs.declared.entries.Step.{Step}
+use Rattle.call_places.specs.declared.entries.Step.TheVariants.{Opened, Failed, OpenLimit}
 use Rattle.call_places.specs.Entries.{advances}
 use Rattle.hpke_context.specs.Answers.{Item, Seal, Unseal, Cipher, Sealed_at, Opened_at, Failed_at, At_limit, answer, next, run, due}
 use Rattle.legal_journals.specs.Entries.{step_for, steps_from, number_after}
@@ -65,3 +66,18 @@ rises_below c n aad ct step is rises = choose (c.holds n aad ct) (nat_lt n c.lim
     choose true true e f = ltb-true n c.limit e
     choose true false e f = absurd (let g : false ≡ true = f in cc)
     choose false l e f = absurd (let g : false ≡ true = f in cc)
+
+-- an item that is opened
+pub opened_is : (c : Cipher) (n : ℕ) (aad ct : List ℕ)
+    → Opened ≡ step_for (Unseal aad ct) (answer c n (Unseal aad ct))
+    → answer c n (Unseal aad ct) ≡ Opened_at n (c.clear n aad ct)
+opened_is c n aad ct is = choose (c.holds n aad ct) (nat_lt n c.limit) is
+  where
+    choose : (h l : Bool)
+        → Opened ≡ step_for (Unseal aad ct)
+        (if h then (if l then Opened_at n (c.clear n aad ct) else At_limit) else Failed_at n)
+        → (if h then (if l then Opened_at n (c.clear n aad ct) else At_limit) else Failed_at n)
+        ≡ Opened_at n (c.clear n aad ct)
+    choose true true f = refl
+    choose true false f = absurd (let g : Opened ≡ OpenLimit = f in cc)
+    choose false l f = absurd (let g : Opened ≡ Failed = f in cc)

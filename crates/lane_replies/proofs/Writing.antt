@@ -1,12 +1,12 @@
 -- What is written, reply by reply.
-use Rattle.std.proofs.Common.{◌≡◌, ◌≤◌, ◌<◌, ◌+◌, ℕ, false, List, [], ◌∷◌, ◌++◌, take, Some, refl, sym, ap, ◌∙◌, subst, arith, append_assoc, length-append}
-use Rattle.std.specs.List.{All}
-use Rattle.std.proofs.lemmas.List.{take-take, map-append}
+use Rattle.std.proofs.Common.{◌≡◌, ◌≤◌, ◌<◌, ◌+◌, ℕ, false, List, [], ◌∷◌, ◌++◌, length, take, drop, Some, refl, sym, ap, ◌∙◌, subst, arith, append_assoc, length-append}
+use Rattle.std.specs.List.{All, refill}
+use Rattle.std.proofs.lemmas.List.{take-take, map-append, take-append-le, take_all}
 use Rattle.std.proofs.lemmas.List.Elements.{All-append, All-weaker, All-nil, All-cons}
 use Rattle.batch_plans.specs.declared.replies.Reply.{Reply}
 use Rattle.batch_plans.specs.declared.replies.Reply.TheVariants.{Blank, Sealed, Opened, Failed, Limit, Exported, Refused, Added, Retired}
 use Rattle.batch_plans.specs.Replies.{IsInRange}
-use Rattle.batch_plans.specs.Progress.{Progress, with_reply}
+use Rattle.batch_plans.specs.Progress.{Progress, with_room, with_pool, with_reply}
 use Rattle.legal_journals.proofs.Lists.{append-nil}
 use Rattle.reply_texts.specs.Lines.{reply_line}
 use Rattle.reply_texts.specs.ReplyText.{is_refused}
@@ -33,6 +33,38 @@ pub all_in_more : (size more : ℕ) (replies : List Reply) → size ≤ more
     → All (IsInRange size) replies → All (IsInRange more) replies
 all_in_more size more replies fits all =
     All-weaker (IsInRange size) (IsInRange more) (λ r. in_more size more r fits) replies all
+
+-- a list of the same length put over another
+pub refill_is : {X : Type 0} (n : ℕ) (xs ws : List X) → length ws ≡ n → refill n xs ws ≡ ws
+refill_is n xs ws size =
+    take-append-le n ws (drop (length ws) xs) (omega arith) ∙ take_all n ws (omega arith)
+
+-- room is taken, and written over by what makes the line of a reply
+pub writes : (old one : Progress) (size start : ℕ) (lent made : List ℕ) (reply : Reply)
+    (line : List ℕ) → one ≡ with_room old size → lent ≡ one.pool → length made ≡ length lent
+    → start ≡ old.taken → take start made ≡ take start lent → reply_line made reply ≡ line
+    → is_refused (Some reply) ≡ false → IsInRange (old.taken + size) reply
+    → WritesReply old (with_pool one made) size reply line
+writes old one size start lent made reply line one_is lent_is count start_is kept line_is served
+    range =
+    let pool_is : lent ≡ old.pool = lent_is ∙ ap (λ (p : Progress). p.pool) one_is in
+    let taken : one.taken ≡ old.taken + size = ap (λ (p : Progress). p.taken) one_is in
+    let whole : refill (length one.pool) one.pool made ≡ made =
+    refill_is (length one.pool) one.pool made (count ∙ ap length lent_is) in
+    record {
+      line_is = ap (λ pool. reply_line pool reply) whole ∙ line_is;
+      served = served;
+      taken = taken;
+      range = subst (λ n. IsInRange n reply) (sym taken) range;
+      pool = ap length whole ∙ count ∙ ap length pool_is;
+      kept = ap (take old.taken) whole
+          ∙ subst (λ n. take n made ≡ take n lent) start_is kept
+          ∙ ap (take old.taken) pool_is;
+      replies = ap (λ (p : Progress). p.replies) one_is;
+      left = ap (λ (p : Progress). p.left) one_is;
+      batches = ap (λ (p : Progress). p.batches) one_is;
+      batches_left = ap (λ (p : Progress). p.batches_left) one_is;
+    }
 
 -- nothing
 pub puts_none : (p : Progress) → PutsReplies p p 0 []

@@ -21,6 +21,3 @@ pub use exporting::{export, refuse};
 pub use naming::items_of_opening;
 pub use opening::finish_opening;
 pub use sealing::finish_seal;
-
-#[cfg(test)]
-mod tests;

@@ -17,6 +17,3 @@ mod rows;
 mod table;
 
 pub use table::GuessTable;
-
-#[cfg(test)]
-mod tests;

@@ -10,8 +10,36 @@ use Rattle.std.specs.Vec.{with_item}
 use Rattle.context_core.specs.declared.books.Books.{Books}
 use Rattle.context_core.specs.Books.{Settles}
 use Rattle.lane_replies.proofs.Misses.{few_missed}
-use Rattle.context_core.proofs.Adding.{book_read}
+use Rattle.context_core.proofs.Adding.{book_read, may_add_read}
 use Rattle.context_core.proofs.books.settle.Goals as goal
+
+pub settle-missed-requires-clause-cipher : goal.settle-missed-requires-clause-cipher
+settle-missed-requires-clause-cipher c =
+    let may = c.requires.room in
+    let here = book_read c.args.books.now.books.items c.args.number may.book c.in-Some.book
+    c.index_mut.result.now may.is c.index_mut.ensures.value c.in-Some.is in
+    (c.requires.cipher, c.requires.limit may.book may.is ∙ ap (λ (b : BookView). b.limit) (sym here))
+
+pub settle-missed-requires-clause-lane : goal.settle-missed-requires-clause-lane
+settle-missed-requires-clause-lane c =
+    (may_add_read c.args.books.now c.args.number c.args.lane (length c.args.items.now)
+    c.in-Some.book c.index_mut.result.now c.requires.room c.index_mut.ensures.value
+    c.in-Some.is).lane_there
+
+pub settle-missed-requires-clause-room : goal.settle-missed-requires-clause-room
+settle-missed-requires-clause-room c =
+    (may_add_read c.args.books.now c.args.number c.args.lane (length c.args.items.now)
+    c.in-Some.book c.index_mut.result.now c.requires.room c.index_mut.ensures.value
+    c.in-Some.is).room
+
+pub settle-missed-requires-clause-stamps : goal.settle-missed-requires-clause-stamps
+settle-missed-requires-clause-stamps c =
+    (may_add_read c.args.books.now c.args.number c.args.lane (length c.args.items.now)
+    c.in-Some.book c.index_mut.result.now c.requires.room c.index_mut.ensures.value
+    c.in-Some.is).stamps
+
+pub settle-missed-requires-clause-spans : goal.settle-missed-requires-clause-spans
+settle-missed-requires-clause-spans c = c.requires.spans
 
 pub returns : goal.returns
 returns c = λ book is.

@@ -14,6 +14,12 @@ use Rattle.lane_replies.proofs.Within.{call_low, line_within, opening_spans, ope
 use Rattle.context_core.proofs.Served.{may_settle, settled_follows, tested_opens}
 use Rattle.context_core.proofs.lanes.Lane.commit.Goals as goal
 
+pub items_of_opening-items-requires : goal.items_of_opening-items-requires
+items_of_opening-items-requires c =
+    let m = c.requires.may in
+    line_within c.args.plan.now c.args.lane c.args.self.now.call c.args.call.now m.within m.there
+    m.call_is
+
 pub overflow_cast-call : goal.overflow_cast-call
 overflow_cast-call c =
     let m = c.requires.may in

@@ -6,6 +6,50 @@ use Rattle.context_core.specs.Following.{IsRehearsal}
 use Rattle.context_core.proofs.Events.{four_more}
 use Rattle.context_core.proofs.rehearsals.Rehearsal.end.Goals as goal
 
+pub event-requires-clause-follows : goal.event-requires-clause-follows
+event-requires-clause-follows g c = λ κs le.
+    let batch = batch_of c.args.plan.now c.args.contexts.now in
+    let w = c.requires.follows.0 in (
+      all_happen batch (cipher_at c.args.contexts.now) w
+          (replicate (4 * c.calls._call) c.args.number),
+      c.calls.invariant w c.requires.follows.1,
+    )
+
+pub event-requires-in-calls-clause-follows : goal.event-requires-in-calls-clause-follows
+event-requires-in-calls-clause-follows g c = λ κs le.
+    let batch = batch_of c.args.plan.now c.args.contexts.now in
+    let ciphers = cipher_at c.args.contexts.now in
+    let w = c.requires.follows.0 in
+    let w0 = all_happen batch ciphers w (replicate (4 * c.calls._call) c.args.number) in (
+      happens batch ciphers w0 c.args.number,
+      c.event.ensures w0 (c.calls.invariant w c.requires.follows.1),
+    )
+
+pub event-requires-in-calls-2-clause-follows : goal.event-requires-in-calls-2-clause-follows
+event-requires-in-calls-2-clause-follows g c = λ κs le.
+    let batch = batch_of c.args.plan.now c.args.contexts.now in
+    let ciphers = cipher_at c.args.contexts.now in
+    let w = c.requires.follows.0 in
+    let w0 = all_happen batch ciphers w (replicate (4 * c.calls._call) c.args.number) in
+    let w1 = happens batch ciphers w0 c.args.number in (
+      happens batch ciphers w1 c.args.number,
+      c.event-in-calls.ensures w1
+          (c.event.ensures w0 (c.calls.invariant w c.requires.follows.1)),
+    )
+
+pub event-requires-in-calls-3-clause-follows : goal.event-requires-in-calls-3-clause-follows
+event-requires-in-calls-3-clause-follows g c = λ κs le.
+    let batch = batch_of c.args.plan.now c.args.contexts.now in
+    let ciphers = cipher_at c.args.contexts.now in
+    let w = c.requires.follows.0 in
+    let w0 = all_happen batch ciphers w (replicate (4 * c.calls._call) c.args.number) in
+    let w1 = happens batch ciphers w0 c.args.number in
+    let w2 = happens batch ciphers w1 c.args.number in (
+      happens batch ciphers w2 c.args.number,
+      c.event-in-calls-2.ensures w2 (c.event-in-calls.ensures w1
+          (c.event.ensures w0 (c.calls.invariant w c.requires.follows.1))),
+    )
+
 pub calls-preserved : goal.calls-preserved
 calls-preserved g c = λ w t.
     let plan = c.args.plan.now in

@@ -1,4 +1,4 @@
-use Rattle.std.proofs.Common.{◌≡◌, ◌<◌, length, List, get_or, sym, ap, ◌∙◌, subst, arith, Some, None}
+use Rattle.std.proofs.Common.{◌≡◌, ◌<◌, ◌≤◌, length, List, get_or, sym, ap, ◌∙◌, subst, arith, Some, None}
 use Rattle.std.specs.Prelude.{slice_get, slice_set}
 use Rattle.std.proofs.lemmas.List.{set-get_or}
 use Rattle.std.proofs.lemmas.Option.{slice_get_past}
@@ -7,8 +7,23 @@ use Rattle.due_replies.specs.Asks.{batch_of, cipher_at}
 use Rattle.context_core.specs.declared.lanes.Lane.{Lane}
 use Rattle.lane_replies.specs.LaneCalls.{lane_calls}
 use Rattle.context_core.specs.Following.{MayStep, IsRehearsal, Follows}
-use Rattle.context_core.proofs.Events.{read_at, calls_read, few_places, lane_steps, idle_event}
+use Rattle.context_core.proofs.Events.{read_at, calls_read, few_places, lane_steps, idle_event, not_there_event}
 use Rattle.context_core.proofs.rehearsals.Rehearsal.event.Goals as goal
+
+pub returns-then-i-len : goal.returns-then-i-len
+returns-then-i-len g c = λ w t.
+    let plan = c.args.plan.now in
+    let contexts = c.args.contexts.now in
+    let lanes = c.args.self.now.lanes.items in
+    let books = c.args.self.now.books in
+    let past : length lanes ≤ c.args.number = omega (
+      arith,
+      c.len.ensures,
+      c.args.self.now.lanes.ok.0,
+      c.if-i-len.true,
+    ) in
+    subst (λ (v : Core). IsRehearsal plan contexts v lanes books)
+    (sym (not_there_event plan contexts w lanes books c.args.number t past)) t
 
 pub step-requires-after_bounds : goal.step-requires-after_bounds
 step-requires-after_bounds g c κs within =

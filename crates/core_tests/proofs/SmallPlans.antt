@@ -20,7 +20,7 @@ use Rattle.batch_plans.specs.declared.replies.ContextReply.{ContextReply}
 use Rattle.batch_plans.specs.declared.replies.Answers.{Answers}
 use Rattle.batch_plans.specs.Room.{room_for}
 use Rattle.batch_plans.specs.Limits.{most_plaintext, most_ciphertext, IsField, IsItemWithin, IsCallWithin, IsContextWithin, IsKeyWithin, IsPlain, IsPlainCall, IsWithinLimits, all_items, all_sizes, all_texts}
-use Rattle.context_core.specs.Tests.{is_small_span, is_small_item, is_small_call, are_small, no_span, line_of, two_lines}
+use Rattle.core_tests.specs.SmallPlans.{is_small_span, is_small_item, is_small_call, are_small, no_span, line_of, two_lines}
 
 all_of : {X : Type 0} (test : X → Bool) (P : X → Type 0) → ((x : X) → test x ≡ true → P x)
     → (xs : List X) → list_all test xs ≡ true → All P xs

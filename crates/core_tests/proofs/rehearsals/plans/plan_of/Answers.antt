@@ -4,10 +4,10 @@ use Rattle.batch_plans.specs.declared.plan.CallLine.{CallLine}
 use Rattle.batch_plans.specs.declared.plan.ContextLine.{ContextLine}
 use Rattle.batch_plans.specs.declared.plan.KeyLine.{KeyLine}
 use Rattle.batch_plans.specs.Limits.{IsWithinLimits}
-use Rattle.context_core.specs.declared.tests.TheConstants.{ITEMS}
-use Rattle.context_core.specs.Tests.{are_small, two_lines}
-use Rattle.context_core.proofs.SmallPlans.{plain_plan, small_plan}
-use Rattle.context_core.proofs.tests.plan_of.Goals as goal
+use Rattle.core_tests.specs.declared.rehearsals.plans.TheConstants.{ITEMS}
+use Rattle.core_tests.specs.SmallPlans.{are_small, two_lines}
+use Rattle.core_tests.proofs.SmallPlans.{plain_plan, small_plan}
+use Rattle.core_tests.proofs.rehearsals.plans.plan_of.Goals as goal
 
 pub returns-clause-within : goal.returns-clause-within
 returns-clause-within c =

@@ -1,12 +1,13 @@
 //! Published messages at guessed numbers, and windows that end at LIMIT.
 
-ghost use Rattle.std.specs.Prelude.{◌≡◌, ◌≤◌, ◌<◌, All, IfOk, length};
+ghost use Rattle.std.specs.Prelude.{◌≡◌, ◌≤◌, All, IfOk, length};
 ghost use Rattle.call_places.specs.Spans.{ItemIsInPool};
 
-use crate::GuessTable;
+use crate::messages::{Message, POOL, item};
 use aes_gcm::GcmKey;
 use call_places::{Item, Span};
 use hex::FromHex;
+use speculative_open::GuessTable;
 use std::alloc::Global;
 use std::test::Fail;
 use std::thread::Threads;
@@ -15,32 +16,6 @@ use std::thread::Threads;
 const KEY: &str = "4531685d41d65f03dc48f6b8302c05b0";
 
 const BASE_NONCE: &str = "56d890e5accaaf011cff4b7d";
-
-// aad and ct of RFC 9180, A.1.1.1, sequence numbers 0 and 1, and ct 1 with the last bit of its tag
-// changed: 7 and 45 bytes each.
-const MESSAGES: &str = concat!(
-    "436f756e742d30",
-    "f938558b5d72f1a23810b4be2ab4f84331acc02fc97babc53a52ae8218a355a96d8770ac83d07bea87e13c512a",
-    "436f756e742d31",
-    "af2d7e9ac9ae7e270f46ba1f975be53c09f8d875bdc8535458c2494e8a6eab251c03d0c22a56b8ca42c2063b84",
-    "436f756e742d31",
-    "af2d7e9ac9ae7e270f46ba1f975be53c09f8d875bdc8535458c2494e8a6eab251c03d0c22a56b8ca42c2063b85",
-);
-
-// One of the messages.
-fn message(number: u32) -> Item
-    requires { number < 3 }
-    ensures { ItemIsInPool 156 result }
-{
-    let start = 52 * number;
-    Item {
-        aad: Span { start, len: 7 },
-        text: Span {
-            start: start + 7,
-            len: 45,
-        },
-    }
-}
 
 // A table that was filled at another guess before.
 fn table_of<R: Threads + Sync>(
@@ -71,7 +46,7 @@ struct TableCase {
 
 const LAST: u64 = u64::MAX;
 
-// Item 0 is message 0, items 1 to 3 are the changed message, item 4 is message 1.
+// Item 0 is the first message, items 1 to 3 are the changed one, item 4 is the second.
 const TABLES: [TableCase; 5] = [
     TableCase {
         source: "RFC 9180, A.1.1.1: each message opens at its own number alone",
@@ -139,8 +114,15 @@ const TABLES: [TableCase; 5] = [
 
 #[test]
 fn messages_open_at_their_numbers(rt: HostRuntime) -> Result<(), Fail> {
-    let pool = <[u8; 156]>::from_hex(MESSAGES)?;
-    let items = [message(0), message(2), message(2), message(2), message(1)];
+    let pool = <[u8; 149]>::from_hex(POOL)?;
+    let spoilt = item(Message::Spoilt);
+    let items = [
+        item(Message::First),
+        spoilt,
+        spoilt,
+        spoilt,
+        item(Message::Second),
+    ];
     for case in &TABLES {
         let source = case.source;
         let table = table_of(&rt, rt.alloc(), case.guess, case.limit, &pool, &items)?;
@@ -156,16 +138,16 @@ fn messages_open_at_their_numbers(rt: HostRuntime) -> Result<(), Fail> {
 // Four texts of 20,000 zeros and a message: work for several threads.
 #[test]
 fn rows_are_filled_in_pieces(rt: HostRuntime) -> Result<(), Fail> {
-    let mut pool = [0u8; 20_156];
-    pool[..156].copy_from_slice(&<[u8; 156]>::from_hex(MESSAGES)?);
+    let mut pool = [0u8; 20_149];
+    pool[..149].copy_from_slice(&<[u8; 149]>::from_hex(POOL)?);
     let zeros = Item {
         aad: Span { start: 0, len: 0 },
         text: Span {
-            start: 156,
+            start: 149,
             len: 20_000,
         },
     };
-    let items = [zeros, zeros, zeros, zeros, message(1)];
+    let items = [zeros, zeros, zeros, zeros, item(Message::Second)];
     let table = table_of(&rt, rt.alloc(), 0, 9, &pool, &items)?;
     for i in 0..4usize {
         assert_eq!(rt; table.look(i, 0), Some(false), "item {i}");

@@ -1,0 +1,123 @@
+//! Books over published messages: numbers that are drawn, and openings with verdicts that were found
+//! ahead of time.
+
+use crate::messages::{Message, POOL, Settled, context_of, items_of, settle_three};
+use call_places::{Entry, Listed, Place, Step};
+use context_books::{Book, Draw};
+use hex::FromHex;
+use key_schedule::Role;
+use std::process::Abort;
+use std::test::Fail;
+
+struct OpeningCase {
+    name: &'static str,
+    limit: u64,
+    guess: u64,
+    messages: [Message; 3],
+    steps: [Step; 3],
+    missed: u32,
+    seq: u64,
+}
+
+// Own, by hand: item i is checked ahead at the numbers guess + i - k up to LIMIT, for k from 0 to
+// min(i, 3), and is opened at the number of messages that were opened before it.
+const OPENINGS: [OpeningCase; 5] = [
+    OpeningCase {
+        name: "the number that is due was guessed",
+        limit: 9,
+        guess: 0,
+        messages: [Message::First, Message::Spoilt, Message::Second],
+        steps: [Step::Opened, Step::Failed, Step::Opened],
+        missed: 0,
+        seq: 2,
+    },
+    OpeningCase {
+        name: "no number is near the guess",
+        limit: 9,
+        guess: 9,
+        messages: [Message::First, Message::Spoilt, Message::Second],
+        steps: [Step::Opened, Step::Failed, Step::Opened],
+        missed: 3,
+        seq: 2,
+    },
+    OpeningCase {
+        name: "the guess is one too high",
+        limit: 9,
+        guess: 1,
+        messages: [Message::First, Message::Second, Message::Spoilt],
+        steps: [Step::Opened, Step::Opened, Step::Failed],
+        missed: 1,
+        seq: 2,
+    },
+    OpeningCase {
+        name: "a message is sent twice",
+        limit: 9,
+        guess: 0,
+        messages: [Message::First, Message::First, Message::Second],
+        steps: [Step::Opened, Step::Failed, Step::Opened],
+        missed: 0,
+        seq: 2,
+    },
+    OpeningCase {
+        name: "the number comes to LIMIT",
+        limit: 1,
+        guess: 0,
+        messages: [Message::First, Message::Second, Message::Spoilt],
+        steps: [Step::Opened, Step::OpenLimit, Step::Failed],
+        missed: 0,
+        seq: 1,
+    },
+];
+
+fn expect(rt: &impl Abort, settled: &Settled, case: &OpeningCase) {
+    let name = case.name;
+    assert_eq!(rt; settled.steps, case.steps, "{name}");
+    assert_eq!(rt; settled.missed, case.missed, "{name}");
+    assert!(rt; settled.checked <= u64::from(settled.missed), "{name}");
+    assert_eq!(rt; settled.due, case.seq, "{name}");
+}
+
+#[test]
+fn items_are_opened_one_after_another(rt: HostRuntime) -> Result<(), Fail> {
+    let pool = <[u8; 149]>::from_hex(POOL)?;
+    for case in &OPENINGS {
+        let (limit, guess) = (case.limit, case.guess);
+        assert!(rt; 1 <= limit && guess <= limit);
+        let context = context_of(Role::Recipient, limit)?;
+        let items = items_of(case.messages);
+        let settled = settle_three(&rt, rt.alloc(), &context, &pool, &items, guess)?;
+        expect(&rt, &settled, case);
+    }
+    Ok(())
+}
+
+const SEALED: Entry = Entry {
+    place: Place {
+        lane: 1,
+        call: 4,
+        item: 0,
+    },
+    stamp: 3,
+    step: Step::Sealed,
+};
+
+const REFUSED: Entry = Entry {
+    place: Place {
+        lane: 0,
+        call: 4,
+        item: 0,
+    },
+    stamp: 5,
+    step: Step::SealLimit,
+};
+
+#[test]
+fn numbers_are_drawn_up_to_the_limit(rt: HostRuntime) -> Result<(), Fail> {
+    let mut book = Book::new(rt.alloc(), 1, &[1, 1])?;
+    assert_eq!(rt; book.draw(SEALED.place, 3), Draw::Number(0));
+    assert_eq!(rt; book.draw(REFUSED.place, 5), Draw::Limit);
+    assert_eq!(rt; book.seq(), 1);
+    assert_eq!(rt; book.entries(), &[SEALED, REFUSED][..]);
+    assert_eq!(rt; book.last_entry(), Some(REFUSED));
+    Ok(())
+}

@@ -1,0 +1,20 @@
+//! Tests of the crates of the core, over published messages: tables of verdicts (speculative_open),
+//! books (context_books), replies (lane_replies), set-ups (context_table) and rehearsals
+//! (context_core).
+//!
+//! They stand apart, so that each of those crates is proved without them, and see what a caller
+//! sees.
+#![tactic(auto)]
+
+#[cfg(test)]
+mod books;
+#[cfg(test)]
+mod messages;
+#[cfg(test)]
+mod rehearsals;
+#[cfg(test)]
+mod replies;
+#[cfg(test)]
+mod set_ups;
+#[cfg(test)]
+mod tables;

@@ -1,0 +1,191 @@
+//! Small batches over published messages, and their rehearsals.
+
+ghost use Rattle.std.specs.Prelude.{◌≡◌, ◌≤◌, ◌∷◌, [], IfOk, IsTrue, length};
+ghost use Rattle.batch_plans.specs.Limits.{IsPlain, IsWithinLimits};
+ghost use Rattle.core_tests.specs.SmallPlans.{line_of, two_lines, are_small};
+
+use crate::messages::context_of;
+use batch_plans::{
+    Answers, ByteList, CallLine, ContextKind, ContextLine, ContextLines, ContextReply, LaneLines,
+    PlainList, Plan,
+};
+use call_places::{Item, Span};
+use context_core::rehearse;
+use hex::FromHex;
+use hkdf_labelled::{Aead, Kdf};
+use key_schedule::{Mode, Role};
+use std::alloc::Global;
+use std::test::Fail;
+use std::thread::Threads;
+
+// RFC 9180, A.1.1.1: both aads of the sequence numbers 0 and 1, pt, both ciphertexts; then the
+// ciphertexts with the last bit of their tags changed.
+const POOL: &str = "436f756e742d30436f756e742d31\
+        4265617574792069732074727574682c20747275746820626561757479\
+        f938558b5d72f1a23810b4be2ab4f84331acc02fc97babc53a52ae8218a355a96d8770ac83d07bea87e13c512a\
+        af2d7e9ac9ae7e270f46ba1f975be53c09f8d875bdc8535458c2494e8a6eab251c03d0c22a56b8ca42c2063b84\
+        f938558b5d72f1a23810b4be2ab4f84331acc02fc97babc53a52ae8218a355a96d8770ac83d07bea87e13c512b\
+        af2d7e9ac9ae7e270f46ba1f975be53c09f8d875bdc8535458c2494e8a6eab251c03d0c22a56b8ca42c2063b85";
+
+pub(crate) const A0: Span = Span { start: 0, len: 7 };
+
+pub(crate) const A1: Span = Span { start: 7, len: 7 };
+
+pub(crate) const P: Span = Span { start: 14, len: 29 };
+
+pub(crate) const C0: Span = Span { start: 43, len: 45 };
+
+pub(crate) const C1: Span = Span { start: 88, len: 45 };
+
+const X0: Span = Span {
+    start: 133,
+    len: 45,
+};
+
+pub(crate) const X1: Span = Span {
+    start: 178,
+    len: 45,
+};
+
+const NONE: Span = Span { start: 0, len: 0 };
+
+// The items of the openings of several messages.
+const ITEMS: [Item; 14] = [
+    Item { aad: A0, text: C0 },
+    Item { aad: A1, text: X1 },
+    Item { aad: A1, text: C1 },
+    Item { aad: A0, text: X0 },
+    Item { aad: A0, text: X0 },
+    Item { aad: A0, text: X0 },
+    Item { aad: A0, text: X0 },
+    Item { aad: A0, text: X0 },
+    Item { aad: A0, text: C0 },
+    Item { aad: A1, text: C1 },
+    Item { aad: A0, text: C0 },
+    Item { aad: A0, text: C0 },
+    Item { aad: A0, text: C0 },
+    Item { aad: A1, text: C1 },
+];
+
+pub(crate) fn seal(aad: Span, text: Span) -> CallLine
+    ensures { result ≡ CallLine.Seal 0 (record { aad = aad; text = text }) }
+{
+    CallLine::Seal {
+        context: 0,
+        item: Item { aad, text },
+    }
+}
+
+pub(crate) fn unseal(aad: Span, text: Span) -> CallLine
+    ensures { result ≡ CallLine.Unseal 1 (record { aad = aad; text = text }) }
+{
+    CallLine::Unseal {
+        context: 1,
+        item: Item { aad, text },
+    }
+}
+
+pub(crate) fn unseal_all(first: u32, count: u32) -> CallLine
+    ensures { result ≡ CallLine.UnsealAll 1 first count }
+{
+    CallLine::UnsealAll {
+        context: 1,
+        first,
+        count,
+    }
+}
+
+fn line(role: Role, limit: u64) -> ContextLine
+    ensures { result ≡ line_of role limit }
+{
+    ContextLine {
+        kind: ContextKind::Share {
+            role,
+            kem: 0x0020,
+            secret: NONE,
+        },
+        kdf: Kdf::Sha256,
+        aead: Aead::Aes128,
+        mode: Mode::Base,
+        info: NONE,
+        psk: NONE,
+        psk_id: NONE,
+        limit,
+    }
+}
+
+// The messages, and zeros behind them.
+fn pool(alloc: Global) -> Result<ByteList, Fail>
+    ensures { IfOk result (λ pool. length pool ≡ 1024) }
+{
+    let mut pool = [0; 1024];
+    pool[..223].copy_from_slice(&<[u8; 223]>::from_hex(POOL)?);
+    Ok(PlainList::from_vec(Vec::from_slice(alloc, &pool)?))
+}
+
+// Context 0 seals and context 1 opens.
+fn contexts(alloc: Global, limit: u64) -> Result<ContextLines, Fail>
+    ensures { IfOk result (λ lines. lines ≡ two_lines limit) }
+{
+    let lines = [line(Role::Sender, limit), line(Role::Recipient, limit)];
+    Ok(PlainList::from_vec(Vec::from_slice(alloc, &lines)?))
+}
+
+fn lanes(alloc: Global, first: &[CallLine], second: &[CallLine]) -> Result<LaneLines, Fail>
+    ensures { IfOk result (λ lanes. lanes ≡ first.now ∷ second.now ∷ []) }
+{
+    let first = PlainList::from_vec(Vec::from_slice(alloc, first)?);
+    let second = PlainList::from_vec(Vec::from_slice(alloc, second)?);
+    Ok(PlainList::from_vec(Vec::from_array(alloc, [first, second])?))
+}
+
+// The pool has bytes for each call of its own, as each line of a text has.
+fn plan_of(alloc: Global, limit: u64, first: &[CallLine], second: &[CallLine]) -> Result<Plan, Fail>
+    requires limit { 1 ≤ limit }
+    requires small { IsTrue (are_small ITEMS (first.now ∷ second.now ∷ [])) }
+    ensures within { IfOk result (λ plan. IsWithinLimits plan) }
+    ensures plain { IfOk result (λ plan. IsPlain plan) }
+    ensures keys { IfOk result (λ plan. plan.keys ≡ []) }
+    ensures contexts { IfOk result (λ plan. plan.contexts ≡ two_lines limit) }
+{
+    let pool = pool(alloc)?;
+    let contexts = contexts(alloc, limit)?;
+    let lanes = lanes(alloc, first, second)?;
+    let items = PlainList::from_vec(Vec::from_slice(alloc, &ITEMS)?);
+    Ok(Plan {
+        version: 2,
+        seed: None,
+        pool,
+        keys: PlainList::from_vec(Vec::new(alloc)),
+        contexts,
+        items,
+        lanes,
+        added: 0,
+    })
+}
+
+pub(crate) fn rehearsed<R: Threads + Sync>(
+    rt: &R,
+    alloc: Global,
+    limit: u64,
+    first: &[CallLine],
+    second: &[CallLine],
+    schedule: &[u8],
+) -> Result<Answers, Fail>
+    requires limit { 1 ≤ limit }
+    requires small { IsTrue (are_small ITEMS (first.now ∷ second.now ∷ [])) }
+{
+    let plan = plan_of(alloc, limit, first, second)?;
+    let contexts = [
+        Some(context_of(Role::Sender, limit)?),
+        Some(context_of(Role::Recipient, limit)?),
+    ];
+    let keys = PlainList::from_vec(Vec::new(alloc));
+    let replies = PlainList::from_vec(Vec::from_array(
+        alloc,
+        [ContextReply::Shared, ContextReply::Shared],
+    )?);
+    let mut answers = Answers::for_plan(alloc, &plan, keys, replies, &[8160, 8160])?;
+    rehearse(rt, alloc, &plan, &contexts, schedule, &mut answers)?;
+    Ok(answers)
+}

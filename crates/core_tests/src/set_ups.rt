@@ -1,0 +1,5 @@
+//! Set-ups: whole exchanges, and refusals.
+
+mod exchanges;
+mod plans;
+mod refusals;
