@@ -20,7 +20,5 @@ mod merging;
 mod results;
 mod serving;
 mod takes;
-#[cfg(test)]
-mod tests;
 
 pub use serving::{CapsuleAnswers, CapsuleReplies, serve_capsules};

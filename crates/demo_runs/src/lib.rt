@@ -22,6 +22,3 @@ mod serving;
 pub use demos::demo;
 pub use laws::one_report;
 pub use reports::{DemoReport, print_report};
-
-#[cfg(test)]
-mod tests;

@@ -1,13 +1,15 @@
 //! The second batch: how many of the ciphertexts are opened.
 
 ghost use Rattle.std.specs.Prelude.{◌≡◌, ◌<◌, ◌≤◌, ◌^◌, ℕ, length, IfOk, Some, true};
+ghost use Rattle.batch_plans.specs.Limits.{IsWithinLimits, IsPlain};
 ghost use Rattle.batch_plans.specs.Replies.{IsInRange};
 ghost use Rattle.reply_texts.specs.Lines.{reply_line};
+ghost use Rattle.demo_texts.specs.Plans.{IsOpeningPlan};
 ghost use Rattle.demo_runs.specs.Steps.{opened_line, IsOpenedLane, IsSealed};
 
 use crate::serving::serve;
 use batch_io::Gate;
-use batch_plans::{LaneAnswers, Reply};
+use batch_plans::{LaneAnswers, Plan, Reply};
 use context_table::laws::ends_match;
 use context_table::set_up;
 use demo_texts::{CIPHERTEXT_SIZE, opening_batch};
@@ -58,6 +60,27 @@ fn count_opened(lane: &LaneAnswers, messages: u32) -> u32
     opened
 }
 
+// How many messages are opened of ciphertexts that were sealed, by the plan that opens them.
+fn opened_by<R: Threads + Wait + Sync, G: Gate + Sync>(
+    rt: &R,
+    alloc: Global,
+    plan: &Plan,
+    cts: &[[u8; CIPHERTEXT_SIZE]],
+    gate: &G,
+) -> Result<u32, AllocError>
+    requires plan { (seed : ℕ) × IsOpeningPlan seed cts.now plan.now
+        × IsSealed seed (length cts.now) (Some cts.now) }
+    requires limits { IsWithinLimits plan.now }
+    requires plain { IsPlain plan.now }
+    requires few { length cts.now ≤ 65536 }
+    ensures { IfOk result (λ opened. opened ≡ length cts.now) }
+{
+    let setup = set_up(alloc, plan, &Plain)?;
+    let answers = serve(rt, alloc, plan, setup, gate)?;
+    ends_match();
+    Ok(count_opened(&answers.lanes.as_slice()[0], cts.len() as u32))
+}
+
 /// How many messages are opened of the ciphertexts that the first batch gave.
 pub(crate) fn opened_messages<R: Threads + Wait + Sync, G: Gate + Sync>(
     rt: &R,
@@ -71,8 +94,5 @@ pub(crate) fn opened_messages<R: Threads + Wait + Sync, G: Gate + Sync>(
     ensures { IfOk result (λ opened. opened ≡ length cts.now) }
 {
     let plan = opening_batch(alloc, seed, cts)?;
-    let setup = set_up(alloc, &plan, &Plain)?;
-    let answers = serve(rt, alloc, &plan, setup, gate)?;
-    ends_match();
-    Ok(count_opened(&answers.lanes.as_slice()[0], cts.len() as u32))
+    opened_by(rt, alloc, &plan, cts, gate)
 }

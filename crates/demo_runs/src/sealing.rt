@@ -3,7 +3,9 @@
 ghost use Rattle.std.specs.Prelude.{◌≡◌, ◌<◌, ◌≤◌, ℕ, List, length, map, IfOk, MatchOption, Some, None, slice_set};
 ghost use Rattle.std.specs.List.{flat_map};
 ghost use Rattle.hpke_context.specs.Contexts.{ContextView};
+ghost use Rattle.batch_plans.specs.Limits.{IsWithinLimits, IsPlain};
 ghost use Rattle.reply_texts.specs.Lines.{reply_line};
+ghost use Rattle.demo_texts.specs.Plans.{IsSealingPlan};
 ghost use Rattle.demo_runs.specs.Demo.{sealed_at};
 ghost use Rattle.demo_runs.specs.Steps.{sealed_line, IsSealedReply, SealedLane, SealedLanes, AreLow};
 ghost use Rattle.demo_runs.specs.Steps.{IsSealedLane, AreSealedLanes, put_all, IsSealed, is_generated};
@@ -76,6 +78,32 @@ fn put_lanes(plan: &Plan, answers: &Answers, cts: &mut [[u8; CIPHERTEXT_SIZE]])
     }
 }
 
+// The ciphertexts of the messages that a plan seals; none where there is no key.
+fn sealed_by<R: Threads + Wait + Sync, G: Gate + Sync>(
+    rt: &R,
+    alloc: Global,
+    plan: &Plan,
+    messages: u32,
+    gate: &G,
+) -> Result<Option<Vec<[u8; CIPHERTEXT_SIZE]>>, AllocError>
+    requires messages { messages ≤ 65536 }
+    requires plan { (seed lanes : ℕ) × (0 < lanes) × IsSealingPlan seed messages lanes plan.now }
+    requires limits { IsWithinLimits plan.now }
+    requires plain { IsPlain plan.now }
+    ensures { (seed lanes : ℕ) → 0 < lanes → IsSealingPlan seed messages lanes plan.now
+        → IfOk result (λ found. MatchOption found (IsSealed seed messages None)
+        (λ cts. IsSealed seed messages (Some cts.items))) }
+{
+    let setup = set_up(alloc, plan, &Plain)?;
+    if !is_generated(setup.keys.as_slice()) {
+        return Ok(None);
+    }
+    let mut cts = vec![in alloc; [0; CIPHERTEXT_SIZE]; messages as usize]?;
+    let answers = serve(rt, alloc, plan, setup, gate)?;
+    put_lanes(plan, &answers, &mut cts);
+    Ok(Some(cts))
+}
+
 /// The ciphertexts of so many messages, sealed in so many lanes; none where there is no key.
 pub(crate) fn sealed_messages<R: Threads + Wait + Sync, G: Gate + Sync>(
     rt: &R,
@@ -91,12 +119,5 @@ pub(crate) fn sealed_messages<R: Threads + Wait + Sync, G: Gate + Sync>(
         (λ cts. IsSealed seed messages (Some cts.items))) }
 {
     let plan = sealing_batch(alloc, seed, messages, lanes)?;
-    let setup = set_up(alloc, &plan, &Plain)?;
-    if !is_generated(setup.keys.as_slice()) {
-        return Ok(None);
-    }
-    let mut cts = vec![in alloc; [0; CIPHERTEXT_SIZE]; messages as usize]?;
-    let answers = serve(rt, alloc, &plan, setup, gate)?;
-    put_lanes(&plan, &answers, &mut cts);
-    Ok(Some(cts))
+    sealed_by(rt, alloc, &plan, messages, gate)
 }

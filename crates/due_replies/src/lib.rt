@@ -6,8 +6,11 @@
 //! export by itself. `IsAllowed` says which journals and guesses there may be.
 //!
 //! How keys and contexts are set up is not known here: the contexts that stand are an argument.
+//! [`standing`] looks one up, and [`refusal_of`] tells which calls they refuse.
 #![tactic(auto)]
 
+mod contexts;
 mod laws;
 
+pub use contexts::{refusal_of, standing};
 pub use laws::{a_refused_context_is_never_live, a_served_call_was_live, refusals_agree};

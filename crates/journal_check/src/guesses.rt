@@ -27,8 +27,9 @@ use crate::links::LinkedJournal;
 use crate::runs::JournalRun;
 use batch_plans::{Batch, CallLine, PlainList, Plan};
 use call_places::Mark;
+use due_replies::refusal_of;
 use hpke_context::Context;
-use result_lines::{GuessLine, refusal_of};
+use result_lines::GuessLine;
 use std::alloc::{AllocError, Global};
 use told_journals::asked_of;
 

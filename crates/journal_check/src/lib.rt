@@ -23,12 +23,3 @@ mod runs;
 
 pub use checking::check_result;
 pub use result_verdicts::Verdict;
-
-#[cfg(test)]
-mod history_rows;
-#[cfg(test)]
-mod opening_rows;
-#[cfg(test)]
-mod rows;
-#[cfg(test)]
-mod tests;

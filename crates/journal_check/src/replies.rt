@@ -25,8 +25,9 @@ use crate::links::LinkedJournal;
 use crate::runs::JournalRun;
 use batch_plans::{CallLine, CallRefusal, PlainList, Plan};
 use call_places::{Mark, Span};
+use due_replies::{refusal_of, standing};
 use hpke_context::Context;
-use result_lines::{Replies, push_hex, refusal_of, standing};
+use result_lines::{Replies, push_hex};
 use std::alloc::{AllocError, Global};
 
 fn refusal_line(refusal: CallRefusal) -> &'static [u8]

@@ -8,8 +8,8 @@ ghost use Rattle.batch_plans.specs.Calls.{items_on};
 ghost use Rattle.due_replies.specs.Standing.{AreOfLines, export_limits};
 ghost use Rattle.lane_quotas.specs.Quotas.{lane_quota};
 
-use crate::contexts::refusal_of;
 use batch_plans::{CallLine, LaneLines, Plan, context_of, items_of};
+use due_replies::refusal_of;
 use hpke_context::Context;
 use std::alloc::{AllocError, Global};
 

@@ -11,10 +11,8 @@
 //! Nothing here changes a context or a book.
 #![tactic(auto)]
 
-mod contexts;
 mod counting;
 mod journals;
 
-pub use contexts::{refusal_of, standing};
 pub use counting::{quotas, quotas_of};
 pub use journals::write_journals;

@@ -6,8 +6,8 @@ ghost use Rattle.lane_workers.specs.LiveLanes.{AddsOneOf};
 ghost use Rattle.live_runs.specs.Noting.{notes_of, note_quota, note_quotas};
 
 use batch_plans::{CallLine, FIRST_NAME, Plan};
+use due_replies::standing;
 use hpke_context::Context;
-use lane_quotas::standing;
 use std::alloc::{AllocError as OutOfMemory, Global};
 
 // Whether a call on the context of this number is one on a name of the plan.

@@ -5,7 +5,10 @@ ghost use Rattle.rand_words.specs.Words.{TakesAtMost};
 ghost use Rattle.hpke_context.specs.Contexts.{encrypts};
 ghost use Rattle.sntrup_kem.specs.Sizes.{enc_size};
 ghost use Rattle.sntrup_kem.specs.Kem.{drawn_r, IsGenerated};
-ghost use Rattle.ohttp_capsule.specs.Requests.{least_request, asked_with, encapsulated_request};
+ghost use Rattle.key_schedule.specs.declared.modes.Role.TheVariants.{Sender};
+ghost use Rattle.ohttp_capsule.specs.Headers.{header_size};
+ghost use Rattle.ohttp_capsule.specs.Requests.{tag_size, least_request};
+ghost use Rattle.ohttp_capsule.specs.Requests.{context_of, asked_with, encapsulated_request};
 ghost use Rattle.ohttp_capsule.specs.Laws.{Asks};
 
 use crate::firsts::sealed_first;
@@ -27,6 +30,30 @@ use std::alloc::{AllocError as OutOfMemory, Global};
 pub struct Asked {
     pub context: KeptContext,
     pub enc: ByteList,
+}
+
+// What a client keeps and the request, where the KEM gave this shared secret and its encapsulation.
+fn asked_by(
+    alloc: Global,
+    id: u8,
+    suite: Suite,
+    enc: &[u8],
+    shared_secret: &[u8; 32],
+    text: &[u8],
+) -> Result<(Asked, ByteList), OutOfMemory>
+    requires cipher { IsTrue (encrypts suite.aead) }
+    requires text { length text.now ≤ 2 ^ 20 }
+    ensures asked { IfOk result (λ a. a.0
+        ≡ record { context = context_of Sender id suite shared_secret.now; enc = enc.now }) }
+    ensures request { IfOk result (λ a. a.1 ≡ encapsulated_request id a.0 text.now) }
+    ensures size { IfOk result (λ a. length a.1
+        ≡ header_size + length enc.now + (length text.now + tag_size)) }
+{
+    let context = context_of(alloc, Role::Sender, id, suite, shared_secret)?;
+    let ct = sealed_first(alloc, context.as_context(), text)?;
+    let request = joined_three(alloc, &header(id, &suite), enc, ct.as_slice())?;
+    let enc = copied(alloc, enc)?;
+    Ok((Asked { context, enc }, request))
 }
 
 /// Encapsulates a request (RFC 9458, 4.3): the text, sealed to a public key in a context of its own,
@@ -67,12 +94,5 @@ pub fn ask<S: KemParams, R: Words, M: Multiplier>(
         aead,
     };
     let (enc, shared_secret) = encap(alloc, words, mult, public)?;
-    let context = context_of(alloc, Role::Sender, id, suite, &shared_secret)?;
-    let ct = sealed_first(alloc, context.as_context(), text)?;
-    let request = joined_three(alloc, &header(id, &suite), enc.as_slice(), ct.as_slice())?;
-    let asked = Asked {
-        context,
-        enc: copied(alloc, enc.as_slice())?,
-    };
-    Ok((asked, request))
+    asked_by(alloc, id, suite, enc.as_slice(), &shared_secret, text)
 }

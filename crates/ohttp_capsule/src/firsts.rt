@@ -30,8 +30,11 @@ pub(crate) fn sealed_first(
     Ok(ByteList::from_vec(ct))
 }
 
-/// ContextR.Open("", ct), at number 0.
-pub(crate) fn opened_first(
+/// ContextR.Open("", ct), at number 0 (RFC 9180, 5.2): the text of a request's ciphertext.
+///
+/// Refused as [`CapsuleFault::Failed`] where the tag doesn't hold, and as nothing else. The context
+/// isn't changed, and `checks` counts the tag.
+pub fn opened_first(
     alloc: Global,
     context: &Context,
     ct: &[u8],

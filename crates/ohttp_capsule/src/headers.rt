@@ -9,7 +9,7 @@ use hkdf_labelled::{Aead, Kdf, Suite};
 pub(crate) const HEADER_SIZE: usize = 7;
 
 /// hdr: the identifier of the key, and the ids of KEM, KDF and AEAD in two bytes each.
-pub(crate) fn header(key_id: u8, suite: &Suite) -> [u8; 7]
+pub fn header(key_id: u8, suite: &Suite) -> [u8; 7]
     ensures { result ≡ header key_id suite.now }
 {
     let [kem1, kem0] = suite.kem.to_be_bytes();
@@ -84,8 +84,8 @@ fn first_named(key_id: u8, suites: &[Suite], bytes: &[u8]) -> Option<Suite>
 }
 
 /// The algorithms that a header names to the key of this identifier and KEM, where it names it and
-/// algorithms that encrypt.
-pub(crate) fn suite_named(key_id: u8, kem: u16, bytes: &[u8]) -> Option<Suite>
+/// algorithms that encrypt. Bytes of another size than 7 are no header.
+pub fn suite_named(key_id: u8, kem: u16, bytes: &[u8]) -> Option<Suite>
     ensures { result ≡ suite_named key_id kem bytes.now }
 {
     first_named(key_id, &suites_of(kem), bytes)

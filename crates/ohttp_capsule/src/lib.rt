@@ -5,7 +5,9 @@
 //! another under a key of that exchange, and the client's [`take`] opens that. Each is a function of
 //! its inputs, by `specs/Requests.antt`, `Responses.antt` and `Replies.antt`, and each refusal comes
 //! exactly where its cause stands (`Refusals.antt`). [`laws`] says that a whole exchange gives each
-//! end the other's text.
+//! end the other's text. What an exchange has beside the KEM stands open too, for a shared secret of
+//! another: the header ([`headers`]), the contexts of both ends ([`setups`]), and the first message
+//! of one, opened ([`firsts`]).
 //!
 //! Not here: binary HTTP messages, key configurations and media types (RFC 9458, 3), and where the
 //! nonce of a response comes from, which must be random. Nothing is constant time or wiped.
@@ -14,16 +16,14 @@
 mod answering;
 mod asking;
 mod faults;
-mod firsts;
-mod headers;
+pub mod firsts;
+pub mod headers;
 mod kept;
 pub mod laws;
 mod responses;
-mod setups;
+pub mod setups;
 mod strings;
 mod taking;
-#[cfg(test)]
-mod tests;
 
 pub use answering::answer;
 pub use asking::{Asked, ask};

@@ -12,9 +12,10 @@ use std::alloc::{AllocError as OutOfMemory, Global};
 
 /// The context of one end of an exchange (RFC 9180, 5.1.1), by the KEM's shared secret.
 ///
-/// Kept by itself, so that no caller's frame has room for the tables that it moves.
+/// It is bound to the identifier of the key and the algorithms, and has one number, 0. Kept by itself,
+/// so that no caller's frame has room for the tables that it moves.
 #[inline(never)]
-pub(crate) fn context_of(
+pub fn context_of(
     alloc: Global,
     role: Role,
     key_id: u8,

@@ -17,6 +17,3 @@ mod verdicts;
 pub use laws::{a_text_tells_one_run, legal_texts_are_those_of_allowed_runs};
 pub use printing::print_verdict;
 pub use verdicts::Verdict;
-
-#[cfg(test)]
-mod tests;

@@ -6,8 +6,8 @@ ghost use Rattle.told_journals.specs.Asks.{asked_in, call_goes_on, opens_more as
 
 use batch_plans::{CallLine, Plan};
 use call_places::Place;
+use due_replies::refusal_of;
 use hpke_context::Context;
-use result_lines::refusal_of;
 
 /// The context that a call asks, and for how many items; none where it asks nothing.
 pub fn asked_of(contexts: &[Option<Context>], call: &CallLine) -> Option<(u32, u32)>

@@ -1,18 +1,14 @@
-use Rattle.demo_runs.proofs.SecondBatch.{first_lane}
+use Rattle.std.proofs.Common.{ℕ, List, length, Some}
+use Rattle.batch_plans.specs.declared.plan.Plan.{Plan}
+use Rattle.demo_texts.specs.Plans.{IsOpeningPlan}
+use Rattle.demo_runs.specs.Steps.{IsSealed}
 use Rattle.demo_runs.proofs.opening.opened_messages.Goals as goal
 
-pub count_opened-requires : goal.count_opened-requires
-count_opened-requires g c =
-    first_lane c.args.seed c.args.cts.now c.in_ok-plan.plan c.in_ok-setup.setup.keys c.in_ok-setup.setup.contexts c.in_ok-setup.setup.standing
-    c.in_ok-answers.answers
-    (record {
-      ends = c.ends_match.ensures;
-      sealed = c.requires.sealed;
-      is = c.in_ok-plan.ensures.plan;
-      set_up = c.in_ok-setup.ensures.set_up;
-      lines = c.in_ok-setup.ensures.lines;
-      run = c.in_ok-answers.ensures.run;
-      answered = c.in_ok-answers.ensures.answered;
-      few = c.requires.few;
-    })
-    c.index-as_slice-0.result c.as_slice.result.now c.as_slice.ensures.items c.index-as_slice-0.is
+of_seed : (seed : ℕ) (cts : List (List ℕ)) (plan : Plan) → IsOpeningPlan seed cts plan
+    → IsSealed seed (length cts) (Some cts)
+    → (seed : ℕ) × IsOpeningPlan seed cts plan × IsSealed seed (length cts) (Some cts)
+of_seed seed cts plan is sealed = (seed, is, sealed)
+
+pub opened_by-requires-clause-plan : goal.opened_by-requires-clause-plan
+opened_by-requires-clause-plan g c _ _ =
+    of_seed c.args.seed c.args.cts.now c.in_ok-plan.plan c.in_ok-plan.ensures.plan c.requires.sealed

@@ -1,45 +1,15 @@
-use Rattle.std.proofs.Common.{◌≡◌, ℕ, ◌++◌, List, length, take, drop, Some, ap, subst, sym, ◌∙◌, arith}
-use Rattle.std.proofs.lemmas.List.{take_at}
-use Rattle.demo_runs.specs.Steps.{AreSealedLanes, IsSealed, is_generated}
-use Rattle.demo_runs.proofs.SetUps.{set_up_of}
-use Rattle.demo_runs.proofs.FirstBatch.{first_batch, lanes_are, found_are}
-use Rattle.demo_runs.proofs.Reported.{none_found}
+use Rattle.std.proofs.Common.{ℕ, ◌<◌}
+use Rattle.batch_plans.specs.declared.plan.Plan.{Plan}
+use Rattle.demo_texts.specs.Plans.{IsSealingPlan}
 use Rattle.demo_runs.proofs.sealing.sealed_messages.Goals as goal
 
-pub returns-then-not-is_generated : goal.returns-then-not-is_generated
-returns-then-not-is_generated g c =
-    let s = c.in_ok-setup.setup in
-    record {
-      keys = s.keys;
-      contexts = s.contexts;
-      standing = s.standing;
-      set_up = set_up_of c.args.seed c.in_ok-plan.plan c.in_ok-plan.ensures.plan.begins s.keys s.contexts s.standing c.in_ok-setup.ensures.set_up;
-      found_is = none_found c.args.messages s.keys s.standing
-          (sym (c.is_generated.ensures ∙ ap is_generated c.as_slice.ensures.items) ∙ c.if-not-is_generated.true);
-    }
+of_seed : (seed messages lanes : ℕ) (plan : Plan) → 0 < lanes → IsSealingPlan seed messages lanes plan
+    → (seed lanes : ℕ) × (0 < lanes) × IsSealingPlan seed messages lanes plan
+of_seed seed messages lanes plan some is = (seed, lanes, some, is)
 
-pub put_lanes-requires : goal.put_lanes-requires
-put_lanes-requires g c =
-    let s = c.in_ok-setup.setup in
-    let size : length c.deref_mut.result.now ≡ c.args.messages = let a = c.deref_mut.ensures.len in let b = c.in_ok-cts.ensures.len in omega arith in
-    let f = first_batch c.args.seed c.args.messages c.args.lanes c.in_ok-plan.plan s.keys s.contexts s.standing c.in_ok-answers.answers
-    c.in_ok-setup.ensures.set_up
-    (sym (c.is_generated.ensures ∙ ap is_generated c.as_slice.ensures.items) ∙ c.if-not-is_generated.false)
-    c.in_ok-plan.ensures.plan c.in_ok-answers.ensures.run c.in_ok-answers.ensures.answered c.requires.messages c.requires.lanes.0 in
-    subst (λ (n : ℕ). AreSealedLanes n c.in_ok-plan.plan.lanes c.in_ok-answers.answers.lanes) (sym size)
-    (lanes_are c.args.seed c.args.messages c.args.lanes c.in_ok-plan.plan s.contexts s.standing f.0 f.1 c.in_ok-answers.answers f.2)
+pub sealed_by-requires-clause-plan : goal.sealed_by-requires-clause-plan
+sealed_by-requires-clause-plan g c _ _ =
+    of_seed c.args.seed c.args.messages c.args.lanes c.in_ok-plan.plan c.requires.lanes.0 c.in_ok-plan.ensures.plan
 
 pub returns : goal.returns
-returns g c =
-    let s = c.in_ok-setup.setup in
-    let size : length c.deref_mut.result.now ≡ c.args.messages = let a = c.deref_mut.ensures.len in let b = c.in_ok-cts.ensures.len in omega arith in
-    let f = first_batch c.args.seed c.args.messages c.args.lanes c.in_ok-plan.plan s.keys s.contexts s.standing c.in_ok-answers.answers
-    c.in_ok-setup.ensures.set_up
-    (sym (c.is_generated.ensures ∙ ap is_generated c.as_slice.ensures.items) ∙ c.if-not-is_generated.false)
-    c.in_ok-plan.ensures.plan c.in_ok-answers.ensures.run c.in_ok-answers.ensures.answered c.requires.messages c.requires.lanes.0 in
-    let found = found_are c.args.seed c.args.messages c.args.lanes c.in_ok-plan.plan s.contexts s.standing f.0 f.1 c.in_ok-answers.answers f.2
-    c.deref_mut.result.now c.put_lanes.new.cts size c.put_lanes.ensures.put in
-    let whole : take c.in_ok-cts.cts.len (c.put_lanes.new.cts ++ drop (length c.put_lanes.new.cts) c.in_ok-cts.cts.items) ≡ c.put_lanes.new.cts =
-    take_at c.put_lanes.new.cts (drop (length c.put_lanes.new.cts) c.in_ok-cts.cts.items) c.in_ok-cts.cts.len
-    (let a = c.deref_mut.ensures.len in let b = c.in_ok-cts.ensures.len in let d = c.put_lanes.ensures.len in omega arith) in
-    subst (λ (xs : List (List ℕ)). IsSealed c.args.seed c.args.messages (Some xs)) (sym whole) found
+returns g c = c.sealed_by.ensures _ _ c.requires.lanes.0 c.in_ok-plan.ensures.plan

@@ -1,7 +1,7 @@
 //! Results with exports, refusals and stamps, and the verdicts on them.
 
-use crate::Verdict;
-use crate::rows::Row;
+use super::rows::Row;
+use journal_check::Verdict;
 
 // An export, refusals and LIMIT.
 pub const REFUSALS: [Row; 4] = [

@@ -1,7 +1,7 @@
 //! Results of batches with openings of several messages, and the verdicts on them.
 
-use crate::Verdict;
-use crate::rows::Row;
+use super::rows::Row;
+use journal_check::Verdict;
 
 // Openings, and their guesses.
 pub const OPENINGS: [Row; 8] = [

@@ -1,8 +1,8 @@
 //! The line of each verdict.
 
-use crate::{Verdict, print_verdict};
 use batch_io::MemorySink;
 use field_text::Printed;
+use result_verdicts::{Verdict, print_verdict};
 use std::test::Fail;
 
 // Own, by hand: each form of the line once, with the least and the greatest numbers.

@@ -2,9 +2,9 @@
 
 ghost use Rattle.std.specs.Prelude.{◌≤◌, length, vec_len, IfOk};
 
-use crate::serve_capsules;
 use batch_io::MemorySink;
 use capsule_frames::{print_capsules, read_capsules};
+use capsule_runs::serve_capsules;
 use field_text::Printed;
 use hex::FromHex;
 use ring_core::Plain;

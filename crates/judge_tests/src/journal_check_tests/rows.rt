@@ -1,6 +1,6 @@
 //! Results of small batches, and the verdicts on them.
 
-use crate::Verdict;
+use journal_check::Verdict;
 
 // A batch, a text that is said to answer it, and the verdict on the text.
 pub struct Row {

@@ -1,4 +1,4 @@
-//! The contexts of a plan, and which calls they refuse.
+//! The contexts that stand, and which calls they refuse.
 
 ghost use Rattle.std.specs.Prelude.{◌≡◌, MatchOption, Some, None};
 ghost use Rattle.due_replies.specs.Standing.{standing_at, call_refusal};

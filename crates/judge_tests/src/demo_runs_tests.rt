@@ -1,7 +1,7 @@
 //! Whole demonstrations.
 
-use crate::{DemoReport, demo, print_report};
 use batch_io::{FreeGate, MemorySink};
+use demo_runs::{DemoReport, demo, print_report};
 use field_text::Printed;
 use hex::FromHex;
 use std::test::Fail;

@@ -1,10 +1,14 @@
 //! Verdicts on the results of small batches.
 
-use crate::history_rows::{REFUSALS, STAMPS};
-use crate::opening_rows::{GUESSES, OPENINGS};
-use crate::rows::{FORMS, Row, SEALS};
-use crate::{Verdict, check_result};
+mod history_rows;
+mod opening_rows;
+mod rows;
+
+use self::history_rows::{REFUSALS, STAMPS};
+use self::opening_rows::{GUESSES, OPENINGS};
+use self::rows::{FORMS, Row, SEALS};
 use batch_plans::limits::MOST_INPUT;
+use journal_check::{Verdict, check_result};
 use request_frames::read_front;
 use ring_core::Plain;
 use std::alloc::{AllocError, Global};

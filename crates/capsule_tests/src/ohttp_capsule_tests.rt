@@ -1,0 +1,69 @@
+//! Whole exchanges against another program and the RFC's own, and refusals.
+
+mod calls;
+mod exchanges;
+mod refusals;
+
+use self::calls::taken;
+use aes_gcm::Checks;
+use hex::FromHex;
+use hkdf_labelled::{Aead, Kdf, Suite};
+use key_schedule::Role;
+use ohttp_capsule::firsts::opened_first;
+use ohttp_capsule::headers::{header, suite_named};
+use ohttp_capsule::setups::context_of;
+use ohttp_capsule::{Asked, CapsuleFault};
+use radix_pack::ByteList;
+use std::test::Fail;
+
+// RFC 9458, appendix A, with DHKEM(X25519, HKDF-SHA256) and the shared secret that
+// tools/vectors/ohttp_capsules.py makes of the keys that are published there.
+#[test]
+fn the_exchange_of_the_rfc_is_read(rt: HostRuntime) -> Result<(), Fail> {
+    let alloc = rt.alloc();
+    let shared_secret = <[u8; 32]>::from_hex(
+        "24ff871dfb74349815e21f460d107c4873bfb3e417c148cd9633b7c518bb52e4",
+    )?;
+    let request = <[u8; 80]>::from_hex(
+        "010020000100014b28f881333e7c164ffc499ad9796f877f4e1051ee6d31bad19dec96c208b4726374e469135906992e1268c594d2a10c695d858c40a026e7965e7d86b83dd440b2c0185204b4d63525",
+    )?;
+    let response = <[u8; 35]>::from_hex(
+        "c789e7151fcba46158ca84b04464910d86f9013e404feea014e7be4a441f234f857fbd",
+    )?;
+    let suite = Suite {
+        kem: 0x0020,
+        kdf: Kdf::Sha256,
+        aead: Aead::Aes128,
+    };
+    assert_eq!(rt; &header(1, &suite)[..], &request[..7]);
+    assert_eq!(rt; suite_named(1, 0x0020, &request[..7]), Some(suite));
+    let gateway = context_of(alloc, Role::Recipient, 1, suite, &shared_secret)?;
+    let mut checks = Checks::new(&rt);
+    let opened = opened_first(alloc, gateway.as_context(), &request[39..], &mut checks);
+    let question = <[u8; 25]>::from_hex("00034745540568747470730b6578616d706c652e636f6d012f")?;
+    assert_eq!(rt; opened.expect(&rt, "a request").as_slice(), &question[..]);
+    let asked = Asked {
+        context: context_of(alloc, Role::Sender, 1, suite, &shared_secret)?,
+        enc: ByteList::from_vec(Vec::from_slice(alloc, &request[7..39])?),
+    };
+    let reply = taken(&rt, alloc, &asked, &response).expect(&rt, "a response");
+    assert_eq!(rt; reply.as_slice(), &[0x01, 0x40, 0xc8][..]);
+    Ok(())
+}
+
+#[test]
+fn a_fault_is_told_by_its_number_and_in_words(rt: HostRuntime) -> Result<(), Fail> {
+    let faults = [
+        (CapsuleFault::Short, 1, "the message is too short"),
+        (CapsuleFault::Header, 2, "the header is not that of the key"),
+        (CapsuleFault::NonceSize, 3, "the nonce has another size"),
+        (CapsuleFault::Failed, 4, "the tag does not hold"),
+        (CapsuleFault::OutOfMemory, 5, "out of memory"),
+    ];
+    for (fault, number, text) in faults {
+        assert_eq!(rt; u8::from(fault), number);
+        let printed = format!(in rt.alloc(); "{fault}")?;
+        assert_eq!(rt; printed.as_str(), text);
+    }
+    Ok(())
+}

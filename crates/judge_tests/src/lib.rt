@@ -1,0 +1,13 @@
+//! Tests of what is said of results: the line of each verdict (result_verdicts), verdicts on the
+//! results of small batches (journal_check) and whole demonstrations (demo_runs).
+//!
+//! They stand apart, so that each of those crates is proved without them, and see what a caller
+//! sees.
+#![tactic(auto)]
+
+#[cfg(test)]
+mod demo_runs_tests;
+#[cfg(test)]
+mod journal_check_tests;
+#[cfg(test)]
+mod result_verdicts_tests;
