@@ -1,6 +1,6 @@
 -- What may come of an input: which outcomes there are, and that an input too large ends as one that was read
 -- in part.
-use Rattle.std.proofs.Common.{◌≡◌, ◌∙◌, ◌<◌, ◌≤◌, ℕ, List, ◌++◌, length, drop, Option, Some, None, Result, Ok, Err, refl, sym, ap, ap₂, subst, inl, inr, ◌⊎◌, arith, append-nil, length-append}
+use Rattle.std.proofs.Common.{◌≡◌, ◌∙◌, ◌<◌, ℕ, List, ◌++◌, length, drop, Option, Some, None, Result, Ok, Err, refl, sym, ap, subst, inl, inr, arith, append-nil, length-append}
 use Rattle.std.specs.Prelude.{◌≢◌}
 use Rattle.field_text.specs.declared.reasons.Reason.{Reason}
 use Rattle.field_text.specs.declared.reasons.Reason.TheVariants.{Size}
@@ -16,7 +16,7 @@ use Rattle.capsule_frames.specs.Capsules.{capsules, capsule_lines}
 use Rattle.capsule_runs.specs.Replies.{IsCapsuleReply}
 use Rattle.context_table.specs.ReplyTo.{IsLiveReply}
 use Rattle.result_verdicts.specs.declared.verdicts.Verdict.{Verdict}
-use Rattle.result_verdicts.specs.declared.verdicts.Verdict.TheVariants.{Legal, Form, Journal, Stamps, Reply, Guess}
+use Rattle.result_verdicts.specs.declared.verdicts.Verdict.TheVariants.{Legal}
 use Rattle.result_verdicts.specs.VerdictText.{verdict_text}
 use Rattle.batch_words.specs.declared.commands.Command.{Command}
 use Rattle.batch_words.specs.declared.commands.Command.TheVariants as commands
@@ -24,7 +24,7 @@ use Rattle.batch_words.specs.declared.commands.Mult.{Mult}
 use Rattle.batch_runner.specs.declared.outcomes.Outcome.{Outcome}
 use Rattle.batch_runner.specs.declared.outcomes.Outcome.TheVariants as outcomes
 use Rattle.batch_runner.specs.Input.{IsInput}
-use Rattle.batch_runner.specs.Outcomes.{outcome_on}
+use Rattle.batch_runner.proofs.Endings.{IsNoBadLine, IsOfBroken, OfInput, broken_by, no_bad_verdict, on_verdict, told_bad}
 use Rattle.batch_runner.specs.Text.{Answers, AnswersBy, AnswersLive, Exchanges, IsBadFor, IsBroken, IsJudged, IsReadBy, IsReplyBy, IsTold, Judges, MayEnd, ReadsInput}
 
 -- ---- an input that is too large
@@ -115,26 +115,11 @@ module _ (old new : Option (List ℕ)) (input : List ℕ) where
 
 -- ---- which outcomes there are
 
--- those of an input: words outside the grammar and faults are none
-abbrev pub OfInput : Outcome → Type 0
-OfInput outcome =
-    (outcome ≢ outcomes.Usage) × (outcome ≢ outcomes.ReadFault) × (outcome ≢ outcomes.WriteFault)
-    × (outcome ≢ outcomes.OutOfMemory)
-
 of_told : (b : BadBatch) (outcome : Outcome) (text : List ℕ) → IsTold b outcome text → OfInput outcome
-of_told b outcome text told =
-    subst OfInput (sym told.outcome_is) ((λ e. cc), (λ e. cc), (λ e. cc), (λ e. cc))
+of_told b outcome text told = subst OfInput (sym told.outcome_is) tt
 
 of_done : (outcome : Outcome) → outcome ≡ outcomes.Done → OfInput outcome
-of_done outcome is = subst OfInput (sym is) ((λ e. cc), (λ e. cc), (λ e. cc), (λ e. cc))
-
-on_verdict : (verdict : Verdict) → OfInput (outcome_on verdict)
-on_verdict Legal = ((λ e. cc), (λ e. cc), (λ e. cc), (λ e. cc))
-on_verdict (Form line) = ((λ e. cc), (λ e. cc), (λ e. cc), (λ e. cc))
-on_verdict (Journal context) = ((λ e. cc), (λ e. cc), (λ e. cc), (λ e. cc))
-on_verdict Stamps = ((λ e. cc), (λ e. cc), (λ e. cc), (λ e. cc))
-on_verdict (Reply line) = ((λ e. cc), (λ e. cc), (λ e. cc), (λ e. cc))
-on_verdict (Guess line) = ((λ e. cc), (λ e. cc), (λ e. cc), (λ e. cc))
+of_done outcome is = subst OfInput (sym is) tt
 
 of_answers : {P : Type 0} (IsReplyTo : P → List ℕ → Type 0) (r : Result P BadBatch) (outcome : Outcome) (text : List ℕ)
     → AnswersBy IsReplyTo r outcome text → OfInput outcome
@@ -156,17 +141,6 @@ of_input (commands.Demo seed messages lanes) input outcome text end = of_done ou
 of_input (commands.Check mult) input outcome text end = of_judges (front_batch input) input outcome text end
 of_input (commands.Capsules mult) input outcome text end = of_answers IsCapsuleReply (capsules input) outcome text end
 
--- a fault of writing, want of memory, or neither
-pub faults_or_not : (outcome : Outcome) → (outcome ≡ outcomes.WriteFault)
-    ⊎ ((outcome ≡ outcomes.OutOfMemory) ⊎ ((outcome ≢ outcomes.WriteFault) × (outcome ≢ outcomes.OutOfMemory)))
-faults_or_not outcomes.Done = inr (inr ((λ e. cc), (λ e. cc)))
-faults_or_not outcomes.Usage = inr (inr ((λ e. cc), (λ e. cc)))
-faults_or_not (outcomes.BadBatch line reason) = inr (inr ((λ e. cc), (λ e. cc)))
-faults_or_not outcomes.ReadFault = inr (inr ((λ e. cc), (λ e. cc)))
-faults_or_not outcomes.WriteFault = inl refl
-faults_or_not outcomes.OutOfMemory = inr (inl refl)
-faults_or_not (outcomes.Broken verdict) = inr (inr ((λ e. cc), (λ e. cc)))
-
 -- ---- a bad line
 
 -- a reading fails at this line, and it is told
@@ -176,33 +150,23 @@ IsBadLine r line reason text = (r ≡ bad line reason) × (text ≡ bad_text (re
 same_bad : {A : Type 0} (b : BadBatch) (line : ℕ) (reason : Reason) (text : List ℕ)
     → IsTold b (outcomes.BadBatch line reason) text → IsBadLine {A = A} (Err b) line reason text
 same_bad b line reason text told =
-    let same : outcomes.BadBatch line reason ≡ outcomes.BadBatch b.line b.reason = told.outcome_is in
-    let lines : b.line ≡ line = cc in
-    let reasons : b.reason ≡ reason = cc in
-    let whole : b ≡ record { line = line; reason = reason } = ap₂ (λ l r. record { line = l; reason = r }) lines reasons in
+    let whole : b ≡ record { line = line; reason = reason } = sym (ap (told_bad b) told.outcome_is) in
     (ap Err whole, told.text_is ∙ ap bad_text whole)
-
-no_bad_verdict : (verdict : Verdict) (line : ℕ) (reason : Reason) → outcomes.BadBatch line reason ≡ outcome_on verdict → ⊥
-no_bad_verdict Legal line reason e = cc
-no_bad_verdict (Form l) line reason e = cc
-no_bad_verdict (Journal context) line reason e = cc
-no_bad_verdict Stamps line reason e = cc
-no_bad_verdict (Reply l) line reason e = cc
-no_bad_verdict (Guess l) line reason e = cc
 
 module _ (line : ℕ) (reason : Reason) (text : List ℕ) where
   bad_answers : {P : Type 0} (IsReplyTo : P → List ℕ → Type 0) (r : Result P BadBatch)
       → AnswersBy IsReplyTo r (outcomes.BadBatch line reason) text → IsBadLine r line reason text
-  bad_answers IsReplyTo (Ok plan) end = let no : outcomes.BadBatch line reason ≡ outcomes.Done = end.0 in cc
+  bad_answers IsReplyTo (Ok plan) end = absurd (subst IsNoBadLine (sym end.0) tt)
   bad_answers IsReplyTo (Err b) end = same_bad b line reason text end
 
   bad_judges : (r : Result (Plan × ℕ) BadBatch) (input : List ℕ) → Judges r input (outcomes.BadBatch line reason) text
       → IsBadLine r line reason text
-  bad_judges (Ok front) input end = absurd (no_bad_verdict end.verdict line reason end.outcome_is)
+  bad_judges (Ok front) input end =
+      absurd (subst IsNoBadLine (sym end.outcome_is) (no_bad_verdict end.verdict))
   bad_judges (Err b) input end = same_bad b line reason text end
 
   not_bad : outcomes.BadBatch line reason ≡ outcomes.Done → ⊥
-  not_bad e = cc
+  not_bad e = subst IsNoBadLine (sym e) tt
 
   pub bad_line : (command : Command) (input : List ℕ) → MayEnd command input (outcomes.BadBatch line reason) text
       → IsBadFor command input line reason × (text ≡ bad_text (record { line = line; reason = reason }))
@@ -214,14 +178,6 @@ module _ (line : ℕ) (reason : Reason) (text : List ℕ) where
   bad_line (commands.Capsules mult) input end = bad_answers IsCapsuleReply (capsules input) end
 
 -- ---- a broken result
-
-broken_by : (verdict told : Verdict) → outcomes.Broken told ≡ outcome_on verdict → (verdict ≡ told) × (verdict ≢ Legal)
-broken_by Legal told e = cc
-broken_by (Form line) told e = (cc, (λ l. cc))
-broken_by (Journal context) told e = (cc, (λ l. cc))
-broken_by Stamps told e = (cc, (λ l. cc))
-broken_by (Reply line) told e = (cc, (λ l. cc))
-broken_by (Guess line) told e = (cc, (λ l. cc))
 
 module _ (told : Verdict) (text : List ℕ) where
   -- a result behind a batch is broken, and that is told
@@ -241,17 +197,15 @@ module _ (told : Verdict) (text : List ℕ) where
         },
         end.text_is ∙ ap verdict_text same.0,
       )
-  broken_judges input (Err b) is end =
-      let no : outcomes.Broken told ≡ outcomes.BadBatch b.line b.reason = end.outcome_is in cc
+  broken_judges input (Err b) is end = absurd (subst IsOfBroken end.outcome_is tt)
 
   no_answers : {P : Type 0} (IsReplyTo : P → List ℕ → Type 0) (r : Result P BadBatch)
       → AnswersBy IsReplyTo r (outcomes.Broken told) text → ⊥
-  no_answers IsReplyTo (Ok plan) end = let no : outcomes.Broken told ≡ outcomes.Done = end.0 in cc
-  no_answers IsReplyTo (Err b) end =
-      let no : outcomes.Broken told ≡ outcomes.BadBatch b.line b.reason = end.outcome_is in cc
+  no_answers IsReplyTo (Ok plan) end = subst IsOfBroken end.0 tt
+  no_answers IsReplyTo (Err b) end = subst IsOfBroken end.outcome_is tt
 
   not_broken : outcomes.Broken told ≡ outcomes.Done → ⊥
-  not_broken e = cc
+  not_broken e = subst IsOfBroken e tt
 
   pub broken_result : (command : Command) (input : List ℕ) → MayEnd command input (outcomes.Broken told) text
       → (mult : Mult) × (command ≡ commands.Check mult) × IsBroken input told × (text ≡ verdict_text told)

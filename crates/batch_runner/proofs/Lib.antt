@@ -1,7 +1,9 @@
+pub mod Endings
 pub mod Ends
 pub mod Fronts
 pub mod Texts
 pub mod Rooms
 pub mod Replied
-pub mod Told
+pub mod Writing
+pub mod Serves
 pub mod LiveSetUp

@@ -1,6 +1,6 @@
 -- The set-up of contexts that lanes add: one stands just where its psk inputs are in order, and else the
 -- reply to its line says why not.
-use Rattle.std.proofs.Common.{◌≡◌, ◌↔◌, ◌<◌, ◌≤◌, ◌+◌, ◌-◌, ℕ, zero, suc, List, [], ◌∷◌, ◌++◌, length, take, drop, get_or, Option, Some, None, Result, Ok, Err, All, refl, sym, ap, subst, ◌∙◌, arith}
+use Rattle.std.proofs.Common.{◌≡◌, ◌↔◌, ◌<◌, ◌+◌, ℕ, zero, suc, List, [], ◌∷◌, length, take, Option, Some, None, Result, Ok, Err, All, refl, sym, ap, subst, ◌∙◌, arith}
 use Rattle.std.specs.Prelude.{slice_get, IsSome, Contains}
 use Rattle.std.specs.Result.{result_and}
 use Rattle.std.specs.List.{flat_map, range_with_len}
@@ -8,7 +8,6 @@ use Rattle.std.proofs.lemmas.List.{get_or-drop, length-drop}
 use Rattle.std.proofs.lemmas.Option.{get_or_from_slice_get}
 use Rattle.std.proofs.lemmas.List.Elements.{All-nil, All-cons, All-contains, All-contains_itself, Contains-append_left, Contains-append_right}
 use Rattle.std.proofs.lemmas.List.FromFn.{get_or-range_with_len, length-range_with_len}
-use Rattle.hkdf_labelled.specs.declared.suites.Suite.{Suite}
 use Rattle.key_schedule.specs.declared.psks.PskFault.{PskFault}
 use Rattle.key_schedule.specs.declared.psks.PskFault.TheVariants.{Inconsistent, Unneeded, Missing}
 use Rattle.key_schedule.specs.Psks.{verify_psk_inputs}
@@ -23,7 +22,6 @@ use Rattle.batch_plans.specs.declared.plan.ContextKind.{ContextKind}
 use Rattle.batch_plans.specs.declared.plan.ContextKind.TheVariants as kinds
 use Rattle.batch_plans.specs.declared.plan.ContextLine.{ContextLine}
 use Rattle.batch_plans.specs.declared.replies.KeyReply.{KeyReply}
-use Rattle.batch_plans.specs.declared.replies.ContextRefusal.{ContextRefusal}
 use Rattle.batch_plans.specs.declared.replies.ContextReply.{ContextReply}
 use Rattle.batch_plans.specs.declared.replies.ContextReply.TheVariants.{Shared}
 use Rattle.batch_plans.specs.Limits.{IsWithinLimits}

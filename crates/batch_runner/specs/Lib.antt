@@ -1,3 +1,4 @@
+pub mod Effects
 pub mod Input
 pub mod Outcomes
 pub mod Text

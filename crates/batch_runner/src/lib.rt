@@ -23,22 +23,13 @@ mod exchanging;
 mod judging;
 mod laws;
 mod living;
+mod multipliers;
 mod outcomes;
 mod reading;
 mod serving;
+mod setting_up;
 mod telling;
 
 pub use laws::written_replies_are_legal;
 pub use outcomes::{Outcome, status};
 pub use serving::{serve_pure, serve_words};
-
-#[cfg(test)]
-mod hostile_tests;
-#[cfg(test)]
-mod live_tests;
-#[cfg(test)]
-mod runs;
-#[cfg(test)]
-mod tests;
-#[cfg(test)]
-mod thread_tests;

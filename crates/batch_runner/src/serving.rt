@@ -11,6 +11,7 @@ ghost use Rattle.reply_texts.specs.ReplyText.{bad_text};
 ghost use Rattle.result_verdicts.specs.declared.verdicts.Verdict.{Verdict};
 ghost use Rattle.result_verdicts.specs.VerdictText.{verdict_text};
 ghost use Rattle.batch_runner.specs.declared.outcomes.Outcome.{Outcome as Outcome_};
+ghost use Rattle.batch_runner.specs.Effects.{Serves, Writes};
 ghost use Rattle.batch_runner.specs.Input.{IsInput, input_limit};
 ghost use Rattle.batch_runner.specs.Text.{IsBadFor, IsBroken, IsReadBy, MayEnd, ReadsInput};
 ghost use Rattle.batch_words.specs.declared.commands.Command.{Command as Command_};
@@ -41,15 +42,7 @@ fn answer_input<R: Threads + Wait + Sync, K: Sink, G: Gate + Sync>(
 ) -> Outcome
     requires within { IsWithin command.now }
     requires reads { ReadsInput command.now }
-    ensures whole { result ≢ Outcome.WriteFault → result ≢ Outcome.OutOfMemory
-        → (text : List ℕ) × MayEnd command.now input.now result text
-        × Appends (K.written sink.old) (K.written sink.new) text }
-    ensures cut { result ≡ Outcome.WriteFault → (outcome : Outcome_) × (text : List ℕ)
-        × MayEnd command.now input.now outcome text
-        × AppendsPrefix (K.written sink.old) (K.written sink.new) text }
-    ensures failed { result ≡ Outcome.WriteFault → Rose (K.faults sink.old) (K.faults sink.new) }
-    ensures no_fault { result ≢ Outcome.WriteFault → K.faults sink.new ≡ K.faults sink.old }
-    ensures unwritten { result ≡ Outcome.OutOfMemory → sink.new ≡ sink.old }
+    ensures { Writes K.written K.faults sink.old sink.new (MayEnd command.now input.now) result }
 {
     match command {
         Command::Run { .. } => answer_batch(rt, alloc, input, command, sink, gate),
@@ -74,32 +67,8 @@ fn answer<R: Threads + Wait + Sync, S: Source, K: Sink, G: Gate + Sync>(
 ) -> Outcome
     requires within { IsWithin command.now }
     requires reads { ReadsInput command.now }
-    ensures whole { result ≢ Outcome.ReadFault → result ≢ Outcome.WriteFault
-        → result ≢ Outcome.OutOfMemory → (input : List ℕ)
-        × IsReadBy command.now (S.left source.old) (S.left source.new) input
-        × (text : List ℕ) × MayEnd command.now input result text
-        × Appends (K.written sink.old) (K.written sink.new) text }
-    ensures cut { result ≡ Outcome.WriteFault → (input : List ℕ)
-        × IsReadBy command.now (S.left source.old) (S.left source.new) input
-        × (outcome : Outcome_) × (text : List ℕ) × MayEnd command.now input outcome text
-        × AppendsPrefix (K.written sink.old) (K.written sink.new) text }
-    ensures unwritten { (result ≡ Outcome.ReadFault) ⊎ (result ≡ Outcome.OutOfMemory)
-        → sink.new ≡ sink.old }
-    ensures read_fault { result ≡ Outcome.ReadFault
-        → Rose (S.faults source.old) (S.faults source.new) }
-    ensures write_fault { result ≡ Outcome.WriteFault
-        → Rose (K.faults sink.old) (K.faults sink.new) }
-    ensures no_read_fault { result ≢ Outcome.ReadFault
-        → S.faults source.new ≡ S.faults source.old }
-    ensures no_write_fault { result ≢ Outcome.WriteFault
-        → K.faults sink.new ≡ K.faults sink.old }
-    ensures taken { (front : List ℕ) × Consumes (S.left source.old) (S.left source.new) front
-        × (length front ≤ input_limit) }
-    ensures complete { (input : List ℕ) → S.left source.old ≡ Some input
-        → ¬ Rose (S.faults source.old) (S.faults source.new)
-        → ¬ Rose (K.faults sink.old) (K.faults sink.new)
-        → ((text : List ℕ) × MayEnd command.now input result text)
-        ⊎ (result ≡ Outcome.OutOfMemory) }
+    ensures { Serves S.left S.faults K.written K.faults source.old source.new
+        sink.old sink.new command.now result }
 {
     match read_input(alloc, source) {
         Ok(input) => answer_input(rt, alloc, &input, command, sink, gate),
@@ -118,34 +87,10 @@ fn obey<R: Threads + Wait + Sync, S: Source, K: Sink, G: Gate + Sync>(
     gate: &G,
 ) -> Outcome
     requires { IsWithin command.now }
-    ensures whole { result ≢ Outcome.ReadFault → result ≢ Outcome.WriteFault
-        → result ≢ Outcome.OutOfMemory → (input : List ℕ)
-        × IsReadBy command.now (S.left source.old) (S.left source.new) input
-        × (text : List ℕ) × MayEnd command.now input result text
-        × Appends (K.written sink.old) (K.written sink.new) text }
-    ensures cut { result ≡ Outcome.WriteFault → (input : List ℕ)
-        × IsReadBy command.now (S.left source.old) (S.left source.new) input
-        × (outcome : Outcome_) × (text : List ℕ) × MayEnd command.now input outcome text
-        × AppendsPrefix (K.written sink.old) (K.written sink.new) text }
-    ensures unwritten { (result ≡ Outcome.ReadFault) ⊎ (result ≡ Outcome.OutOfMemory)
-        → sink.new ≡ sink.old }
+    ensures serves { Serves S.left S.faults K.written K.faults source.old source.new
+        sink.old sink.new command.now result }
     ensures unread { (seed messages lanes : ℕ) → command.now ≡ Command.Demo seed messages lanes
         → (source.new ≡ source.old) × (result ≢ Outcome.ReadFault) }
-    ensures read_fault { result ≡ Outcome.ReadFault
-        → Rose (S.faults source.old) (S.faults source.new) }
-    ensures write_fault { result ≡ Outcome.WriteFault
-        → Rose (K.faults sink.old) (K.faults sink.new) }
-    ensures no_read_fault { result ≢ Outcome.ReadFault
-        → S.faults source.new ≡ S.faults source.old }
-    ensures no_write_fault { result ≢ Outcome.WriteFault
-        → K.faults sink.new ≡ K.faults sink.old }
-    ensures taken { (front : List ℕ) × Consumes (S.left source.old) (S.left source.new) front
-        × (length front ≤ input_limit) }
-    ensures complete { (input : List ℕ) → S.left source.old ≡ Some input
-        → ¬ Rose (S.faults source.old) (S.faults source.new)
-        → ¬ Rose (K.faults sink.old) (K.faults sink.new)
-        → ((text : List ℕ) × MayEnd command.now input result text)
-        ⊎ (result ≡ Outcome.OutOfMemory) }
 {
     match command {
         Command::Demo {

@@ -3,16 +3,15 @@
 //! A printer has 32 KiB of text on the stack. Each call here is kept by itself, so that none of it
 //! stands there while a batch is answered.
 
-ghost use Rattle.std.specs.Prelude.{◌≡◌, ◌⊎◌, ◌≢◌, ◌≤◌};
-ghost use Rattle.std.specs.Io.KnownBytes.{Appends};
-ghost use Rattle.batch_io.specs.Outside.{Rose};
-ghost use Rattle.field_text.specs.Printing.{AppendsPrefix};
-ghost use Rattle.reply_texts.specs.ReplyText.{IsAnswered, answers_text, bad_text};
+ghost use Rattle.std.specs.Prelude.{◌≡◌, ◌≤◌};
+ghost use Rattle.reply_texts.specs.ReplyText.{IsAnswered, answers_text};
 ghost use Rattle.reply_texts.specs.LiveText.{live_text};
 ghost use Rattle.result_verdicts.specs.VerdictText.{verdict_text};
 ghost use Rattle.capsule_frames.specs.Text.{capsules_text};
 ghost use Rattle.demo_runs.specs.Demo.{report_text};
+ghost use Rattle.batch_runner.specs.Effects.{Says, SaysFault, Writes, end_of};
 ghost use Rattle.batch_runner.specs.Outcomes.{outcome_on};
+ghost use Rattle.batch_runner.specs.Text.{IsTold};
 
 use crate::outcomes::{Outcome, outcome_on};
 use batch_io::Sink;
@@ -20,27 +19,39 @@ use capsule_frames::print_capsules;
 use capsule_runs::CapsuleAnswers;
 use demo_runs::{DemoReport, print_report};
 use live_frames::print_live;
-use request_frames::{Answers, BadBatch, Plan, Printed, print_answers, print_bad};
+use request_frames::{Answers, BadBatch, Plan, Printed, ReadBatchFault, print_answers, print_bad};
 use result_verdicts::{Verdict, print_verdict};
+
+// How a run ends whose text was printed so.
+fn end_of(printed: Printed, due: Outcome) -> Outcome
+    ensures { result ≡ end_of printed due }
+{
+    match printed {
+        Printed::Whole => due,
+        Printed::Failed => Outcome::WriteFault,
+    }
+}
 
 /// Writes the first bad line of an input, and its first reason.
 #[inline(never)]
-pub(crate) fn tell_bad<K: Sink>(bad: &BadBatch, sink: &mut K) -> Outcome
-    ensures outcomes { (result ≡ Outcome.BadBatch bad.now.line bad.now.reason)
-        ⊎ (result ≡ Outcome.WriteFault) }
-    ensures whole { result ≢ Outcome.WriteFault
-        → Appends (K.written sink.old) (K.written sink.new) (bad_text bad.now) }
-    ensures cut { result ≡ Outcome.WriteFault
-        → AppendsPrefix (K.written sink.old) (K.written sink.new) (bad_text bad.now) }
-    ensures failed { result ≡ Outcome.WriteFault → Rose (K.faults sink.old) (K.faults sink.new) }
-    ensures no_fault { result ≢ Outcome.WriteFault → K.faults sink.new ≡ K.faults sink.old }
+fn tell_bad<K: Sink>(bad: &BadBatch, sink: &mut K) -> Outcome
+    ensures { Writes K.written K.faults sink.old sink.new (IsTold bad.now) result }
 {
-    match print_bad(bad, sink) {
-        Printed::Whole => Outcome::BadBatch {
-            line: bad.line,
-            reason: bad.reason,
-        },
-        Printed::Failed => Outcome::WriteFault,
+    let due = Outcome::BadBatch {
+        line: bad.line,
+        reason: bad.reason,
+    };
+    end_of(print_bad(bad, sink), due)
+}
+
+/// Tells why an input couldn't be read: its first bad line, or want of memory, of which nothing is
+/// written.
+pub(crate) fn tell_fault<K: Sink>(fault: &ReadBatchFault, sink: &mut K) -> Outcome
+    ensures { Writes K.written K.faults sink.old sink.new (SaysFault fault.now) result }
+{
+    match fault {
+        ReadBatchFault::Bad(bad) => tell_bad(bad, sink),
+        ReadBatchFault::OutOfMemory => Outcome::OutOfMemory,
     }
 }
 
@@ -48,86 +59,49 @@ pub(crate) fn tell_bad<K: Sink>(bad: &BadBatch, sink: &mut K) -> Outcome
 #[inline(never)]
 pub(crate) fn tell_answers<K: Sink>(plan: &Plan, answers: &Answers, sink: &mut K) -> Outcome
     requires { IsAnswered plan.now answers.now }
-    ensures outcomes { (result ≡ Outcome.Done) ⊎ (result ≡ Outcome.WriteFault) }
-    ensures whole { result ≢ Outcome.WriteFault
-        → Appends (K.written sink.old) (K.written sink.new) (answers_text plan.now answers.now) }
-    ensures cut { result ≡ Outcome.WriteFault → AppendsPrefix (K.written sink.old)
-        (K.written sink.new) (answers_text plan.now answers.now) }
-    ensures failed { result ≡ Outcome.WriteFault → Rose (K.faults sink.old) (K.faults sink.new) }
-    ensures no_fault { result ≢ Outcome.WriteFault → K.faults sink.new ≡ K.faults sink.old }
+    ensures { Writes K.written K.faults sink.old sink.new
+        (Says Outcome.Done (answers_text plan.now answers.now)) result }
 {
-    match print_answers(plan, answers, sink) {
-        Printed::Whole => Outcome::Done,
-        Printed::Failed => Outcome::WriteFault,
-    }
+    end_of(print_answers(plan, answers, sink), Outcome::Done)
 }
 
 /// Writes a verdict.
 #[inline(never)]
 pub(crate) fn tell_verdict<K: Sink>(verdict: Verdict, sink: &mut K) -> Outcome
-    ensures outcomes { (result ≡ outcome_on verdict) ⊎ (result ≡ Outcome.WriteFault) }
-    ensures whole { result ≢ Outcome.WriteFault
-        → Appends (K.written sink.old) (K.written sink.new) (verdict_text verdict) }
-    ensures cut { result ≡ Outcome.WriteFault
-        → AppendsPrefix (K.written sink.old) (K.written sink.new) (verdict_text verdict) }
-    ensures failed { result ≡ Outcome.WriteFault → Rose (K.faults sink.old) (K.faults sink.new) }
-    ensures no_fault { result ≢ Outcome.WriteFault → K.faults sink.new ≡ K.faults sink.old }
+    ensures { Writes K.written K.faults sink.old sink.new
+        (Says (outcome_on verdict) (verdict_text verdict)) result }
 {
-    match print_verdict(verdict, sink) {
-        Printed::Whole => outcome_on(verdict),
-        Printed::Failed => Outcome::WriteFault,
-    }
+    end_of(print_verdict(verdict, sink), outcome_on(verdict))
 }
 
 /// Writes the report of a demonstration.
 #[inline(never)]
 pub(crate) fn tell_report<K: Sink>(report: &DemoReport, sink: &mut K) -> Outcome
     requires { report.now.opened ≤ report.now.messages }
-    ensures outcomes { (result ≡ Outcome.Done) ⊎ (result ≡ Outcome.WriteFault) }
-    ensures whole { result ≢ Outcome.WriteFault
-        → Appends (K.written sink.old) (K.written sink.new) (report_text report.now) }
-    ensures cut { result ≡ Outcome.WriteFault
-        → AppendsPrefix (K.written sink.old) (K.written sink.new) (report_text report.now) }
-    ensures failed { result ≡ Outcome.WriteFault → Rose (K.faults sink.old) (K.faults sink.new) }
-    ensures no_fault { result ≢ Outcome.WriteFault → K.faults sink.new ≡ K.faults sink.old }
+    ensures { Writes K.written K.faults sink.old sink.new
+        (Says Outcome.Done (report_text report.now)) result }
 {
-    match print_report(report, sink) {
-        Printed::Whole => Outcome::Done,
-        Printed::Failed => Outcome::WriteFault,
-    }
+    end_of(print_report(report, sink), Outcome::Done)
 }
 
 /// Writes the replies to a plan whose lanes add and retire contexts, which were answered.
 #[inline(never)]
 pub(crate) fn tell_live<K: Sink>(plan: &Plan, answers: &Answers, sink: &mut K) -> Outcome
     requires { IsAnswered plan.now answers.now }
-    ensures outcomes { (result ≡ Outcome.Done) ⊎ (result ≡ Outcome.WriteFault) }
-    ensures whole { result ≢ Outcome.WriteFault
-        → Appends (K.written sink.old) (K.written sink.new) (live_text plan.now answers.now) }
-    ensures cut { result ≡ Outcome.WriteFault → AppendsPrefix (K.written sink.old)
-        (K.written sink.new) (live_text plan.now answers.now) }
-    ensures failed { result ≡ Outcome.WriteFault → Rose (K.faults sink.old) (K.faults sink.new) }
-    ensures no_fault { result ≢ Outcome.WriteFault → K.faults sink.new ≡ K.faults sink.old }
+    ensures { Writes K.written K.faults sink.old sink.new
+        (Says Outcome.Done (live_text plan.now answers.now)) result }
 {
-    match print_live(plan, answers, sink) {
-        Printed::Whole => Outcome::Done,
-        Printed::Failed => Outcome::WriteFault,
-    }
+    end_of(print_live(plan, answers, sink), Outcome::Done)
 }
 
 /// Writes the replies to capsules.
 #[inline(never)]
 pub(crate) fn tell_capsules<K: Sink>(answers: &CapsuleAnswers, sink: &mut K) -> Outcome
-    ensures outcomes { (result ≡ Outcome.Done) ⊎ (result ≡ Outcome.WriteFault) }
-    ensures whole { result ≢ Outcome.WriteFault → Appends (K.written sink.old)
-        (K.written sink.new) (capsules_text answers.now.keys answers.now.replies) }
-    ensures cut { result ≡ Outcome.WriteFault → AppendsPrefix (K.written sink.old)
-        (K.written sink.new) (capsules_text answers.now.keys answers.now.replies) }
-    ensures failed { result ≡ Outcome.WriteFault → Rose (K.faults sink.old) (K.faults sink.new) }
-    ensures no_fault { result ≢ Outcome.WriteFault → K.faults sink.new ≡ K.faults sink.old }
+    ensures { Writes K.written K.faults sink.old sink.new
+        (Says Outcome.Done (capsules_text answers.now.keys answers.now.replies)) result }
 {
-    match print_capsules(&answers.keys, answers.replies.as_slice(), sink) {
-        Printed::Whole => Outcome::Done,
-        Printed::Failed => Outcome::WriteFault,
-    }
+    end_of(
+        print_capsules(&answers.keys, answers.replies.as_slice(), sink),
+        Outcome::Done,
+    )
 }

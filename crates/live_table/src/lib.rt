@@ -17,8 +17,6 @@
 mod note_list;
 mod notes;
 mod table;
-#[cfg(test)]
-mod tests;
 
 pub use note_list::NoteList;
 pub use table::LiveTable;

@@ -16,7 +16,5 @@
 mod contexts;
 mod finishing;
 mod stamped;
-#[cfg(test)]
-mod tests;
 
 pub use contexts::SharedContext;

@@ -1,2 +1,1 @@
 pub mod Stamping
-pub mod Passes

@@ -4,4 +4,3 @@ pub mod Steps
 pub mod Laws
 pub mod Passes
 pub mod Seats
-pub mod Tests

@@ -19,8 +19,6 @@ mod lock;
 mod pass_list;
 mod passes;
 mod rules;
-#[cfg(test)]
-mod tests;
 mod views;
 
 pub use held::Held;

@@ -1,4 +1,4 @@
-use Rattle.std.proofs.Common.{◌≡◌, ◌+◌, ◌≤◌, ◌∙◌, refl, length, drop, arith, length-drop}
+use Rattle.std.proofs.Common.{◌∙◌, refl, arith, length-drop}
 use Rattle.batch_runner.proofs.Rooms.{read_on}
 use Rattle.batch_runner.proofs.reading.read_input.Goals as goal
 

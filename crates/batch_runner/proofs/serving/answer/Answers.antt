@@ -1,45 +1,32 @@
-use Rattle.std.proofs.Common.{inl, inr, subst}
+use Rattle.std.proofs.Common.{Err, ap, subst}
+use Rattle.batch_runner.specs.Effects.{Writes}
 use Rattle.batch_runner.specs.Text.{MayEnd}
-use Rattle.batch_runner.proofs.Ends.{ends_as_told, faults_or_not, read_by}
+use Rattle.batch_runner.proofs.Serves.{serves_fault, serves_input, serves_nothing}
 use Rattle.batch_runner.proofs.serving.answer.Goals as goal
 
-pub returns-in-Ok-clause-whole : goal.returns-in-Ok-clause-whole
-returns-in-Ok-clause-whole g c = λ no_read no_write no_memory.
+pub returns-in-Ok : goal.returns-in-Ok
+returns-in-Ok g c =
     let command = c.args.command.now in
-    let input = c.in-Ok.input.items in
-    let end = c.answer_input.ensures.whole no_write no_memory in (
-      input,
-      read_by _ _ input command c.requires.reads c.in-Ok.ensures.input,
-      end.0,
-      subst (λ read. MayEnd command read c.answer_input.result end.0) c.deref.ensures.value end.1,
-      end.2,
-    )
+    let written = g.K.Sink.written in
+    let faults = g.K.Sink.faults in
+    let old = c.args.sink.now in
+    let new = c.answer_input.new.sink in
+    serves_input written faults old new command c.in-Ok.input.items c.answer_input.result
+    (subst (λ input. Writes written faults old new (MayEnd command input) c.answer_input.result)
+    c.deref.ensures.value c.answer_input.ensures)
+    g.S.Source.left g.S.Source.faults c.args.source.now c.read_input.new.source c.requires.reads
+    c.in-Ok.ensures.input (c.in-Ok.ensures.no_fault (λ e. cc))
 
-pub returns-in-Ok-clause-cut : goal.returns-in-Ok-clause-cut
-returns-in-Ok-clause-cut g c = λ e.
-    let command = c.args.command.now in
-    let input = c.in-Ok.input.items in
-    let end = c.answer_input.ensures.cut e in (
-      input,
-      read_by _ _ input command c.requires.reads c.in-Ok.ensures.input,
-      end.0,
-      end.1,
-      subst (λ read. MayEnd command read end.0 end.1) c.deref.ensures.value end.2,
-      end.3,
-    )
+pub returns-in-Err-Fault : goal.returns-in-Err-Fault
+returns-in-Err-Fault g c =
+    let read = c.in-Err-Fault.ensures in
+    serves_fault g.S.Source.left g.S.Source.faults g.K.Sink.written g.K.Sink.faults c.args.source.now
+    c.read_input.new.source c.args.sink.now c.args.command.now read.taken
+    (read.fault (ap (λ fault. Err fault) c.in-Err-Fault.field-0-is))
 
-pub returns-in-Ok-clause-complete : goal.returns-in-Ok-clause-complete
-returns-in-Ok-clause-complete g c = λ input told no_read no_write.
-    let command = c.args.command.now in
-    let outcome = c.answer_input.result in
-    elim (faults_or_not outcome) [
-      | inl e ↦ absurd (no_write (c.answer_input.ensures.failed e))
-      | inr (inl e) ↦ inr e
-      | inr (inr others) ↦
-          let end = c.answer_input.ensures.whole others.0 others.1 in
-          inl (
-            end.0,
-            ends_as_told command input c.in-Ok.input.items _ _ outcome end.0 c.requires.reads told c.in-Ok.ensures.input
-                (subst (λ read. MayEnd command read outcome end.0) c.deref.ensures.value end.1),
-          )
-    ]
+pub returns-in-Err-OutOfMemory : goal.returns-in-Err-OutOfMemory
+returns-in-Err-OutOfMemory g c =
+    let read = c.in-Err-OutOfMemory.ensures in
+    let want = c.in-Err-OutOfMemory.field-0-is in
+    serves_nothing g.S.Source.left g.S.Source.faults g.K.Sink.written g.K.Sink.faults c.args.source.now
+    c.read_input.new.source c.args.sink.now c.args.command.now read.taken (read.no_fault (λ e. cc))

@@ -1,8 +1,42 @@
-use Rattle.std.proofs.Common.{sym, subst}
-use Rattle.batch_runner.specs.Text.{AnswersBatches, MayEnd}
+use Rattle.std.proofs.Common.{subst, sym}
+use Rattle.request_frames.specs.Batch.{batch}
+use Rattle.batch_runner.specs.Effects.{Writes}
+use Rattle.batch_runner.specs.Text.{Answers, MayEnd}
 use Rattle.batch_runner.proofs.serving.answer_input.Goals as goal
 
-pub returns-in-Check-clause-cut : goal.returns-in-Check-clause-cut
-returns-in-Check-clause-cut g c = λ e.
-    let end = c.judge.ensures.cut e in
-    (end.0, end.1, subst (λ command. MayEnd command c.args.input.now end.0 end.1) (sym c.in-Check.is) end.2, end.3)
+pub returns-in-Run : goal.returns-in-Run
+returns-in-Run g c =
+    let input = c.args.input.now in
+    let written = g.K.Sink.written in
+    let faults = g.K.Sink.faults in
+    let old = c.args.sink.now in
+    let new = c.answer_batch.new.sink in
+    subst (λ one. Writes written faults old new (Answers one (batch input)) c.answer_batch.result
+    → Writes written faults old new (MayEnd one input) c.answer_batch.result) (sym c.in-Run.is) (λ w. w)
+    c.answer_batch.ensures
+
+pub returns-in-Live : goal.returns-in-Live
+returns-in-Live g c =
+    subst (λ one. Writes g.K.Sink.written g.K.Sink.faults c.args.sink.now c.answer_live.new.sink
+    (MayEnd one c.args.input.now) c.answer_live.result) (sym c.in-Live.is) c.answer_live.ensures
+
+pub returns-in-Rehearse : goal.returns-in-Rehearse
+returns-in-Rehearse g c =
+    let input = c.args.input.now in
+    let written = g.K.Sink.written in
+    let faults = g.K.Sink.faults in
+    let old = c.args.sink.now in
+    let new = c.answer_batch-in-Rehearse.new.sink in
+    subst (λ one. Writes written faults old new (Answers one (batch input)) c.answer_batch-in-Rehearse.result
+    → Writes written faults old new (MayEnd one input) c.answer_batch-in-Rehearse.result) (sym c.in-Rehearse.is) (λ w. w)
+    c.answer_batch-in-Rehearse.ensures
+
+pub returns-in-Check : goal.returns-in-Check
+returns-in-Check g c =
+    subst (λ one. Writes g.K.Sink.written g.K.Sink.faults c.args.sink.now c.judge.new.sink
+    (MayEnd one c.args.input.now) c.judge.result) (sym c.in-Check.is) c.judge.ensures
+
+pub returns-in-Capsules : goal.returns-in-Capsules
+returns-in-Capsules g c =
+    subst (λ one. Writes g.K.Sink.written g.K.Sink.faults c.args.sink.now c.exchange.new.sink
+    (MayEnd one c.args.input.now) c.exchange.result) (sym c.in-Capsules.is) c.exchange.ensures

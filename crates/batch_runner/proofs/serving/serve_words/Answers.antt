@@ -2,12 +2,31 @@ use Rattle.std.proofs.Common.{◌∙◌, Some, ap, subst, sym}
 use Rattle.std.specs.Io.KnownBytes.{Appends}
 use Rattle.batch_runner.specs.Text.{IsReadBy, MayEnd}
 use Rattle.batch_runner.proofs.Ends.{bad_line, broken_result, input_of_bad}
+use Rattle.batch_runner.proofs.Endings.{OfInput}
+use Rattle.batch_runner.proofs.Serves.{whole_text}
 use Rattle.batch_runner.proofs.serving.serve_words.Goals as goal
+
+pub returns-in-Ok-Some-clause-done : goal.returns-in-Ok-Some-clause-done
+returns-in-Ok-Some-clause-done g c = λ e.
+    let command = c.in-Ok-Some.command in
+    let end = whole_text g.S.Source.left g.S.Source.faults g.K.Sink.written g.K.Sink.faults
+    c.args.source.now c.obey.new.source c.args.sink.now c.obey.new.sink command c.obey.result
+    c.obey.ensures.serves (subst OfInput (sym e) tt) in (
+      command,
+      sym c.in-Ok-Some.ensures.command ∙ c.in-Ok-Some.field-0-is,
+      end.0,
+      end.1,
+      end.2,
+      subst (λ outcome. MayEnd command end.0 outcome end.2) e end.3,
+      end.4,
+    )
 
 pub returns-in-Ok-Some-clause-bad : goal.returns-in-Ok-Some-clause-bad
 returns-in-Ok-Some-clause-bad g c = λ line reason e.
     let command = c.in-Ok-Some.command in
-    let end = c.obey.ensures.whole (λ fault. cc) (λ fault. cc) (λ memory. cc) in
+    let end = whole_text g.S.Source.left g.S.Source.faults g.K.Sink.written g.K.Sink.faults
+    c.args.source.now c.obey.new.source c.args.sink.now c.obey.new.sink command c.obey.result
+    c.obey.ensures.serves (subst OfInput (sym e) tt) in
     let bad = bad_line line reason end.2 command end.0 (subst (λ outcome. MayEnd command end.0 outcome end.2) e end.3) in (
       command,
       sym c.in-Ok-Some.ensures.command ∙ c.in-Ok-Some.field-0-is,
@@ -20,7 +39,9 @@ returns-in-Ok-Some-clause-bad g c = λ line reason e.
 pub returns-in-Ok-Some-clause-broken : goal.returns-in-Ok-Some-clause-broken
 returns-in-Ok-Some-clause-broken g c = λ verdict e.
     let command = c.in-Ok-Some.command in
-    let end = c.obey.ensures.whole (λ fault. cc) (λ fault. cc) (λ memory. cc) in
+    let end = whole_text g.S.Source.left g.S.Source.faults g.K.Sink.written g.K.Sink.faults
+    c.args.source.now c.obey.new.source c.args.sink.now c.obey.new.sink command c.obey.result
+    c.obey.ensures.serves (subst OfInput (sym e) tt) in
     let broken = broken_result verdict end.2 command end.0 (subst (λ outcome. MayEnd command end.0 outcome end.2) e end.3) in (
       broken.0,
       sym c.in-Ok-Some.ensures.command ∙ c.in-Ok-Some.field-0-is ∙ ap (λ one. Some one) broken.1,

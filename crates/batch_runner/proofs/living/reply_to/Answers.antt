@@ -1,0 +1,17 @@
+use Rattle.std.proofs.Common.{Ok}
+use Rattle.reply_texts.specs.LiveText.{live_text}
+use Rattle.context_table.specs.ReplyTo.{IsLiveReply}
+use Rattle.batch_runner.specs.Text.{AnswersBy}
+use Rattle.batch_runner.proofs.Writing.{replied, unwritten}
+use Rattle.batch_runner.proofs.living.reply_to.Goals as goal
+
+pub returns-in-Ok : goal.returns-in-Ok
+returns-in-Ok g c =
+    let plan = c.args.plan.now in
+    replied g.K.Sink.written g.K.Sink.faults c.args.sink.now c.tell_live.new.sink (IsLiveReply) plan
+    (live_text plan c.in-Ok.answers) c.tell_live.result c.in-Ok.ensures.text c.tell_live.ensures
+
+pub returns-in-Err : goal.returns-in-Err
+returns-in-Err g c =
+    unwritten g.K.Sink.written g.K.Sink.faults c.args.sink.now
+    (AnswersBy (IsLiveReply) (Ok c.args.plan.now))

@@ -1,0 +1,138 @@
+//! Runs whose lanes add and retire contexts, by threads. Which of the allowed texts comes depends on the
+//! threads.
+
+use crate::batch_runner_tests::threads::{MOST_TURNS, sealed_numbers};
+use crate::batch_runner_tests::{answer_to, gated_answer_to};
+use batch_io::{HoldGate, Point};
+use batch_runner::Outcome;
+use std::alloc::Global;
+use std::test::Fail;
+
+// Two lanes that seal the same text on one context, and then on one that each adds.
+const ADDS: &str =
+    "hpkebatch 2\nshare send 32 1 1 fe0e18c9f024ce43799ae393c7e8fe8fce9d218875e8227b0187c04e7d2ea1fc base 4f6465206f6e2061204772656369616e2055726e - - 9\nlane\nseal 0 436f756e742d30 4265617574792069732074727574682c20747275746820626561757479\nadd send 32 1 1 fe0e18c9f024ce43799ae393c7e8fe8fce9d218875e8227b0187c04e7d2ea1fc base 4f6465206f6e2061204772656369616e2055726e - - 9\nseal +0 436f756e742d30 4265617574792069732074727574682c20747275746820626561757479\nlane\nseal 0 436f756e742d30 4265617574792069732074727574682c20747275746820626561757479\nadd send 32 1 1 fe0e18c9f024ce43799ae393c7e8fe8fce9d218875e8227b0187c04e7d2ea1fc base 4f6465206f6e2061204772656369616e2055726e - - 9\nseal +1 436f756e742d30 4265617574792069732074727574682c20747275746820626561757479\nend\n";
+
+// What one lane adds and the first of its calls answers (RFC 9180, A.1.1.1).
+const ADDED: &str =
+    "added\nsealed 0 f938558b5d72f1a23810b4be2ab4f84331acc02fc97babc53a52ae8218a355a96d8770ac83d07bea87e13c512a\n";
+
+// Whichever lane is held at its first draw, the other one answers meanwhile, and adds a context: so no
+// lane waits for the other's call to end.
+#[test]
+fn a_lane_that_is_held_up_holds_no_add_up(rt: HostRuntime) -> Result<(), Fail> {
+    let alloc = rt.alloc();
+    for (held, other) in [(0, 1), (1, 0)] {
+        let gate = HoldGate::new(held, Point::Drawn, other, MOST_TURNS);
+        let words = ["live", "--workers", "2"];
+        let (outcome, sink) = gated_answer_to(&rt, alloc, &words, ADDS, 4096, &gate)?;
+        assert_eq!(rt; outcome, Outcome::Done);
+        assert!(rt; !gate.gave_up());
+        let text = str::from_utf8(sink.bytes())?;
+        assert_eq!(rt; text.split(ADDED).count(), 3);
+        let mut numbers = sealed_numbers(alloc, sink.bytes())?;
+        numbers.sort_unstable();
+        assert!(rt; numbers.iter().copied().eq([0, 0, 0, 1]));
+    }
+    Ok(())
+}
+
+// A lane that adds a context, seals on it 50 times, retires it, and seals 50 times more; and one that
+// seals on it 100 times, perhaps before it is added, perhaps after it is retired.
+fn racing_lanes(alloc: Global) -> Result<String, Fail> {
+    let mut text = String::from_str(
+        alloc,
+        "hpkebatch 2\nlane\nadd send 32 1 1 fe0e18c9f024ce43799ae393c7e8fe8fce9d218875e8227b0187c04e7d2ea1fc base - - - 200\n",
+    )?;
+    for call in 0..100 {
+        text.push_str("seal +0 - 00\n")?;
+        if call == 49 {
+            text.push_str("retire +0\n")?;
+        }
+    }
+    text.push_str("lane\n")?;
+    for _ in 0..100 {
+        text.push_str("seal +0 - 01\n")?;
+    }
+    text.push_str("end\n")?;
+    Ok(text)
+}
+
+// Of the notes of racing lanes, how many of lane 1 found the name live; none where a note doesn't tell
+// what those before it left.
+fn found_by_lane_1(text: &str) -> Option<usize> {
+    let (_, table) = text.split_once("table\n")?;
+    let mut live = false;
+    let mut found = 0usize;
+    for line in table.lines() {
+        if line == "end" {
+            return Some(found);
+        }
+        let bit = line.split(" ").nth(2)?;
+        if (bit == "1") != live {
+            return None;
+        }
+        if line.starts_with("0 0 ") {
+            live = true;
+        } else if line.starts_with("0 51 ") {
+            live = false;
+        } else if line.starts_with("1 ") && live {
+            found = found.wrapping_add(1);
+        }
+    }
+    None
+}
+
+#[test]
+fn each_look_is_answered_by_the_table(rt: HostRuntime) -> Result<(), Fail> {
+    let alloc = rt.alloc();
+    let batch = racing_lanes(alloc)?;
+    for workers in ["1", "2", "4"] {
+        let words = ["live", "--workers", workers];
+        let (outcome, sink) = answer_to(&rt, alloc, &words, &batch, 4096)?;
+        assert_eq!(rt; outcome, Outcome::Done);
+        let text = str::from_utf8(sink.bytes())?;
+        let (first, second) = text.split_once("lane 1\n").ok_or("two lanes")?;
+        let found = found_by_lane_1(text).ok_or("a note that tells what is live")?;
+        assert_eq!(rt; first.split("\nsealed ").count(), 51, "{workers}");
+        assert_eq!(rt; first.split("refused nocontext\n").count(), 51, "{workers}");
+        assert_eq!(rt;
+            second
+                .split("refused nocontext\n")
+                .count()
+                .wrapping_add(found),
+            101,
+            "{workers}"
+        );
+        let mut numbers = sealed_numbers(alloc, sink.bytes())?;
+        numbers.sort_unstable();
+        let all = found as u64;
+        assert!(rt;
+            numbers.iter().copied().eq(0..all.wrapping_add(50)),
+            "{workers}"
+        );
+    }
+    Ok(())
+}
+
+#[test]
+fn sixteen_lanes_add_256_contexts(rt: HostRuntime) -> Result<(), Fail> {
+    let alloc = rt.alloc();
+    let mut batch = String::from_str(alloc, "hpkebatch 2\n")?;
+    for _ in 0..16 {
+        batch.push_str("lane\n")?;
+        for _ in 0..16 {
+            batch.push_str("add send 32 1 1 ab base - - - 9\n")?;
+        }
+        batch.push_str("seal +0 - 00\nseal +255 - 00\n")?;
+    }
+    batch.push_str("end\n")?;
+    let words = ["live", "--workers", "16"];
+    let (outcome, sink) = answer_to(&rt, alloc, &words, &batch, 4096)?;
+    assert_eq!(rt; outcome, Outcome::Done);
+    let text = str::from_utf8(sink.bytes())?;
+    assert_eq!(rt; text.split("added\n").count(), 257);
+    assert_eq!(rt; text.split("\njournal +").count(), 257);
+    let (_, table) = text.split_once("table\n").ok_or("a table")?;
+    assert_eq!(rt; table.lines().count(), 16 * 18 + 1);
+    Ok(())
+}

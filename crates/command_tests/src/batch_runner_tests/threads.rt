@@ -1,0 +1,110 @@
+//! Runs whose lanes threads serve. Which of the allowed texts comes depends on the threads.
+
+use crate::batch_runner_tests::{answer_to, gated_answer_to};
+use batch_io::{HoldGate, Point};
+use batch_runner::Outcome;
+use std::alloc::Global;
+use std::test::Fail;
+
+// A turn of a gate that holds a lane is one load: so many are enough on a busy machine.
+pub const MOST_TURNS: u64 = 1_000_000_000;
+
+// Source: RFC 9180, A.1.1.1. Lane 0 is held when it has guessed 0, until lane 1 has opened message 0:
+// so its own message 1 is opened at the number 1, outside of its table.
+const OPENINGS: &str =
+    "hpkebatch 1\nshare recv 32 1 1 fe0e18c9f024ce43799ae393c7e8fe8fce9d218875e8227b0187c04e7d2ea1fc base 4f6465206f6e2061204772656369616e2055726e - - 9\nlane\nunseal 0 436f756e742d31 af2d7e9ac9ae7e270f46ba1f975be53c09f8d875bdc8535458c2494e8a6eab251c03d0c22a56b8ca42c2063b84\nlane\nunseal 0 436f756e742d30 f938558b5d72f1a23810b4be2ab4f84331acc02fc97babc53a52ae8218a355a96d8770ac83d07bea87e13c512a\nend\n";
+
+const OPENED: &str =
+    "hpkebatch 1\ncontext 0 shared\nlane 0\nopened 1 4265617574792069732074727574682c20747275746820626561757479\nlane 1\nopened 0 4265617574792069732074727574682c20747275746820626561757479\njournal 0\n1 0 0\n0 0 0\nend\n";
+
+// Two lanes that seal the same text on one context.
+const SEALS: &str =
+    "hpkebatch 1\nshare send 32 1 1 fe0e18c9f024ce43799ae393c7e8fe8fce9d218875e8227b0187c04e7d2ea1fc base 4f6465206f6e2061204772656369616e2055726e - - 9\nlane\nseal 0 436f756e742d30 4265617574792069732074727574682c20747275746820626561757479\nlane\nseal 0 436f756e742d30 4265617574792069732074727574682c20747275746820626561757479\nend\n";
+
+#[test]
+fn an_opening_that_is_held_up_is_answered_at_its_place(rt: HostRuntime) -> Result<(), Fail> {
+    let gate = HoldGate::new(0, Point::Guessed, 1, MOST_TURNS);
+    let words = ["run", "--workers", "2"];
+    let (outcome, sink) = gated_answer_to(&rt, rt.alloc(), &words, OPENINGS, 4096, &gate)?;
+    assert_eq!(rt; outcome, Outcome::Done);
+    assert_eq!(rt; sink.bytes(), OPENED.as_bytes());
+    assert!(rt; !gate.gave_up());
+    Ok(())
+}
+
+// Whichever lane is held at its draw, the other one answers meanwhile: so no lane waits for the other
+// lane's call to end, and the text is that of one of the two orders.
+#[test]
+fn a_seal_that_is_held_up_holds_no_other_lane_up(rt: HostRuntime) -> Result<(), Fail> {
+    let alloc = rt.alloc();
+    let (_, first) = answer_to(&rt, alloc, &["rehearse", "0,1"], SEALS, 4096)?;
+    let (_, second) = answer_to(&rt, alloc, &["rehearse", "1,0"], SEALS, 4096)?;
+    assert!(rt; first.bytes() != second.bytes());
+    for (held, other) in [(0, 1), (1, 0)] {
+        let gate = HoldGate::new(held, Point::Drawn, other, MOST_TURNS);
+        let words = ["run", "--workers", "2"];
+        let (outcome, sink) = gated_answer_to(&rt, alloc, &words, SEALS, 4096, &gate)?;
+        assert_eq!(rt; outcome, Outcome::Done);
+        assert!(rt; sink.bytes() == first.bytes() || sink.bytes() == second.bytes());
+        assert!(rt; !gate.gave_up());
+    }
+    Ok(())
+}
+
+// One worker serves lane 0 first.
+#[test]
+fn one_worker_serves_the_lanes_in_order(rt: HostRuntime) -> Result<(), Fail> {
+    let alloc = rt.alloc();
+    let (_, first) = answer_to(&rt, alloc, &["rehearse", "-"], SEALS, 4096)?;
+    let words = ["run", "--mult=plain", "--workers=1"];
+    let (outcome, sink) = answer_to(&rt, alloc, &words, SEALS, 4096)?;
+    assert_eq!(rt; outcome, Outcome::Done);
+    assert_eq!(rt; sink.bytes(), first.bytes());
+    Ok(())
+}
+
+// ---- sixteen lanes
+
+// Sixteen lanes that seal one text each on one context, and open it on another.
+fn sixteen_lanes(alloc: Global) -> Result<String, Fail> {
+    let mut text = String::from_str(
+        alloc,
+        "hpkebatch 2\nshare send 32 1 1 fe0e18c9f024ce43799ae393c7e8fe8fce9d218875e8227b0187c04e7d2ea1fc base 4f6465206f6e2061204772656369616e2055726e - - 99\n",
+    )?;
+    for _ in 0..16 {
+        text.push_str("lane\nseal 0 - 00\nseal 0 - 01\n")?;
+    }
+    text.push_str("end\n")?;
+    Ok(text)
+}
+
+// The numbers of all `sealed` lines, in the order of the text.
+pub fn sealed_numbers(alloc: Global, text: &[u8]) -> Result<Vec<u64>, Fail> {
+    let mut numbers = Vec::new(alloc);
+    let text = str::from_utf8(text)?;
+    for line in text.lines() {
+        if let Some(rest) = line.strip_prefix("sealed ") {
+            let (number, _) = rest.split_once(" ").unwrap_or((rest, ""));
+            numbers.push(number.parse::<u64>()?)?;
+        }
+    }
+    Ok(numbers)
+}
+
+#[test]
+fn each_number_is_used_once_by_whichever_lane(rt: HostRuntime) -> Result<(), Fail> {
+    let alloc = rt.alloc();
+    let batch = sixteen_lanes(alloc)?;
+    for workers in ["1", "2", "3", "4", "16"] {
+        let words = ["run", "--workers", workers];
+        let (outcome, sink) = answer_to(&rt, alloc, &words, &batch, 4096)?;
+        assert_eq!(rt; outcome, Outcome::Done);
+        let mut numbers = sealed_numbers(alloc, sink.bytes())?;
+        for lane in numbers.chunks(2) {
+            assert!(rt; lane.is_sorted(), "{workers}");
+        }
+        numbers.sort_unstable();
+        assert!(rt; numbers.iter().copied().eq(0..32), "{workers}");
+    }
+    Ok(())
+}

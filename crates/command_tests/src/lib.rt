@@ -1,0 +1,14 @@
+//! Tests of the command and of what its threads share: `batch_runner`, `shared_context`, `live_table`
+//! and `turn_lock`, by their public calls alone.
+//!
+//! They stand apart from the crates that they test, so that each of those is proved once.
+#![tactic(auto)]
+
+#[cfg(test)]
+mod batch_runner_tests;
+#[cfg(test)]
+mod live_table_tests;
+#[cfg(test)]
+mod shared_context_tests;
+#[cfg(test)]
+mod turn_lock_tests;

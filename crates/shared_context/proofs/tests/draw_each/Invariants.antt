@@ -1,7 +1,0 @@
-use Rattle.std.proofs.Common.{◌-◌}
-use Rattle.stamped_lists.specs.Stamps.{IsNote}
-use Rattle.stamped_lists.specs.Tests.{MayDraw}
-use Rattle.shared_context.proofs.tests.draw_each.Given as goal
-
-abbrev pub invariant-loop-call : goal.invariant-loop-call
-invariant-loop-call g l = MayDraw l.context.lock l.call (1000 - l.call) l.pass × IsNote l.counter.id l.seat
