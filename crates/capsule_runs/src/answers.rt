@@ -205,6 +205,7 @@ fn filled(
 
 /// What becomes of the answers of a plan, in their order, by several threads. They are joined before
 /// the call returns.
+#[inline(never)]
 pub(crate) fn all_answers<R: Threads + Sync, M: Multiplier + Sync>(
     rt: &R,
     alloc: Global,

@@ -97,6 +97,7 @@ fn sent<M: Multiplier>(
 }
 
 /// What becomes of the asks of a plan, in their order.
+#[inline(never)]
 pub(crate) fn all_asks<M: Multiplier>(
     alloc: Global,
     plan: &CapsulePlan,

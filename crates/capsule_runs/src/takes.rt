@@ -57,6 +57,7 @@ fn took<R: Threads + Sync>(
 }
 
 /// What becomes of the takes of a plan, in their order.
+#[inline(never)]
 pub(crate) fn all_takes<R: Threads + Sync>(
     rt: &R,
     alloc: Global,
