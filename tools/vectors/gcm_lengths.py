@@ -1,7 +1,7 @@
 """Tags of AES-128-GCM over texts of many lengths, by Python's `cryptography` (OpenSSL).
 
 Run: python3 tools/vectors/gcm_lengths.py. It prints the rows of `SEALED` in
-crates/aes_gcm/src/tests.rt: the length of the text in bytes, and the tag.
+crates/hpke_tests/src/aes_gcm_tests.rt: the length of the text in bytes, and the tag.
 """
 
 from cryptography.hazmat.primitives.ciphers.aead import AESGCM

@@ -1,9 +1,9 @@
 #!/usr/bin/env python3
 """Messages of HPKE contexts (RFC 9180, 5.2), by Python's `cryptography` (OpenSSL).
 
-Run: python3 tools/vectors/hpke_messages.py. It prints the rows of `MESSAGES` in
-crates/hpke_context/src/tests.rt: the section of RFC 9180 whose key and base_nonce are taken, the
-sequence number, the aad and the ciphertext. Text, aad and numbers are those of the appendix's tables.
+Run: python3 tools/vectors/hpke_messages.py. It prints the rows of `A_1_1` and
+`A_6_1` in crates/hpke_tests/src/hpke_context_tests.rt: the section of RFC 9180 whose key and
+base_nonce are taken, the sequence number, the aad and the ciphertext. Text, aad and numbers are those of the appendix's tables.
 """
 
 from cryptography.hazmat.primitives.ciphers.aead import AESGCM

@@ -20,6 +20,3 @@ mod tables;
 
 pub use key::AesKey;
 pub use runs::BlockRun;
-
-#[cfg(test)]
-mod tests;

@@ -21,6 +21,3 @@ pub mod laws;
 pub use checks::Checks;
 pub use hashed::HashedCiphertext;
 pub use key::GcmKey;
-
-#[cfg(test)]
-mod tests;

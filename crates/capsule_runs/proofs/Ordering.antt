@@ -66,7 +66,7 @@ answers_before plan keys asks answers d n m lines at =
     ∙ take_at d.answers (map (given_for plan keys asks) (jobs_from n lines)) m at.answer_count
 
 -- an answer line as a job
-abbrev job_of : ℕ → ℕ → ℕ → EncField → Span → Span → AnswerJob
+abbrev pub job_of : ℕ → ℕ → ℕ → EncField → Span → Span → AnswerJob
 job_of n key id request nonce text =
     record { key = key; id = id; request = request; nonce = nonce; text = text; asks = n }
 

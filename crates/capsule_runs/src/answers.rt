@@ -10,7 +10,7 @@ ghost use Rattle.capsule_runs.specs.Orders.{IsJobWithin, jobs_from, given_for, A
 
 use crate::finding::{first, refusal_of, sent_by};
 use crate::jobs::{AnswerJob, jobs};
-use crate::results::{AnswerResult, AskResult, Given, copied};
+use crate::results::{AnswerResult, AskResult, Given};
 use batch_plans::{EncField, Plan};
 use capsule_frames::{CapsulePlan, CapsuleRefusal};
 use context_table::{Key, KeyPair, KeyTable};
@@ -59,9 +59,8 @@ fn given_with<R: Threads + Sync, S: KemParams, M: Multiplier>(
     };
     match answer(rt, alloc, mult, secret, id, request, nonce, text) {
         Ok((question, response)) => {
-            let question = copied(alloc, question.as_slice())?;
-            let response = copied(alloc, response.as_slice())?;
-            Ok(Ok(Given::new(question, response)))
+            let given = Given::copied(alloc, question.as_slice(), response.as_slice())?;
+            Ok(Ok(given))
         }
         Err(fault) => Ok(Err(refusal_of(fault)?)),
     }

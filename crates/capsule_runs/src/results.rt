@@ -84,13 +84,16 @@ impl Model for Given {
 }
 
 impl Given {
-    ghost use Rattle.std.specs.Prelude.{◌≡◌, ◌≤◌, length};
+    ghost use Rattle.std.specs.Prelude.{◌≡◌, ◌≤◌, length, IfOk};
 
-    pub(crate) fn new(text: ByteList, response: ByteList) -> Given
-        requires { length response ≤ 1048624 }
-        ensures { result ≡ record { text = text; response = response } }
+    /// A text and a response, copied.
+    pub(crate) fn copied(alloc: Global, text: &[u8], response: &[u8]) -> Result<Given, OutOfMemory>
+        requires { length response.now ≤ 1048624 }
+        ensures { IfOk result (λ g. g ≡ record { text = text.now; response = response.now }) }
     {
-        Given { text, response }
+        let text = copied(alloc, text)?;
+        let response = copied(alloc, response)?;
+        Ok(Given { text, response })
     }
 
     pub(crate) fn response(&self) -> &[u8]

@@ -138,28 +138,48 @@ fn put_large(text: &mut Vec<u8>) -> Result<(), Fail> {
     Ok(())
 }
 
-// 256 exchanges, the first with texts of 1,048,576 bytes, the others with none. The hash: as above.
-#[test]
-fn a_large_batch(rt: HostRuntime) -> Result<(), Fail> {
-    let mut text = Vec::from_slice(rt.alloc(), HEAD)?;
-    text.extend_from_slice(b"keygen\nask 0 7 1 1 ")?;
-    put_large(&mut text)?;
+fn put_asks(text: &mut Vec<u8>) -> Result<(), Fail> {
+    text.extend_from_slice(b"ask 0 7 1 1 ")?;
+    put_large(text)?;
     for _line in 1..256 {
         text.extend_from_slice(b"ask 0 7 1 1 -\n")?;
     }
+    Ok(())
+}
+
+fn put_answers(alloc: Global, text: &mut Vec<u8>) -> Result<(), Fail> {
     text.extend_from_slice(b"answer 0 7 @0 aaaaaaaaaaaaaaaaaaaaaaaaaaaaaaaa ")?;
-    put_large(&mut text)?;
+    put_large(text)?;
     for number in 1..256 {
-        let line = format!(in rt.alloc();
-            "answer 0 7 @{number} aaaaaaaaaaaaaaaaaaaaaaaaaaaaaaaa -\n"
-        )?;
+        let line = format!(in alloc; "answer 0 7 @{number} aaaaaaaaaaaaaaaaaaaaaaaaaaaaaaaa -\n")?;
         text.extend_from_slice(line.as_bytes())?;
     }
+    Ok(())
+}
+
+fn put_takes(alloc: Global, text: &mut Vec<u8>) -> Result<(), Fail> {
     for number in 0..256 {
-        let line = format!(in rt.alloc(); "take {number} @{number}\n")?;
+        let line = format!(in alloc; "take {number} @{number}\n")?;
         text.extend_from_slice(line.as_bytes())?;
     }
+    Ok(())
+}
+
+// 256 exchanges, the first with texts of 1,048,576 bytes, the others with none.
+fn large_batch(alloc: Global) -> Result<Vec<u8>, Fail> {
+    let mut text = Vec::from_slice(alloc, HEAD)?;
+    text.extend_from_slice(b"keygen\n")?;
+    put_asks(&mut text)?;
+    put_answers(alloc, &mut text)?;
+    put_takes(alloc, &mut text)?;
     text.extend_from_slice(b"end\n")?;
+    Ok(text)
+}
+
+// The hash: as above.
+#[test]
+fn a_large_batch(rt: HostRuntime) -> Result<(), Fail> {
+    let text = large_batch(rt.alloc())?;
     let got = hash_of_reply(&rt, rt.alloc(), &text);
     assert_eq!(rt;
         got,

@@ -13,6 +13,7 @@ use batch_runner::{Outcome, serve_pure, serve_words, status};
 use request_frames::Reason;
 use result_verdicts::Verdict;
 use std::alloc::Global;
+use std::process::Abort;
 use std::sync::Wait;
 use std::test::Fail;
 use std::thread::Threads;
@@ -300,21 +301,44 @@ fn statuses_are_those_of_the_manual(rt: HostRuntime) {
     }
 }
 
-// Numbers of lanes that aren't there do nothing: so the text is that of no schedule.
-#[test]
-fn the_longest_schedule_is_taken(rt: HostRuntime) -> Result<(), Fail> {
-    let alloc = rt.alloc();
+fn longest_schedule(alloc: Global) -> Result<String, Fail> {
     let mut steps = String::from_str(alloc, "15")?;
     for _ in 1..65_536 {
         steps.push_str(",15")?;
     }
-    let (_, none) = answer_to(&rt, alloc, &["rehearse", "-"], RUNS[1].input, 4096)?;
-    let (outcome, sink) = answer_to(&rt, alloc, &["rehearse", &steps], RUNS[1].input, 4096)?;
-    assert_eq!(rt; outcome, Outcome::Done);
-    assert_eq!(rt; sink.bytes(), none.bytes());
+    Ok(steps)
+}
+
+// One batch's outcome and text in this schedule.
+fn rehearse<R: Threads + Wait + Sync>(
+    rt: &R,
+    alloc: Global,
+    steps: &str,
+) -> Result<(Outcome, MemorySink), Fail> {
+    answer_to(rt, alloc, &["rehearse", steps], RUNS[1].input, 4096)
+}
+
+fn assert_rehearsed<R: Abort + Threads + Wait + Sync>(
+    rt: &R,
+    alloc: Global,
+    steps: &str,
+    want: Outcome,
+    text: &[u8],
+) -> Result<(), Fail> {
+    let (outcome, sink) = rehearse(rt, alloc, steps)?;
+    assert_eq!(rt; outcome, want);
+    assert_eq!(rt; sink.bytes(), text);
+    Ok(())
+}
+
+// Numbers of lanes that aren't there do nothing: so the text is that of no schedule.
+#[test]
+fn the_longest_schedule_is_taken(rt: HostRuntime) -> Result<(), Fail> {
+    let alloc = rt.alloc();
+    let mut steps = longest_schedule(alloc)?;
+    let (_, none) = rehearse(&rt, alloc, "-")?;
+    assert_rehearsed(&rt, alloc, &steps, Outcome::Done, none.bytes())?;
     steps.push_str(",15")?;
-    let (outcome, sink) = answer_to(&rt, alloc, &["rehearse", &steps], RUNS[1].input, 4096)?;
-    assert_eq!(rt; outcome, Outcome::Usage);
-    assert_eq!(rt; sink.bytes(), b"".as_slice());
+    assert_rehearsed(&rt, alloc, &steps, Outcome::Usage, b"")?;
     Ok(())
 }

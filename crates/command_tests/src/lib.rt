@@ -1,5 +1,5 @@
-//! Tests of the command and of what its threads share: `batch_runner`, `shared_context`, `live_table`
-//! and `turn_lock`, by their public calls alone.
+//! Tests of the command and of what its threads share: `batch_runner`, `shared_context`, `live_table`,
+//! `stamped_lists`, `stamp_counter` and `turn_lock`, by their public calls alone.
 //!
 //! They stand apart from the crates that they test, so that each of those is proved once.
 #![tactic(auto)]
@@ -10,5 +10,9 @@ mod batch_runner_tests;
 mod live_table_tests;
 #[cfg(test)]
 mod shared_context_tests;
+#[cfg(test)]
+mod stamp_counter_tests;
+#[cfg(test)]
+mod stamped_lists_tests;
 #[cfg(test)]
 mod turn_lock_tests;

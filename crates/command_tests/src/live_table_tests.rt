@@ -56,17 +56,22 @@ fn note_cases<R: Wait>(
     Ok(pass)
 }
 
-#[test]
-fn a_look_finds_what_was_added_and_not_retired(rt: HostRuntime) -> Result<(), Fail> {
-    let (counter, mut seats) = StampCounter::new(rt.alloc(), &[9, 0])?;
+// The entries of a new table once each case is noted, and how many stamps were drawn.
+fn entries_of_cases<R: Wait>(rt: &R, alloc: Global) -> Result<(Vec<Entry>, u64), Fail> {
+    let (counter, mut seats) = StampCounter::new(alloc, &[9, 0])?;
     let seat = seats.take().ok_or("the table's seat")?;
     let lane_seat = seats.take().ok_or("the lane's seat")?;
-    let (table, mut passes) = LiveTable::new(rt.alloc(), 2, &[9], seat)?;
+    let (table, mut passes) = LiveTable::new(alloc, 2, &[9], seat)?;
     let pass = passes.take().ok_or("the pass")?;
-    let pass = note_cases(&rt, &table, &counter, (pass, lane_seat))?;
+    let pass = note_cases(rt, &table, &counter, (pass, lane_seat))?;
     passes.put(pass);
     let (notes, seat) = table.close(passes);
-    let entries = notes.into_vec();
+    Ok((notes.into_vec(), counter.close(seat)))
+}
+
+#[test]
+fn a_look_finds_what_was_added_and_not_retired(rt: HostRuntime) -> Result<(), Fail> {
+    let (entries, stamps) = entries_of_cases(&rt, rt.alloc())?;
     assert_eq!(rt; entries.len(), NOTES.len());
     let mut call = 0u32;
     for (act, name, live) in NOTES {
@@ -83,7 +88,7 @@ fn a_look_finds_what_was_added_and_not_retired(rt: HostRuntime) -> Result<(), Fa
         assert_eq!(rt; entries.get(call as usize), Some(&wanted));
         call = call.wrapping_add(1);
     }
-    assert_eq!(rt; counter.close(seat), 9);
+    assert_eq!(rt; stamps, 9);
     Ok(())
 }
 
@@ -204,19 +209,27 @@ fn is_told(entries: &[Entry]) -> bool {
     true
 }
 
-#[test]
-fn four_lanes_note_at_once(rt: HostRuntime) -> Result<(), Fail> {
-    let (counter, mut seats) = StampCounter::new(rt.alloc(), &[1200, 0])?;
+// The entries of a new table once four lanes noted, and how many stamps were drawn.
+fn entries_of_four<R: Threads + Wait + Sync>(
+    rt: &R,
+    alloc: Global,
+) -> Result<(Vec<Entry>, u64), Fail> {
+    let (counter, mut seats) = StampCounter::new(alloc, &[1200, 0])?;
     let seat = seats.take().ok_or("the table's seat")?;
     let lane_seat = seats.take().ok_or("a lane's seat")?;
-    let (table, mut passes) = LiveTable::new(rt.alloc(), 2, &[300, 300, 300, 300], seat)?;
-    let lanes = hand_out(rt.alloc(), &table, &counter, &mut passes, lane_seat)?;
-    let used = note_all(&rt, &table, &counter, lanes)?;
+    let (table, mut passes) = LiveTable::new(alloc, 2, &[300, 300, 300, 300], seat)?;
+    let lanes = hand_out(alloc, &table, &counter, &mut passes, lane_seat)?;
+    let used = note_all(rt, &table, &counter, lanes)?;
     take_back(&table, &mut passes, used);
     let (notes, seat) = table.close(passes);
-    let entries = notes.into_vec();
+    Ok((notes.into_vec(), counter.close(seat)))
+}
+
+#[test]
+fn four_lanes_note_at_once(rt: HostRuntime) -> Result<(), Fail> {
+    let (entries, stamps) = entries_of_four(&rt, rt.alloc())?;
     assert_eq!(rt; entries.len(), 1200);
     assert!(rt; is_told(&entries));
-    assert_eq!(rt; counter.close(seat), 1200);
+    assert_eq!(rt; stamps, 1200);
     Ok(())
 }

@@ -1,6 +1,6 @@
 //! Lanes that share a context in threads of their own, and messages from a sender to a recipient.
 
-ghost use Rattle.std.specs.Prelude.{◌≡◌, ◌+◌, ◌-◌, ◌<◌, ◌≤◌, [], All, IfOk, OnOk, length, vec_len};
+ghost use Rattle.std.specs.Prelude.{◌≡◌, ◌+◌, ◌-◌, ◌<◌, ◌≤◌, [], All, IfOk, OnOk, length, sum, vec_len};
 ghost use Rattle.hpke_context.specs.Contexts.{HasCipher, CanSeal, CanOpen};
 ghost use Rattle.call_places.specs.Spans.{ItemIsInPool};
 ghost use Rattle.context_books.specs.Openings.{IsTableFor};
@@ -143,21 +143,41 @@ fn is_numbered(book: &Book, limit: u64) -> bool {
     true
 }
 
-#[test]
-fn two_lanes_draw_from_one_context(rt: HostRuntime) -> Result<(), Fail> {
-    let (counter, mut seats) = StampCounter::new(rt.alloc(), &[2000, 0])?;
+// A counter, a context of two lanes, which may add a thousand entries each, their passes, and a
+// lane's seat.
+fn two_lanes(alloc: Global) -> Result<(StampCounter, SharedContext, PassList, StampSeat), Fail>
+    ensures context { IfOk result (λ r. CanSeal r.1.context × (r.1.passes ≡ 2)
+        × (r.1.lock.terms.counter ≡ r.0.id) × (r.0.all ≡ 2000)
+        × (sum r.1.lock.terms.quotas ≡ 2000)) }
+    ensures passes { IfOk result (λ r. All (MayDraw r.1.lock 0 1000) r.2.passes
+        × (length r.2.passes ≡ 2) × (r.2.made ≡ 2)) }
+    ensures seat { IfOk result (λ r. IsNote r.0.id r.3) }
+{
+    let (counter, mut seats) = StampCounter::new(alloc, &[2000, 0])?;
     let seat = seats.take().ok_or("the context's seat")?;
     let lane_seat = seats.take().ok_or("a lane's seat")?;
-    let context = context_of(rt.alloc(), Role::Sender, 1500)?;
-    let (context, mut passes) = SharedContext::new(rt.alloc(), context, &[1000, 1000], seat)?;
-    let lanes = hand_out(rt.alloc(), &context, &counter, &mut passes, lane_seat)?;
-    let used = draw_all(&rt, &context, &counter, lanes)?;
+    let context = context_of(alloc, Role::Sender, 1500)?;
+    let (context, passes) = SharedContext::new(alloc, context, &[1000, 1000], seat)?;
+    Ok((counter, context, passes, lane_seat))
+}
+
+// The book once both lanes drew, and how many stamps were drawn.
+fn drawn_by_two<R: Threads + Wait + Sync>(rt: &R, alloc: Global) -> Result<(Book, u64), Fail> {
+    let (counter, context, mut passes, lane_seat) = two_lanes(alloc)?;
+    let lanes = hand_out(alloc, &context, &counter, &mut passes, lane_seat)?;
+    let used = draw_all(rt, &context, &counter, lanes)?;
     take_back(&context, &mut passes, used);
     let (_, book, seat) = context.close(passes);
+    Ok((book, counter.close(seat)))
+}
+
+#[test]
+fn two_lanes_draw_from_one_context(rt: HostRuntime) -> Result<(), Fail> {
+    let (book, stamps) = drawn_by_two(&rt, rt.alloc())?;
     assert_eq!(rt; book.entries().len(), 2000);
     assert_eq!(rt; book.seq(), 1500);
     assert!(rt; is_numbered(&book, 1500));
-    assert_eq!(rt; counter.close(seat), 2000);
+    assert_eq!(rt; stamps, 2000);
     Ok(())
 }
 

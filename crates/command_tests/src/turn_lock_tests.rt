@@ -8,6 +8,7 @@ ghost use Rattle.command_tests.specs.Passes.{IsNew};
 
 use call_places::{Entry, Listed, Place, Step};
 use std::alloc::{AllocError as OutOfMemory, Global};
+use std::process::Abort;
 use std::sync::Wait;
 use std::test::Fail;
 use std::thread::{Threads, join, map_vec};
@@ -164,14 +165,17 @@ fn is_in_order(log: &Log) -> bool {
     true
 }
 
+fn assert_in_order(rt: &impl Abort, log: &Log, count: usize) {
+    assert_eq!(rt; log.list.len(), count);
+    assert!(rt; is_in_order(log));
+}
+
 #[test]
 fn each_lane_has_its_calls_in_order(rt: HostRuntime) -> Result<(), Fail> {
     let two = filled(&rt, rt.alloc(), 2, 1000)?;
-    assert_eq!(rt; two.list.len(), 2000);
-    assert!(rt; is_in_order(&two));
+    assert_in_order(&rt, &two, 2000);
     let sixteen = filled(&rt, rt.alloc(), 16, 200)?;
-    assert_eq!(rt; sixteen.list.len(), 3200);
-    assert!(rt; is_in_order(&sixteen));
+    assert_in_order(&rt, &sixteen, 3200);
     let untouched = filled(&rt, rt.alloc(), 3, 0)?;
     assert_eq!(rt; untouched.list.len(), 0);
     Ok(())

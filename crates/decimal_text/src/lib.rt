@@ -10,7 +10,5 @@
 #![tactic(auto)]
 
 mod decimals;
-#[cfg(test)]
-mod tests;
 
 pub use decimals::{decimal_from_to, is_decimal, value_of};

@@ -20,6 +20,3 @@ mod reductions;
 
 pub use field::field_mul;
 pub use hash::{Ghash, GhashKey};
-
-#[cfg(test)]
-mod tests;

@@ -25,6 +25,3 @@ pub use labels::{labeled_expand_into, labeled_extract, suite_id};
 pub use macs::{Mac, hmac};
 pub use prks::Prk;
 pub use suites::{Aead, Kdf, Suite};
-
-#[cfg(test)]
-mod tests;

@@ -21,6 +21,3 @@ mod sequential;
 pub use contexts::Context;
 pub use faults::CallFault;
 pub use sequential::Sequential;
-
-#[cfg(test)]
-mod tests;

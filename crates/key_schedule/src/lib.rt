@@ -19,6 +19,3 @@ pub use modes::{Mode, Role};
 pub use nonces::nonce_at;
 pub use psks::{PskFault, verify_psk_inputs};
 pub use schedules::{CipherSecrets, Secrets, schedule};
-
-#[cfg(test)]
-mod tests;

@@ -181,6 +181,41 @@ pub const PRODUCTS_857: [Example; 2] = [
     },
 ];
 
+fn assert_product_in_q<S: Params, M: Multiplier>(
+    rt: &impl Abort,
+    alloc: Global,
+    mult: &M,
+    example: &Example,
+) -> Result<(), OutOfMemory> {
+    let source = example.source;
+    let a: Rq<S> = example.a.rq(alloc)?;
+    let b: Small<S> = example.b.small(alloc)?;
+    let want: Small<S> = example.product.small(alloc)?;
+    let in_q = mult.mul_q_small(alloc, &a, &b)?;
+    for k in 0..S::P {
+        let number = i32::from(want.coefficient(k));
+        assert_eq!(rt; in_q.coefficient(k), number, "{source}, {k}");
+    }
+    Ok(())
+}
+
+fn assert_product_in_3<S: Params, M: Multiplier>(
+    rt: &impl Abort,
+    alloc: Global,
+    mult: &M,
+    example: &Example,
+) -> Result<(), OutOfMemory> {
+    let source = example.source;
+    let a: Small<S> = example.a.small(alloc)?;
+    let b: Small<S> = example.b.small(alloc)?;
+    let want: Small<S> = example.product.small(alloc)?;
+    let in_3 = mult.mul_3(alloc, &a, &b)?;
+    for k in 0..S::P {
+        assert_eq!(rt; in_3.coefficient(k), want.coefficient(k), "{source}, {k}");
+    }
+    Ok(())
+}
+
 /// Asserts that a multiplier gives the product of each example in both rings.
 pub fn assert_products<S: Params, M: Multiplier>(
     rt: &impl Abort,
@@ -189,18 +224,8 @@ pub fn assert_products<S: Params, M: Multiplier>(
     examples: &[Example],
 ) -> Result<(), OutOfMemory> {
     for example in examples {
-        let source = example.source;
-        let small: Small<S> = example.a.small(alloc)?;
-        let b: Small<S> = example.b.small(alloc)?;
-        let want: Small<S> = example.product.small(alloc)?;
-        let a: Rq<S> = example.a.rq(alloc)?;
-        let in_q = mult.mul_q_small(alloc, &a, &b)?;
-        let in_3 = mult.mul_3(alloc, &small, &b)?;
-        for k in 0..S::P {
-            let number = want.coefficient(k);
-            assert_eq!(rt; in_q.coefficient(k), i32::from(number), "{source}, {k}");
-            assert_eq!(rt; in_3.coefficient(k), number, "{source}, {k}");
-        }
+        assert_product_in_q::<S, M>(rt, alloc, mult, example)?;
+        assert_product_in_3::<S, M>(rt, alloc, mult, example)?;
     }
     Ok(())
 }

@@ -1,6 +1,8 @@
 use crate::examples::{PRODUCTS_761, PRODUCTS_857, Places, assert_products};
 use ring_core::{Multiplier, Plain, Rq, Small, Sntrup761, Sntrup857};
 use ring_lanes::Lanes;
+use std::alloc::{AllocError as OutOfMemory, Global};
+use std::process::Abort;
 use std::test::Fail;
 
 #[test]
@@ -16,34 +18,64 @@ const SPARSE: Places = Places {
     minus_ones: &[1, 30, 77, 200, 333, 500, 650, 760],
 };
 
-#[test]
-fn dense_products_are_those_of_the_plain_multiplier(rt: HostRuntime) -> Result<(), Fail> {
-    let sparse: Small<Sntrup761> = SPARSE.small(rt.alloc())?;
-    let mut dense: Small<Sntrup761> = SPARSE.small(rt.alloc())?;
+fn eighth_power(alloc: Global) -> Result<Small<Sntrup761>, OutOfMemory> {
+    let mut power: Small<Sntrup761> = SPARSE.small(alloc)?;
     for _ in 0..3 {
-        dense = Plain.mul_3(rt.alloc(), &dense, &dense)?;
+        power = Plain.mul_3(alloc, &power, &power)?;
     }
-    assert!(rt; dense.weight() > 400);
+    Ok(power)
+}
+
+// The element whose coefficient at k is 1000 k.
+fn long(alloc: Global) -> Result<Rq<Sntrup761>, OutOfMemory> {
     let mut numbers = [0i32; 761];
     for k in 0..761 {
         numbers[k] = 1000 * k as i32;
     }
-    let long: Rq<Sntrup761> = Rq::from_coefficients(rt.alloc(), &numbers)?;
-    let in_q = Lanes.mul_q_small(rt.alloc(), &long, &dense)?;
-    let plain_in_q = Plain.mul_q_small(rt.alloc(), &long, &dense)?;
-    let in_3 = Lanes.mul_3(rt.alloc(), &sparse, &dense)?;
-    let plain_in_3 = Plain.mul_3(rt.alloc(), &sparse, &dense)?;
+    Rq::from_coefficients(alloc, &numbers)
+}
+
+fn assert_dense_in_q(
+    rt: &impl Abort,
+    alloc: Global,
+    dense: &Small<Sntrup761>,
+) -> Result<(), OutOfMemory> {
+    let long = long(alloc)?;
+    let in_q = Lanes.mul_q_small(alloc, &long, dense)?;
+    let plain_in_q = Plain.mul_q_small(alloc, &long, dense)?;
     for k in 0..761 {
         assert_eq!(rt;
             in_q.coefficient(k),
             plain_in_q.coefficient(k),
             "in R/q, at {k}"
         );
+    }
+    Ok(())
+}
+
+fn assert_dense_in_3(
+    rt: &impl Abort,
+    alloc: Global,
+    dense: &Small<Sntrup761>,
+) -> Result<(), OutOfMemory> {
+    let sparse: Small<Sntrup761> = SPARSE.small(alloc)?;
+    let in_3 = Lanes.mul_3(alloc, &sparse, dense)?;
+    let plain_in_3 = Plain.mul_3(alloc, &sparse, dense)?;
+    for k in 0..761 {
         assert_eq!(rt;
             in_3.coefficient(k),
             plain_in_3.coefficient(k),
             "in R/3, at {k}"
         );
     }
+    Ok(())
+}
+
+#[test]
+fn dense_products_are_those_of_the_plain_multiplier(rt: HostRuntime) -> Result<(), Fail> {
+    let dense = eighth_power(rt.alloc())?;
+    assert!(rt; dense.weight() > 400);
+    assert_dense_in_q(&rt, rt.alloc(), &dense)?;
+    assert_dense_in_3(&rt, rt.alloc(), &dense)?;
     Ok(())
 }

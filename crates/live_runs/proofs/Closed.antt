@@ -1,6 +1,6 @@
 -- The table and the contexts are closed.
-use Rattle.std.proofs.Common.{◌≡◌, ℕ, zero, suc, ◌<◌, ◌≤◌, List, [], ◌∷◌, ◌++◌, length, map, Option, Some, None, inl, inr, sym, refl, ap, ◌∙◌, subst, arith}
-use Rattle.std.specs.Prelude.{flat_map, sum, sum_by, slice_get, slice_index_or, IsPermutation}
+use Rattle.std.proofs.Common.{◌≡◌, ℕ, zero, suc, ◌≤◌, List, [], ◌∷◌, ◌++◌, length, map, Option, inl, inr, sym, refl, ap, ◌∙◌, subst, arith}
+use Rattle.std.specs.Prelude.{flat_map, sum, slice_get, slice_index_or, IsPermutation}
 use Rattle.std.specs.List.{All, range_with_len}
 use Rattle.std.proofs.lemmas.Option.{slice_get_cases, slice_get-get_or}
 use Rattle.std.proofs.lemmas.List.Sorted.{IsPermutation-append_comm, IsPermutation-trans}

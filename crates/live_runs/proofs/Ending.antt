@@ -1,6 +1,6 @@
 -- The journals of contexts that are closed, and a plan with no lanes.
-use Rattle.std.proofs.Common.{◌≡◌, ℕ, ◌<◌, ◌≤◌, List, [], ◌∷◌, ◌++◌, length, map, take, Option, Some, None, sym, refl, ap, ◌∙◌, subst, arith, append-nil}
-use Rattle.std.specs.Prelude.{flat_map, replicate, slice_get, slice_index_or, IsPermutation}
+use Rattle.std.proofs.Common.{◌≡◌, ℕ, ◌<◌, ◌≤◌, List, [], length, map, take, Option, Some, None, sym, refl, ap, ◌∙◌, subst, arith, append-nil}
+use Rattle.std.specs.Prelude.{flat_map, slice_index_or, IsPermutation}
 use Rattle.std.specs.List.{All, range_with_len}
 use Rattle.std.proofs.Math.ListN.{get_or-map}
 use Rattle.std.proofs.lemmas.List.{length-map, length-replicate, length-take, ext_get_or, get_or_default}
@@ -11,7 +11,6 @@ use Rattle.call_places.specs.Entries.{mark_of, stamps_of}
 use Rattle.turn_lock.specs.Passes.{PassView}
 use Rattle.hpke_context.specs.Contexts.{ContextView}
 use Rattle.context_books.specs.Books.{BookView}
-use Rattle.gathered_lanes.specs.Lanes.{Closes}
 use Rattle.batch_plans.specs.declared.plan.Plan.{Plan}
 use Rattle.batch_plans.specs.declared.replies.ContextReply.{ContextReply}
 use Rattle.batch_plans.specs.declared.replies.LaneAnswers.{LaneAnswers}

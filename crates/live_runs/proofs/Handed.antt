@@ -1,8 +1,8 @@
 -- A lane that gets its passes.
-use Rattle.std.proofs.Common.{◌≡◌, ℕ, suc, ◌+◌, ◌-◌, ◌<◌, ◌≤◌, List, [], length, Option, Some, sym, ap, ◌∙◌, subst, arith, Bor}
+use Rattle.std.proofs.Common.{◌≡◌, ℕ, suc, ◌+◌, ◌-◌, ◌<◌, ◌≤◌, List, [], length, Option, Some, sym, ap, ◌∙◌, subst, arith}
 use Rattle.std.specs.Prelude.{◌↔◌, IsNone, IfSome, slice_get, remove, All}
 use Rattle.turn_lock.specs.Passes.{PassView, PassListView, fresh_pass, fresh_from}
-use Rattle.stamp_counter.specs.Seats.{SeatView, CounterView}
+use Rattle.stamp_counter.specs.Seats.{SeatView}
 use Rattle.batch_plans.specs.declared.plan.Plan.{Plan}
 use Rattle.batch_plans.specs.declared.replies.LaneAnswers.{LaneAnswers}
 use Rattle.batch_plans.specs.Names.{all_live}

@@ -17,7 +17,7 @@ use Rattle.shared_runs.proofs.Ends.{at_end, at_front, one_more, pushed_at}
 use Rattle.shared_runs.proofs.Returning.{none_back, all_push}
 use Rattle.live_runs.specs.declared.contexts.LiveContexts.{LiveContexts}
 use Rattle.live_runs.specs.Contexts.{AreLive, HasGivenLive, IsSame, seen_by_lanes}
-use Rattle.live_runs.specs.Collected.{tables_of, NamesAreBack, CollectedLive}
+use Rattle.live_runs.specs.Collected.{tables_of, CollectedLive}
 use Rattle.live_runs.proofs.Shared.{lanes_count}
 
 pub passes_of_lane : (t : LiveContexts) (counter : Option (Bor CounterView)) (lane k : ℕ) → lane ≡ k

@@ -1,11 +1,9 @@
 -- What lanes share, as they need it, and lists of lanes.
-use Rattle.std.proofs.Common.{◌≡◌, ℕ, ◌<◌, ◌≤◌, List, [], ◌∷◌, ◌++◌, length, map, Option, Some, sym, refl, ap, ◌∙◌, subst, arith, Bor}
+use Rattle.std.proofs.Common.{◌≡◌, List, [], ◌∷◌, ◌++◌, length, map, Option, Some, sym, refl, ap, ◌∙◌, subst, arith, Bor}
 use Rattle.std.specs.Prelude.{slice_get, slice_index}
 use Rattle.std.proofs.lemmas.List.{get_or-map, length-map}
 use Rattle.call_places.specs.declared.listed.Terms.{Terms}
 use Rattle.stamp_counter.specs.Seats.{CounterView}
-use Rattle.batch_plans.specs.declared.plan.Plan.{Plan}
-use Rattle.batch_plans.specs.declared.plan.CallLine.{CallLine}
 use Rattle.batch_plans.specs.Names.{at_position, all_live}
 use Rattle.lane_replies.specs.LaneCalls.{lane_calls}
 use Rattle.lane_workers.specs.declared.live_lane.LiveLane.{LiveLane}

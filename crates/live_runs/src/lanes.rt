@@ -17,6 +17,7 @@ ghost use Rattle.live_runs.specs.Collected.{CollectedLive};
 use crate::contexts::LiveContexts;
 use batch_io::Gate;
 use batch_plans::LaneAnswers;
+use context_books::Book;
 use lane_workers::{LaneWork, LiveLane, serve_live};
 use std::alloc::{AllocError as OutOfMemory, Global};
 use std::sync::Wait;
@@ -134,5 +135,36 @@ impl LiveContexts<'_> {
         'lanes: for lane in lanes {
             answers.push_reserved(self.take_back(lane));
         }
+    }
+
+    /// Serves all lanes by so many workers: their answers, and room for the contexts' books. Their
+    /// passes are put back.
+    pub(crate) fn serve_all<R: Threads + Wait + Sync, G: Gate + Sync>(
+        &mut self,
+        rt: &R,
+        alloc: Global,
+        rooms: Vec<LaneAnswers>,
+        workers: u32,
+        gate: &G,
+    ) -> Result<(Vec<LaneAnswers>, Vec<Option<Book>>), OutOfMemory>
+        requires live { AreLive self.old }
+        requires given { HasGivenLive 0 self.old }
+        requires rooms { rooms.items ≡ map (lane_room (all_live self.old.shared.plan.now)
+            (export_limits (views self.old.shared.contexts)))
+            (all_live self.old.shared.plan.now).lanes }
+        requires workers { (0 < workers) × (workers ≤ 16) }
+        ensures back { IfOk result (λ r. CollectedLive self.new r.0.items) }
+        ensures all { IfOk result (λ r.
+            length r.0.items ≡ length self.new.shared.plan.now.lanes) }
+        ensures books { IfOk result (λ r. (r.1.items ≡ [])
+            × (length self.new.shared.contexts ≤ vec_capacity r.1)) }
+        ensures same { OnOk result (IsSame self.old self.new) }
+    {
+        let mut answers = Vec::with_capacity(alloc, rooms.len())?;
+        let books = Vec::with_capacity(alloc, self.shared.contexts.as_slice().len())?;
+        let mut lanes = self.prepare_all(rt, alloc, rooms)?;
+        self.serve(rt, &mut lanes, workers, gate);
+        self.take_all_back(lanes, &mut answers);
+        Ok((answers, books))
     }
 }

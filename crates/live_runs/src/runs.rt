@@ -53,12 +53,7 @@ fn serve_lanes<R: Threads + Wait + Sync, G: Gate + Sync>(
     ensures printable { IfOk result (λ r. (replies : List ContextReply)
         → AddsAre live.entry.shared.plan.now replies → All IsPrintable r.0.items) }
 {
-    let count = rooms.len();
-    let mut lanes = live.prepare_all(rt, alloc, rooms)?;
-    let mut answers = Vec::with_capacity(alloc, count)?;
-    let mut books = Vec::with_capacity(alloc, journals.len())?;
-    live.serve(rt, &mut lanes, workers, gate);
-    live.take_all_back(lanes, &mut answers);
+    let (answers, mut books) = live.serve_all(rt, alloc, rooms, workers, gate)?;
     let notes = live.close(&mut books);
     cut_journals(&books, journals);
     write_journals(&books, journals);

@@ -29,7 +29,7 @@ use Rattle.lane_quotas.proofs.Places.{journal_count}
 use Rattle.lane_workers.specs.declared.works.LaneWork.{LaneWork}
 use Rattle.lane_workers.specs.Gathered.{no_answers, AllLanesServed, AllClosed}
 use Rattle.lane_workers.specs.Served.{seen_of}
-use Rattle.lane_workers.specs.Turns.{views, view_in}
+use Rattle.lane_workers.specs.Turns.{views}
 use Rattle.shared_runs.specs.declared.tables.Table.{Table}
 use Rattle.shared_runs.specs.Tables.{IsTable, HasStamps, HasOwnLanes, AreReady, journal_rooms}
 use Rattle.shared_runs.specs.Collected.{Collected, AreBack}
@@ -104,16 +104,6 @@ lanes_closed old new same own note answers c count books closed =
     (closed c.passes c.back (all_back new mine answers c count))
 
 -- ---- journals
-
--- there is a journal for each context
-pub journal_each : (t : Table) (rooms : List (List Mark)) → IsTable t
-    → rooms ≡ journal_rooms t.plan.now (views t.contexts) → length rooms ≡ length t.contexts
-journal_each t rooms table is =
-    ap length is
-    ∙ length-map-range_with_len
-    (journal_room t.plan.now.contexts (export_limits (views t.contexts)) t.plan.now.lanes) 0
-    (length t.plan.now.contexts)
-    ∙ sym table.of_lines.count ∙ length-map t.contexts view_in
 
 -- the room of a journal has a place for each entry
 written_is : (book : Option BookView) (room : List Mark)

@@ -1,7 +1,8 @@
 -- Lists that grow at their ends, and what holds of the numbers below one.
-use Rattle.std.proofs.Common.{◌≡◌, ◌≢◌, ℕ, zero, suc, ◌+◌, ◌<◌, List, [], ◌∷◌, ◌++◌, length, map, get_or, Some, None, inl, inr, sym, refl, ap, ◌∙◌, subst, arith, length-append}
+use Rattle.std.proofs.Common.{◌≡◌, ◌≢◌, ◌==◌, true, false, ℕ, zero, suc, ◌+◌, ◌<◌, List, [], ◌∷◌, ◌++◌, length, map, get_or, Some, None, inl, inr, sym, refl, ap, ◌∙◌, subst, arith, length-append}
 use Rattle.std.specs.Prelude.{◌⊎◌, slice_get}
-use Rattle.std.proofs.lemmas.List.{length-map, get_or-map}
+use Rattle.std.proofs.lemmas.Bool.Decides.{nat_tests}
+use Rattle.std.proofs.lemmas.List.{length-map, get_or-map, nil_from_length}
 use Rattle.legal_journals.proofs.Lists.{is_cases}
 
 pub at_front : {X : Type 0} (xs ys : List X) (d : X) (k : ℕ) → k < length xs
@@ -55,3 +56,22 @@ module _ {X Y : Type 0} (f : Y → X) (ys : List Y) (all front rest : List X) (x
       sym (at_end front rest x x)
       ∙ ap (λ l. get_or l (length front) x) (sym is ∙ of)
       ∙ get_or-map f ys (length front) d x below_count
+
+-- a list that is made of another, all of which was taken
+pub all_made : {X Y : Type 0} (f : Y → X) (ys : List Y) (all front rest : List X)
+    → all ≡ front ++ rest → all ≡ map f ys → length rest ≡ 0 → length front ≡ length ys
+all_made f ys all front rest is of none =
+    let a = ap length is in
+    let b = ap length of in
+    let c = length-map ys f in
+    let d = length-append front rest in
+    omega arith
+
+-- what `is_empty` tells of a list
+pub no_elements : {X : Type 0} (xs : List X) → true ≡ (length xs == 0) → xs ≡ []
+no_elements xs e =
+    let none : length xs ≡ 0 = grind (arith, nat_tests) in
+    nil_from_length xs none
+
+pub some_elements : {X : Type 0} (xs : List X) → false ≡ (length xs == 0) → 0 < length xs
+some_elements xs e = grind (arith, nat_tests)

@@ -15,6 +15,7 @@ ghost use Rattle.shared_runs.specs.Collected.{Collected};
 use crate::tables::Table;
 use batch_io::Gate;
 use batch_plans::LaneAnswers;
+use context_books::Book;
 use lane_workers::{LaneWork, serve};
 use std::alloc::{AllocError as OutOfMemory, Global};
 use std::sync::Wait;
@@ -116,5 +117,35 @@ impl Table<'_> {
         'lanes: for work in works {
             answers.push_reserved(self.take_back(work));
         }
+    }
+
+    /// Serves all lanes by so many workers: their answers, and room for the contexts' books. Their
+    /// passes are put back.
+    pub(crate) fn serve_all<R: Threads + Wait + Sync, G: Gate + Sync>(
+        &mut self,
+        rt: &R,
+        alloc: Global,
+        rooms: Vec<LaneAnswers>,
+        workers: u32,
+        gate: &G,
+    ) -> Result<(Vec<LaneAnswers>, Vec<Option<Book>>), OutOfMemory>
+        requires table { IsTable self.old }
+        requires own { HasOwnLanes self.old }
+        requires given { HasGiven 0 self.old }
+        requires rooms { rooms.items ≡ map (lane_room self.old.plan.now
+            (export_limits (views self.old.contexts))) self.old.plan.now.lanes }
+        requires workers { (0 < workers) × (workers ≤ 16) }
+        ensures back { IfOk result (λ r. Collected self.new r.0.items) }
+        ensures all { IfOk result (λ r. length r.0.items ≡ length self.new.plan.now.lanes) }
+        ensures books { IfOk result (λ r. (r.1.items ≡ [])
+            × (length self.new.contexts ≤ vec_capacity r.1)) }
+        ensures same { OnOk result (self.new ≡ record self.old { passes = self.new.passes }) }
+    {
+        let mut answers = Vec::with_capacity(alloc, rooms.len())?;
+        let books = Vec::with_capacity(alloc, self.contexts.as_slice().len())?;
+        let mut works = self.prepare_all(rt, alloc, rooms)?;
+        self.serve(rt, &mut works, workers, gate);
+        self.take_all_back(works, &mut answers);
+        Ok((answers, books))
     }
 }

@@ -49,12 +49,7 @@ fn serve_table<R: Threads + Wait + Sync, G: Gate + Sync>(
         ≡ length table.entry.plan.now.lanes)
         × All IsPrintable lanes.items) }
 {
-    let count = rooms.len();
-    let mut works = table.prepare_all(rt, alloc, rooms)?;
-    let mut lanes = Vec::with_capacity(alloc, count)?;
-    let mut books = Vec::with_capacity(alloc, journals.len())?;
-    table.serve(rt, &mut works, workers, gate);
-    table.take_all_back(works, &mut lanes);
+    let (lanes, mut books) = table.serve_all(rt, alloc, rooms, workers, gate)?;
     table.close(&mut books);
     write_journals(&books, journals);
     served_lanes_make_a_run();

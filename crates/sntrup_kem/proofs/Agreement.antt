@@ -69,11 +69,9 @@ both_ends set s word place j pk sk r g short =
 pub draws_short : (set : Set) → IsSet set → DrawsShort set
 draws_short set s word place = IsShort-drawn_r set word place s.weight
 
--- what the two ends of an exchange compute, from what the three calls ensure
-pub exchange_agrees : (set : Set) (word word' : ℕ → ℕ) (place place' j : ℕ) (pk sk enc sent received : List ℕ) → IsSet set → IsGenerated set word place j pk sk → enc ≡ enc_of set pk (drawn_r set word' place') → sent ≡ session_of set pk (drawn_r set word' place') → received ≡ decapsulated set sk enc → received ≡ sent
-exchange_agrees set word word' place place' j pk sk enc sent received s g ee es er =
-    let r : List ℤ = drawn_r set word' place' in
+-- what the two ends of an exchange compute, from what the calls ensure
+pub exchange_agrees : (set : Set) (word word' : ℕ → ℕ) (place place' j : ℕ) (pk sk sent received : List ℕ) → IsSet set → IsGenerated set word place j pk sk → sent ≡ session_of set pk (drawn_r set word' place') → received ≡ decapsulated set sk (enc_of set pk (drawn_r set word' place')) → received ≡ sent
+exchange_agrees set word word' place place' j pk sk sent received s g es er =
     er
-    ∙ ap (λ (t : List ℕ). decapsulated set sk t) ee
-    ∙ both_ends set s word place j pk sk r g (draws_short set s word' place')
+    ∙ both_ends set s word place j pk sk (drawn_r set word' place') g (draws_short set s word' place')
     ∙ sym es

@@ -1,5 +1,6 @@
 -- A pair of keys from its parts.
-use Rattle.std.proofs.Common.{◌≡◌, ℕ, ◌+◌, ◌*◌, ◌<◌, ℤ, List, ◌++◌, ap, sym, subst, ◌∙◌, inl, inr}
+use Rattle.std.proofs.Common.{◌≡◌, Ok, Err, ℕ, ◌+◌, ◌*◌, ◌<◌, ℤ, List, ◌++◌, ap, sym, subst, ◌∙◌, inl, inr}
+use Rattle.std.specs.Prelude.{◌≢◌, ◌↔◌}
 use Rattle.ring_core.specs.Product.{IsCentred}
 use Rattle.ring_core.specs.Sets.{Set}
 use Rattle.radix_pack.specs.Codings.{small_encode, rq_encode, IsMalformed}
@@ -37,6 +38,14 @@ generated_by set word word' place place' j pk f_enc ginv_enc rho sk coded ew ep 
           ∙ ap (λ (t : List ℕ). small_encode set.p k.f ++ t ++ pk ++ rho ++ cache) ginv_is
           ∙ ap (λ (t : List ℕ). small_encode set.p k.f ++ small_encode set.p k.ginv ++ pk ++ t ++ cache) rho_is;
     }
+
+pub gave_no_fault : {A E : Type 0} {x : A} {e : E} → Ok x ≢ Err e
+gave_no_fault h = cc
+
+-- where exactly there is a fault, said of the call that gave x, holds of what was made from x
+pub fault_elsewhere : {A B E : Type 0} {x : A} {y : B} {e o : E} {P : Type 0} → (Ok x ≢ Err o → ((Ok x ≡ Err e) ↔ P)) → Ok y ≢ Err o → ((Ok y ≡ Err e) ↔ P)
+fault_elsewhere gave _ =
+    (λ h. absurd (gave_no_fault h), λ p. absurd (gave_no_fault ((gave gave_no_fault).1 p)))
 
 pub first_low : (set : Set) (word : ℕ → ℕ) (place j : ℕ) → FindsG set word place j → j < 64
 unfolding FindsG

@@ -72,10 +72,10 @@ IsShort-drawn_r set word place l =
 
 -- ---- what the code made step by step
 
-pub ciphertext_by : (set : Set) (pk : List ℕ) (r h c : List ℤ) (bytes : List ℕ) → h ≡ rq_decode set pk → c ≡ encrypted set r h → bytes ≡ rounded_encode set c → bytes ≡ ciphertext set pk r
+pub ciphertext_by : (set : Set) (pk : List ℕ) (r h c : List ℤ) → h ≡ rq_decode set pk → c ≡ encrypted set r h → rounded_encode set c ≡ ciphertext set pk r
 unfolding ciphertext
-ciphertext_by set pk r h c bytes eh ec eb =
-    eb ∙ ap (λ (t : List ℤ). rounded_encode set t) (ec ∙ ap (λ (t : List ℤ). encrypted set r t) eh)
+ciphertext_by set pk r h c eh ec =
+    ap (λ (t : List ℤ). rounded_encode set t) (ec ∙ ap (λ (t : List ℤ). encrypted set r t) eh)
 
 pub plaintext_by : (set : Set) (f_enc ginv_enc c_enc : List ℕ) (c f ginv : List ℤ) → c ≡ rounded_decode set c_enc → f ≡ small_decode set.p f_enc → ginv ≡ small_decode set.p ginv_enc → decrypted set c f ginv ≡ plaintext set f_enc ginv_enc c_enc
 unfolding plaintext

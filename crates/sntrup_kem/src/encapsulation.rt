@@ -4,7 +4,7 @@ ghost use Rattle.std.specs.Prelude.{◌≡◌, ◌+◌, ◌++◌, ◌^◌, ◌�
 ghost use Rattle.radix_pack.specs.Codings.{small_length, small_encode, small_decode, rq_length, rounded_length, IsMalformed};
 ghost use Rattle.rand_words.specs.Words.{TakesAtMost};
 ghost use Rattle.sntrup_kem.specs.Sizes.{hash_size};
-ghost use Rattle.sntrup_kem.specs.Kem.{drawn_r, hidden, plaintext, enc_of, session_of, chosen, decapsulated};
+ghost use Rattle.sntrup_kem.specs.Kem.{drawn_r, ciphertext, hidden, plaintext, enc_of, session_of, chosen, decapsulated};
 
 use crate::hashes::{hash_confirm, hash_session, key_hash};
 use crate::keys::{PublicKey, SecretKey};
@@ -63,6 +63,22 @@ fn joined(alloc: Global, first: &[u8], second: &[u8]) -> Result<ByteList, OutOfM
     Ok(ByteList::from_vec(bytes))
 }
 
+// The coding of the ciphertext of r.
+fn ciphertext<S: Params, M: Multiplier>(
+    alloc: Global,
+    mult: &M,
+    public: &[u8],
+    r: &Small<S>,
+) -> Result<ByteList, OutOfMemory>
+    requires { length public.now ≡ rq_length S.set }
+    ensures bytes { IfOk result (λ b. b ≡ ciphertext S.set public.now r.now) }
+    ensures count { IfOk result (λ b. length b ≡ rounded_length S.set) }
+{
+    let h = rq_decode(alloc, public)?;
+    let c = encrypt(alloc, mult, r, &PublicPoly { h })?;
+    rounded_encode(alloc, &c)
+}
+
 // Hide (NTRU Prime round 3), with the cache, which is the hash of the public key, as it is given.
 pub(crate) fn hide<S: Params, M: Multiplier>(
     alloc: Global,
@@ -76,9 +92,7 @@ pub(crate) fn hide<S: Params, M: Multiplier>(
     ensures count { IfOk result (λ h. length h.enc ≡ rounded_length S.set + hash_size) }
     ensures r_enc { IfOk result (λ h. h.r_enc ≡ small_encode S.set.p r.now) }
 {
-    let h = rq_decode(alloc, public)?;
-    let c = encrypt(alloc, mult, r, &PublicPoly { h })?;
-    let c_enc = rounded_encode(alloc, &c)?;
+    let c_enc = ciphertext(alloc, mult, public, r)?;
     let r_enc = small_encode(alloc, r)?;
     let confirm = hash_confirm(r_enc.as_slice(), cache);
     Ok(Hidden {

@@ -1,7 +1,7 @@
 //! How keys are made from random words.
 
 ghost use Rattle.std.specs.Prelude.{◌≡◌, ◌≢◌, ◌↔◌, ℕ, ◌+◌, ◌*◌, ◌^◌, ◌<◌, ◌≤◌, length, take, ◌++◌, IfOk, OnOk, vec_len};
-ghost use Rattle.radix_pack.specs.Codings.{small_length, rq_length, IsMalformed};
+ghost use Rattle.radix_pack.specs.Codings.{small_length, small_encode, rq_length, rq_encode, IsMalformed};
 ghost use Rattle.rand_words.specs.Words.{TakesAtMost};
 ghost use Rattle.sntrup_core.specs.Keys.{FindsG, IsExhausted, FindsNoInverse};
 ghost use Rattle.sntrup_kem.specs.Sizes.{small_size, rho_words};
@@ -14,7 +14,7 @@ use crate::params::KemParams;
 use radix_pack::{ByteList, rq_encode, small_encode};
 use rand_words::Words;
 use ring_core::{Multiplier, Params};
-use sntrup_core::{KeyFault, keygen};
+use sntrup_core::{KeyFault, PublicPoly, SecretPolys, keygen};
 use std::alloc::{AllocError, Global};
 
 // The codings of a key.
@@ -23,6 +23,26 @@ struct CodedKey {
     public: ByteList,
     f: ByteList,
     ginv: ByteList,
+}
+
+// The codings of what KeyGen gave.
+fn coded<S: Params>(
+    alloc: Global,
+    public: &PublicPoly<S>,
+    secret: &SecretPolys<S>,
+) -> Result<CodedKey, AllocError>
+    ensures public { IfOk result (λ k. k.public ≡ rq_encode S.set public.now.h) }
+    ensures f { IfOk result (λ k. k.f ≡ small_encode S.set.p secret.now.f) }
+    ensures ginv { IfOk result (λ k. k.ginv ≡ small_encode S.set.p secret.now.ginv) }
+    ensures public_count { IfOk result (λ k. length k.public ≡ rq_length S.set) }
+    ensures f_count { IfOk result (λ k. length k.f ≡ small_length S.set.p) }
+    ensures ginv_count { IfOk result (λ k. length k.ginv ≡ small_length S.set.p) }
+{
+    Ok(CodedKey {
+        public: rq_encode(alloc, &public.h)?,
+        f: small_encode(alloc, &secret.f)?,
+        ginv: small_encode(alloc, &secret.ginv)?,
+    })
 }
 
 // KeyGen, and its codings.
@@ -55,11 +75,7 @@ fn coded_key<S: Params, R: Words, M: Multiplier>(
     ensures stays { R.word words.new ≡ R.word words.old }
 {
     let (public, secret) = keygen::<S, R, M>(alloc, words, mult)?;
-    Ok(CodedKey {
-        public: rq_encode(alloc, &public.h)?,
-        f: small_encode(alloc, &secret.f)?,
-        ginv: small_encode(alloc, &secret.ginv)?,
-    })
+    Ok(coded(alloc, &public, &secret)?)
 }
 
 // The next words as bytes, each its low byte first.

@@ -5,15 +5,17 @@ ghost use Rattle.std.specs.Prelude.{◌≡◌, ◌≢◌, ◌↔◌, ℕ, ◌+�
 ghost use Rattle.ring_core.specs.Sets.{sntrup761, sntrup857};
 ghost use Rattle.sntrup_core.specs.Keys.{IsExhausted, FindsNoInverse};
 ghost use Rattle.sntrup_kem.specs.Sizes.{rho_words};
+ghost use Rattle.sntrup_kem.specs.Kem.{drawn_r, enc_of, session_of, decapsulated};
 ghost use Rattle.sntrup_kem.specs.Laws.{DrawsShort, BothEndsAgree, HoldsItsPublicKey, AgreesToSession, RejectsOthers, IsExchanged};
 
 use crate::encapsulation::{decap, encap};
 use crate::generation::generate;
+use crate::keys::{PublicKey, SecretKey};
 use crate::params::KemParams;
 use rand_words::Words;
 use ring_core::Multiplier;
 use sntrup_core::KeyFault;
-use std::alloc::Global;
+use std::alloc::{AllocError as OutOfMemory, Global};
 
 /// With each pair of keys that [`generate`](crate::generate) gives, [`decap`](crate::decap) gives
 /// the session key of each [`encap`](crate::encap), whose r is short.
@@ -40,6 +42,26 @@ pub fn words_of_rho()
     ensures sntrup857 { rho_words sntrup857 ≡ 54 }
 {}
 
+// The session key of an encapsulation, and what the holder of the secret key makes of it.
+fn session_keys<S: KemParams, R: Words, M: Multiplier, N: Multiplier>(
+    alloc: Global,
+    words: &mut R,
+    encapsulating: &M,
+    decapsulating: &N,
+    public: &PublicKey<S>,
+    secret: &SecretKey<S>,
+) -> Result<([u8; 32], [u8; 32]), OutOfMemory>
+    requires { R.place words.old + S.set.p ≤ 2 ^ 32 }
+    ensures sent { IfOk result (λ keys. keys.0
+        ≡ session_of S.set public.now (drawn_r S.set (R.word words.old) (R.place words.old))) }
+    ensures received { IfOk result (λ keys. keys.1 ≡ decapsulated S.set secret.now
+        (enc_of S.set public.now (drawn_r S.set (R.word words.old) (R.place words.old)))) }
+{
+    let (enc, encapsulated) = encap(alloc, words, encapsulating, public)?;
+    let decapsulated = decap(alloc, decapsulating, enc.as_slice(), secret)?;
+    Ok((encapsulated, decapsulated))
+}
+
 /// Generates a pair of keys, encapsulates a session key for the public one with the words after it,
 /// and decapsulates it with the secret one, each by a multiplier of its own type.
 ///
@@ -61,7 +83,5 @@ pub fn exchanged_keys<S: KemParams, R: Words, L: Multiplier, M: Multiplier, N: M
         ↔ FindsNoInverse S.set (R.word words.old) (R.place words.old)) }
 {
     let (public, secret) = generate::<S, R, L>(alloc, words, generating)?;
-    let (enc, encapsulated) = encap(alloc, words, encapsulating, &public)?;
-    let decapsulated = decap(alloc, decapsulating, enc.as_slice(), &secret)?;
-    Ok((encapsulated, decapsulated))
+    Ok(session_keys(alloc, words, encapsulating, decapsulating, &public, &secret)?)
 }

@@ -3,4 +3,3 @@ pub mod Rule
 pub mod Steps
 pub mod Laws
 pub mod Seats
-pub mod Tests

@@ -15,8 +15,6 @@ mod counter;
 mod laws;
 mod rules;
 mod seats;
-#[cfg(test)]
-mod tests;
 mod views;
 
 pub use counter::StampCounter;

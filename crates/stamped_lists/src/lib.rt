@@ -10,7 +10,5 @@
 #![tactic(auto)]
 
 mod stamps;
-#[cfg(test)]
-mod tests;
 
 pub use stamps::draw_stamps;

@@ -1,5 +1,5 @@
-//! Tests of the texts: of batch_io, field_text, request_frames, live_frames, capsule_frames and
-//! batch_words, a module a crate.
+//! Tests of the texts: of decimal_text, call_places, batch_io, field_text, request_frames,
+//! live_frames, capsule_frames and batch_words, a module a crate.
 //!
 //! They see what a caller sees, and stand apart from what they test so that each of those crates is
 //! proved once. There is nothing here to call.
@@ -12,7 +12,11 @@ mod batch_io_tests;
 #[cfg(test)]
 mod batch_words_tests;
 #[cfg(test)]
+mod call_places_tests;
+#[cfg(test)]
 mod capsule_frames_tests;
+#[cfg(test)]
+mod decimal_text_tests;
 #[cfg(test)]
 mod field_text_tests;
 #[cfg(test)]

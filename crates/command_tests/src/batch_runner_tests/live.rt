@@ -3,10 +3,13 @@
 
 use crate::batch_runner_tests::threads::{MOST_TURNS, sealed_numbers};
 use crate::batch_runner_tests::{answer_to, gated_answer_to};
-use batch_io::{HoldGate, Point};
+use batch_io::{HoldGate, MemorySink, Point};
 use batch_runner::Outcome;
 use std::alloc::Global;
+use std::process::Abort;
+use std::sync::Wait;
 use std::test::Fail;
+use std::thread::Threads;
 
 // Two lanes that seal the same text on one context, and then on one that each adds.
 const ADDS: &str =
@@ -82,57 +85,92 @@ fn found_by_lane_1(text: &str) -> Option<usize> {
     None
 }
 
+// The text of a run that is done.
+fn done_run<R: Abort + Threads + Wait + Sync>(
+    rt: &R,
+    alloc: Global,
+    batch: &str,
+    workers: &str,
+) -> Result<MemorySink, Fail> {
+    let words = ["live", "--workers", workers];
+    let (outcome, sink) = answer_to(rt, alloc, &words, batch, 4096)?;
+    assert_eq!(rt; outcome, Outcome::Done);
+    Ok(sink)
+}
+
+fn assert_refusals(rt: &impl Abort, text: &str, found: usize, workers: &str) -> Result<(), Fail> {
+    let (first, second) = text.split_once("lane 1\n").ok_or("two lanes")?;
+    assert_eq!(rt; first.split("\nsealed ").count(), 51, "{workers}");
+    assert_eq!(rt; first.split("refused nocontext\n").count(), 51, "{workers}");
+    assert_eq!(rt;
+        second
+            .split("refused nocontext\n")
+            .count()
+            .wrapping_add(found),
+        101,
+        "{workers}"
+    );
+    Ok(())
+}
+
+fn assert_numbers(
+    rt: &impl Abort,
+    alloc: Global,
+    text: &[u8],
+    found: usize,
+    workers: &str,
+) -> Result<(), Fail> {
+    let mut numbers = sealed_numbers(alloc, text)?;
+    numbers.sort_unstable();
+    let all = found as u64;
+    assert!(rt;
+        numbers.iter().copied().eq(0..all.wrapping_add(50)),
+        "{workers}"
+    );
+    Ok(())
+}
+
 #[test]
 fn each_look_is_answered_by_the_table(rt: HostRuntime) -> Result<(), Fail> {
     let alloc = rt.alloc();
     let batch = racing_lanes(alloc)?;
     for workers in ["1", "2", "4"] {
-        let words = ["live", "--workers", workers];
-        let (outcome, sink) = answer_to(&rt, alloc, &words, &batch, 4096)?;
-        assert_eq!(rt; outcome, Outcome::Done);
+        let sink = done_run(&rt, alloc, &batch, workers)?;
         let text = str::from_utf8(sink.bytes())?;
-        let (first, second) = text.split_once("lane 1\n").ok_or("two lanes")?;
         let found = found_by_lane_1(text).ok_or("a note that tells what is live")?;
-        assert_eq!(rt; first.split("\nsealed ").count(), 51, "{workers}");
-        assert_eq!(rt; first.split("refused nocontext\n").count(), 51, "{workers}");
-        assert_eq!(rt;
-            second
-                .split("refused nocontext\n")
-                .count()
-                .wrapping_add(found),
-            101,
-            "{workers}"
-        );
-        let mut numbers = sealed_numbers(alloc, sink.bytes())?;
-        numbers.sort_unstable();
-        let all = found as u64;
-        assert!(rt;
-            numbers.iter().copied().eq(0..all.wrapping_add(50)),
-            "{workers}"
-        );
+        assert_refusals(&rt, text, found, workers)?;
+        assert_numbers(&rt, alloc, sink.bytes(), found, workers)?;
     }
+    Ok(())
+}
+
+// Sixteen lanes that add sixteen contexts each, and seal on the first and the last of them all.
+fn adding_lanes(alloc: Global) -> Result<String, Fail> {
+    let mut text = String::from_str(alloc, "hpkebatch 2\n")?;
+    for _ in 0..16 {
+        text.push_str("lane\n")?;
+        for _ in 0..16 {
+            text.push_str("add send 32 1 1 ab base - - - 9\n")?;
+        }
+        text.push_str("seal +0 - 00\nseal +255 - 00\n")?;
+    }
+    text.push_str("end\n")?;
+    Ok(text)
+}
+
+fn assert_all_added(rt: &impl Abort, text: &str) -> Result<(), Fail> {
+    assert_eq!(rt; text.split("added\n").count(), 257);
+    assert_eq!(rt; text.split("\njournal +").count(), 257);
+    let (_, table) = text.split_once("table\n").ok_or("a table")?;
+    assert_eq!(rt; table.lines().count(), 16 * 18 + 1);
     Ok(())
 }
 
 #[test]
 fn sixteen_lanes_add_256_contexts(rt: HostRuntime) -> Result<(), Fail> {
     let alloc = rt.alloc();
-    let mut batch = String::from_str(alloc, "hpkebatch 2\n")?;
-    for _ in 0..16 {
-        batch.push_str("lane\n")?;
-        for _ in 0..16 {
-            batch.push_str("add send 32 1 1 ab base - - - 9\n")?;
-        }
-        batch.push_str("seal +0 - 00\nseal +255 - 00\n")?;
-    }
-    batch.push_str("end\n")?;
-    let words = ["live", "--workers", "16"];
-    let (outcome, sink) = answer_to(&rt, alloc, &words, &batch, 4096)?;
-    assert_eq!(rt; outcome, Outcome::Done);
-    let text = str::from_utf8(sink.bytes())?;
-    assert_eq!(rt; text.split("added\n").count(), 257);
-    assert_eq!(rt; text.split("\njournal +").count(), 257);
-    let (_, table) = text.split_once("table\n").ok_or("a table")?;
-    assert_eq!(rt; table.lines().count(), 16 * 18 + 1);
+    let batch = adding_lanes(alloc)?;
+    let sink = done_run(&rt, alloc, &batch, "16")?;
+    assert_all_added(&rt, str::from_utf8(sink.bytes())?)?;
     Ok(())
 }

@@ -215,27 +215,38 @@ fn are_below(digits: &[u16], radices: &[u16]) -> bool
     true
 }
 
-fn assert_radix_case(rt: &impl Abort, alloc: Global, case: &RadixCase) -> Result<(), Fail> {
+fn assert_coding(
+    rt: &impl Abort,
+    alloc: Global,
+    case: &RadixCase,
+    digits: &[u16],
+    radices: &[u16],
+    bytes: &[u8],
+) -> Result<(), Fail> {
     let source = case.source;
-    let digits = repeated(alloc, case.digits, case.count)?;
-    let radices = repeated(alloc, case.radices, case.count)?;
     assert!(rt; radices.len() > 0);
-    assert!(rt; are_radices(&radices));
-    assert!(rt; are_below(&digits, &radices));
-    let encoded = encode(alloc, &digits, &radices)?;
-    let bytes = bytes_of(alloc, case.bytes)?;
+    assert!(rt; are_radices(radices));
+    assert!(rt; are_below(digits, radices));
+    let encoded = encode(alloc, digits, radices)?;
     assert!(rt;
-        encoded.as_slice() == &bytes[..],
+        encoded.as_slice() == bytes,
         "{source}, bytes of {}",
         case.count
     );
-    let decoded = decode(alloc, encoded.as_slice(), &radices)?;
+    let decoded = decode(alloc, encoded.as_slice(), radices)?;
     assert!(rt;
-        decoded.as_slice() == &digits[..],
+        decoded.as_slice() == digits,
         "{source}, digits of {}",
         case.count
     );
     Ok(())
+}
+
+fn assert_radix_case(rt: &impl Abort, alloc: Global, case: &RadixCase) -> Result<(), Fail> {
+    let digits = repeated(alloc, case.digits, case.count)?;
+    let radices = repeated(alloc, case.radices, case.count)?;
+    let bytes = bytes_of(alloc, case.bytes)?;
+    assert_coding(rt, alloc, case, &digits, &radices, &bytes)
 }
 
 #[test]

@@ -1,4 +1,4 @@
-use Rattle.std.proofs.Common.{◌∙◌, ◌^◌, ◌<◌, ◌≤◌, arith, sym}
+use Rattle.std.proofs.Common.{◌∙◌, arith, sym}
 use Rattle.batch_words.proofs.Within.{decimal_within}
 use Rattle.batch_words.proofs.reading.numbers.Goals as goal
 

@@ -1,4 +1,4 @@
-use Rattle.std.proofs.Common.{◌≡◌, false, codes, map, subst, List, [], ◌∷◌}
+use Rattle.std.proofs.Common.{◌≡◌, false, codes, map, subst, [], ◌∷◌}
 use Rattle.std.specs.Prelude.{IfNone}
 use Rattle.std.specs.String.{string_bytes}
 use Rattle.batch_words.specs.Parses.{are_operands}

@@ -1,7 +1,6 @@
-use Rattle.std.proofs.Common.{◌≡◌, ◌==◌, true, ℕ, List, [], ◌++◌, Option, length, map, take, drop, sym, refl, ap, ◌∙◌, subst, arith}
+use Rattle.std.proofs.Common.{◌≡◌, ◌==◌, ◌<◌, true, false, List, [], ◌++◌, Option, length, map, take, drop, sym, refl, ap, ◌∙◌, subst, arith}
 use Rattle.std.specs.List.{All}
-use Rattle.std.proofs.lemmas.Bool.Decides.{nat_tests}
-use Rattle.std.proofs.lemmas.List.{length-map, take-append-le, take_all, nil_from_length}
+use Rattle.std.proofs.lemmas.List.{length-map}
 use Rattle.std.proofs.lemmas.List.FromFn.{length-map-range_with_len}
 use Rattle.call_places.specs.declared.entries.Entry.{Entry}
 use Rattle.call_places.specs.declared.entries.Mark.{Mark}
@@ -12,18 +11,47 @@ use Rattle.batch_plans.specs.declared.replies.LaneAnswers.{LaneAnswers}
 use Rattle.batch_plans.specs.Names.{at_position, all_live}
 use Rattle.batch_plans.specs.Replies.{IsPrintable}
 use Rattle.batch_plans.specs.Room.{lane_room, journal_room}
-use Rattle.due_replies.specs.Standing.{export_limits}
+use Rattle.due_replies.specs.Standing.{AreOfLines, export_limits}
 use Rattle.hpke_context.specs.Contexts.{ContextView}
 use Rattle.lane_workers.specs.LiveLanes.{AddsAre}
 use Rattle.lane_workers.specs.LiveGathered.{AreOfALiveRun}
+use Rattle.shared_runs.specs.Tables.{journal_rooms}
+use Rattle.shared_runs.proofs.Ends.{no_elements, some_elements}
+use Rattle.shared_runs.proofs.Handed.{written_back}
 use Rattle.shared_runs.proofs.Ending.{no_books, no_journals}
+use Rattle.live_runs.specs.Contexts.{AddsStand}
 use Rattle.live_runs.proofs.Ending.{none_served, nothing_closed}
 use Rattle.live_runs.proofs.runs.run_live.Goals as goal
 
-no_elements : {X : Type 0} (xs : List X) → true ≡ (length xs == 0) → xs ≡ []
-no_elements xs e =
-    let none : length xs ≡ 0 = grind (arith, nat_tests) in
-    nil_from_length xs none
+pub new-requires-clause-some : goal.new-requires-clause-some
+new-requires-clause-some g c =
+    some_elements c.args.plan.now.lanes (c.if-is_empty.ensures
+    ∙ ap (λ (ls : List (List CallLine)). length ls == 0) c.as_slice.ensures.items)
+
+pub new-requires-clause-standing : goal.new-requires-clause-standing
+new-requires-clause-standing g c =
+    subst (AreOfLines c.args.plan.now.contexts) (sym c.as_mut_slice.ensures.items) c.requires.standing
+
+pub new-requires-clause-stands : goal.new-requires-clause-stands
+new-requires-clause-stands g c =
+    subst (AddsStand c.args.plan.now) (sym c.as_mut_slice.ensures.items) c.requires.stands
+
+pub serve_lanes-requires-clause-rooms : goal.serve_lanes-requires-clause-rooms
+serve_lanes-requires-clause-rooms g c κs within =
+    let plan = all_live c.in_ok-live.live.shared.plan.now in
+    c.into_vec.ensures.items ∙ ap (λ (a : Answers). a.lanes) c.requires.room
+    ∙ ap (λ (p : Plan). map (lane_room (all_live p) (export_limits c.args.contexts)) (all_live p).lanes)
+    (sym c.in_ok-live.ensures.plan)
+    ∙ ap (λ (xs : List (Option ContextView)). map (lane_room plan (export_limits xs)) plan.lanes)
+    (sym (c.in_ok-live.ensures.contexts ∙ c.as_mut_slice.ensures.items))
+
+pub serve_lanes-requires-clause-journals : goal.serve_lanes-requires-clause-journals
+serve_lanes-requires-clause-journals g c κs within =
+    c.as_mut_slice-2.ensures.items ∙ ap (λ (a : Answers). a.journals) c.requires.room
+    ∙ ap (λ (p : Plan). journal_rooms (all_live p) c.args.contexts) (sym c.in_ok-live.ensures.plan)
+    ∙ ap (λ (xs : List (Option ContextView)).
+    journal_rooms (all_live c.in_ok-live.live.shared.plan.now) xs)
+    (sym (c.in_ok-live.ensures.contexts ∙ c.as_mut_slice.ensures.items))
 
 pub returns-then-is_empty-clause-run : goal.returns-then-is_empty-clause-run
 returns-then-is_empty-clause-run g c =
@@ -69,13 +97,6 @@ returns-then-is_empty-clause-printable g c =
       printable = λ k d low. absurd (omega (arith, count, ap length empty));
     }
 
--- what a slice was made of a list is the list's, once it is written back
-written_back : {X : Type 0} (old new : List X) → length new ≡ length old
-    → take (length old) (new ++ drop (length new) old) ≡ new
-written_back old new size =
-    take-append-le (length old) new (drop (length new) old) (omega arith)
-    ∙ take_all (length old) new (omega arith)
-
 pub returns-clause-run : goal.returns-clause-run
 returns-clause-run g c =
     let plan : Plan = c.args.plan.now in
@@ -95,7 +116,7 @@ returns-clause-run g c =
     journals notes) (r.contexts ∙ c.as_mut_slice.ensures.items)
     (c.in_ok-lanes.ensures.run replies adds)) in
     subst (λ (js : List (List Mark)). AreOfALiveRun plan replies contexts c.from_vec.result js
-    c.from_vec-2.result) (sym (written_back old journals size))
+    c.from_vec-2.result) (sym (written_back (length old) old journals refl size))
     (subst (λ (es : List Entry). AreOfALiveRun plan replies contexts c.from_vec.result journals es)
     (sym (c.from_vec-2.ensures.items ∙ c.into_vec-2.ensures))
     (subst (λ (ls : List LaneAnswers). AreOfALiveRun plan replies contexts ls journals notes)
@@ -117,7 +138,7 @@ returns-clause-printable g c =
       contexts = c.requires.replies.1;
       lanes = ap length c.from_vec.ensures.items ∙ c.in_ok-lanes.ensures.count
           ∙ ap (λ (x : Plan). length x.lanes) r.plan;
-      journals = ap length (written_back old journals size) ∙ size
+      journals = ap length (written_back (length old) old journals refl size) ∙ size
           ∙ ap length (ap (λ (a : Answers). a.journals) c.requires.room)
           ∙ length-map-range_with_len
           (journal_room plan.contexts (export_limits contexts) (all_live plan).lanes) 0

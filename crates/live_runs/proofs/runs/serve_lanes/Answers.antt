@@ -1,5 +1,4 @@
-use Rattle.std.proofs.Common.{◌≡◌, ◌<◌, ◌≤◌, ℕ, List, [], Option, length, map, take, sym, refl, ap, ◌∙◌, subst, arith, slice_index_or}
-use Rattle.call_places.specs.declared.entries.Mark.{Mark}
+use Rattle.std.proofs.Common.{◌≡◌, ◌<◌, ℕ, List, [], Option, length, map, take, sym, ap, ◌∙◌, subst, slice_index_or}
 use Rattle.context_books.specs.Books.{BookView}
 use Rattle.batch_plans.specs.Names.{all_live}
 use Rattle.lane_quotas.specs.Journals.{written, HasRoom}
@@ -10,48 +9,26 @@ use Rattle.shared_runs.specs.Tables.{journal_rooms}
 use Rattle.shared_runs.specs.Closing.{entries_of}
 use Rattle.shared_runs.proofs.Closed.{book_at}
 use Rattle.live_runs.specs.declared.contexts.LiveContexts.{LiveContexts}
-use Rattle.live_runs.specs.Contexts.{AreReadyLive}
 use Rattle.live_runs.specs.Collected.{tables_of}
-use Rattle.live_runs.proofs.Shared.{still_live, still_ready, other_passes}
+use Rattle.live_runs.proofs.Shared.{still_live}
 use Rattle.live_runs.proofs.Ending.{all_served, printable, contexts_count, journal_each, has_room, journals_are}
 use Rattle.live_runs.proofs.runs.serve_lanes.Goals as goal
 
-pub serve-requires-clause-live : goal.serve-requires-clause-live
-serve-requires-clause-live g c κs within =
-    still_live c.args.live c.prepare_all.new.self c.in_ok-lanes.ensures.same c.requires.live
-
-pub serve-requires-clause-ready : goal.serve-requires-clause-ready
-serve-requires-clause-ready g c κs within =
-    still_ready c.args.live c.prepare_all.new.self c.deref_mut.result.now c.in_ok-lanes.ensures.same
-    (subst (AreReadyLive c.args.live) (sym c.deref_mut.ensures.value) c.in_ok-lanes.ensures.ready)
-
-pub take_all_back-requires-clause-live : goal.take_all_back-requires-clause-live
-take_all_back-requires-clause-live g c =
-    still_live c.args.live c.prepare_all.new.self c.in_ok-lanes.ensures.same c.requires.live
-
 pub close-notes-requires-clause-live : goal.close-notes-requires-clause-live
 close-notes-requires-clause-live g c =
-    let same = other_passes c.args.live c.prepare_all.new.self c.take_all_back.new.self
-    c.in_ok-lanes.ensures.same c.take_all_back.ensures.same in
-    still_live c.args.live c.take_all_back.new.self same c.requires.live
+    let same = c.in_ok-answers.ensures.same in
+    still_live c.args.live c.serve_all.new.self same c.requires.live
+
+pub close-notes-requires-clause-none : goal.close-notes-requires-clause-none
+close-notes-requires-clause-none g c = c.in_ok-answers.ensures.books.0
 
 pub close-notes-requires-clause-room : goal.close-notes-requires-clause-room
-close-notes-requires-clause-room g c =
-    let t = c.take_all_back.new.self in
-    let same = other_passes c.args.live c.prepare_all.new.self t c.in_ok-lanes.ensures.same
-    c.take_all_back.ensures.same in
-    let live = still_live c.args.live t same c.requires.live in
-    let rooms_are = c.requires.journals
-    ∙ ap (λ (x : LiveContexts). journal_rooms (all_live x.shared.plan.now) (views x.shared.contexts))
-    (sym same) in
-    let each = journal_each t live c.args.journals.now rooms_are in
-    omega (arith, each, c.in_ok-books.ensures.capacity)
+close-notes-requires-clause-room g c = c.in_ok-answers.ensures.books.1
 
 pub cut_journals-requires : goal.cut_journals-requires
 cut_journals-requires g c =
-    let t = c.take_all_back.new.self in
-    let same = other_passes c.args.live c.prepare_all.new.self t c.in_ok-lanes.ensures.same
-    c.take_all_back.ensures.same in
+    let t = c.serve_all.new.self in
+    let same = c.in_ok-answers.ensures.same in
     let live = still_live c.args.live t same c.requires.live in
     let rooms_are = c.requires.journals
     ∙ ap (λ (x : LiveContexts). journal_rooms (all_live x.shared.plan.now) (views x.shared.contexts))
@@ -63,9 +40,8 @@ cut_journals-requires g c =
 
 pub write_journals-requires-clause-count : goal.write_journals-requires-clause-count
 write_journals-requires-clause-count g c =
-    let t = c.take_all_back.new.self in
-    let same = other_passes c.args.live c.prepare_all.new.self t c.in_ok-lanes.ensures.same
-    c.take_all_back.ensures.same in
+    let t = c.serve_all.new.self in
+    let same = c.in_ok-answers.ensures.same in
     let live = still_live c.args.live t same c.requires.live in
     let rooms = c.args.journals.now in
     let rooms_are = c.requires.journals
@@ -77,9 +53,8 @@ write_journals-requires-clause-count g c =
 
 pub write_journals-requires-clause-room : goal.write_journals-requires-clause-room
 write_journals-requires-clause-room g c =
-    let t = c.take_all_back.new.self in
-    let same = other_passes c.args.live c.prepare_all.new.self t c.in_ok-lanes.ensures.same
-    c.take_all_back.ensures.same in
+    let t = c.serve_all.new.self in
+    let same = c.in_ok-answers.ensures.same in
     let live = still_live c.args.live t same c.requires.live in
     let rooms = c.args.journals.now in
     let rooms_are = c.requires.journals
@@ -98,9 +73,8 @@ write_journals-requires-clause-room g c =
 
 pub returns-clause-run : goal.returns-clause-run
 returns-clause-run g c = λ replies adds.
-    let t = c.take_all_back.new.self in
-    let same = other_passes c.args.live c.prepare_all.new.self t c.in_ok-lanes.ensures.same
-    c.take_all_back.ensures.same in
+    let t = c.serve_all.new.self in
+    let same = c.in_ok-answers.ensures.same in
     let live = still_live c.args.live t same c.requires.live in
     let rooms = c.args.journals.now in
     let rooms_are = c.requires.journals
@@ -112,8 +86,8 @@ returns-clause-run g c = λ replies adds.
     let cut_is = subst (λ (bs : List (Option BookView)). (n : ℕ) → n < length bs
     → slice_index_or cut n [] ≡ take (length (entries_of (book_at bs n))) (slice_index_or rooms n []))
     c.deref.ensures.value c.cut_journals.ensures in
-    let b = c.take_all_back.ensures in
-    let answers = c.take_all_back.new.answers.items in
+    let b = c.in_ok-answers.ensures in
+    let answers = c.in_ok-answers.answers.items in
     let journals = c.write_journals.new.journals in
     let notes = c.close-notes.result in
     let plan = t.shared.plan.now in
@@ -135,9 +109,8 @@ returns-clause-run g c = λ replies adds.
 
 pub returns-clause-printable : goal.returns-clause-printable
 returns-clause-printable g c = λ replies adds.
-    let t = c.take_all_back.new.self in
-    let same = other_passes c.args.live c.prepare_all.new.self t c.in_ok-lanes.ensures.same
-    c.take_all_back.ensures.same in
-    let b = c.take_all_back.ensures in
-    printable t c.take_all_back.new.answers.items b.back b.all replies
+    let t = c.serve_all.new.self in
+    let same = c.in_ok-answers.ensures.same in
+    let b = c.in_ok-answers.ensures in
+    printable t c.in_ok-answers.answers.items b.back b.all replies
     (subst (λ (x : LiveContexts). AddsAre x.shared.plan.now replies) (sym same) adds)

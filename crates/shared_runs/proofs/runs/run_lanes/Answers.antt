@@ -1,23 +1,70 @@
-use Rattle.std.proofs.Common.{◌≡◌, ◌==◌, true, List, [], ◌++◌, length, map, take, drop, sym, ap, ◌∙◌, subst, arith}
+use Rattle.std.proofs.Common.{◌≡◌, ◌==◌, ◌<◌, true, false, List, [], ◌++◌, Option, length, map, take, drop, sym, refl, ap, ◌∙◌, subst, arith}
 use Rattle.std.specs.List.{All}
-use Rattle.std.proofs.lemmas.Bool.Decides.{nat_tests}
-use Rattle.std.proofs.lemmas.List.{length-map, take-append-le, take_all, nil_from_length}
+use Rattle.std.proofs.lemmas.List.{length-map}
 use Rattle.std.proofs.lemmas.List.FromFn.{length-map-range_with_len}
+use Rattle.call_places.specs.declared.entries.Mark.{Mark}
+use Rattle.hpke_context.specs.Contexts.{ContextView}
 use Rattle.batch_plans.specs.declared.plan.CallLine.{CallLine}
 use Rattle.batch_plans.specs.declared.plan.Plan.{Plan}
 use Rattle.batch_plans.specs.declared.replies.Answers.{Answers}
 use Rattle.batch_plans.specs.declared.replies.LaneAnswers.{LaneAnswers}
 use Rattle.batch_plans.specs.Replies.{IsPrintable}
 use Rattle.batch_plans.specs.Room.{lane_room, journal_room}
-use Rattle.due_replies.specs.Standing.{export_limits}
+use Rattle.due_replies.specs.Standing.{AreOfLines, export_limits}
 use Rattle.lane_workers.specs.Gathered.{AreOfARun}
+use Rattle.lane_workers.specs.Turns.{views}
+use Rattle.shared_runs.specs.Tables.{journal_rooms}
+use Rattle.shared_runs.proofs.Ends.{no_elements, some_elements}
+use Rattle.shared_runs.proofs.Handed.{written_back}
 use Rattle.shared_runs.proofs.Ending.{no_books, none_served, nothing_closed, no_journals}
 use Rattle.shared_runs.proofs.runs.run_lanes.Goals as goal
 
-no_elements : {X : Type 0} (xs : List X) → true ≡ (length xs == 0) → xs ≡ []
-no_elements xs e =
-    let none : length xs ≡ 0 = grind (arith, nat_tests) in
-    nil_from_length xs none
+-- a run, told of what is equal
+same_run : (p q : Plan) (xs ys : List (Option ContextView)) (ls ms : List LaneAnswers)
+    (js ks : List (List Mark)) → p ≡ q → xs ≡ ys → ms ≡ ls → ks ≡ js → AreOfARun p xs ls js
+    → AreOfARun q ys ms ks
+same_run p q xs ys ls ms js ks plan contexts lanes journals run =
+    subst (λ x. AreOfARun x ys ms ks) plan
+    (subst (λ x. AreOfARun p x ms ks) contexts
+    (subst (λ x. AreOfARun p xs x ks) (sym lanes) (subst (AreOfARun p xs ls) (sym journals) run)))
+
+pub new-requires-clause-within : goal.new-requires-clause-within
+new-requires-clause-within g c = c.requires.within
+
+pub new-requires-clause-standing : goal.new-requires-clause-standing
+new-requires-clause-standing g c =
+    subst (AreOfLines c.args.plan.now.contexts) (sym c.as_mut_slice.ensures.items) c.requires.standing
+
+pub new-requires-clause-lanes : goal.new-requires-clause-lanes
+new-requires-clause-lanes g c =
+    some_elements c.args.plan.now.lanes (c.if-is_empty.ensures
+    ∙ ap (λ (ls : List (List CallLine)). length ls == 0) c.as_slice.ensures.items)
+
+pub serve_table-requires-clause-own : goal.serve_table-requires-clause-own
+serve_table-requires-clause-own g c κs within =
+    c.in_ok-table.ensures.lanes ∙ ap (λ (p : Plan). p.lanes) (sym c.in_ok-table.ensures.plan)
+
+pub serve_table-requires-clause-lanes : goal.serve_table-requires-clause-lanes
+serve_table-requires-clause-lanes g c κs within =
+    subst (λ (p : Plan). 0 < length p.lanes) (sym c.in_ok-table.ensures.plan)
+    (some_elements c.args.plan.now.lanes (c.if-is_empty.ensures
+    ∙ ap (λ (ls : List (List CallLine)). length ls == 0) c.as_slice.ensures.items))
+
+pub serve_table-requires-clause-rooms : goal.serve_table-requires-clause-rooms
+serve_table-requires-clause-rooms g c κs within =
+    let plan = c.in_ok-table.table.plan.now in
+    c.into_vec.ensures.items ∙ ap (λ (a : Answers). a.lanes) c.requires.room
+    ∙ ap (λ (p : Plan). map (lane_room p (export_limits c.args.contexts)) p.lanes)
+    (sym c.in_ok-table.ensures.plan)
+    ∙ ap (λ (xs : List (Option ContextView)). map (lane_room plan (export_limits xs)) plan.lanes)
+    (sym (c.in_ok-table.ensures.contexts ∙ c.as_mut_slice.ensures.items))
+
+pub serve_table-requires-clause-journals : goal.serve_table-requires-clause-journals
+serve_table-requires-clause-journals g c κs within =
+    c.as_mut_slice-rooms.ensures.items ∙ ap (λ (a : Answers). a.journals) c.requires.room
+    ∙ ap (λ (p : Plan). journal_rooms p c.args.contexts) (sym c.in_ok-table.ensures.plan)
+    ∙ ap (λ (xs : List (Option ContextView)). journal_rooms c.in_ok-table.table.plan.now xs)
+    (sym (c.in_ok-table.ensures.contexts ∙ c.as_mut_slice.ensures.items))
 
 pub returns-then-is_empty-clause-run : goal.returns-then-is_empty-clause-run
 returns-then-is_empty-clause-run g c =
@@ -55,6 +102,19 @@ returns-then-is_empty-clause-printable g c =
       printable = λ k d low. absurd (omega (arith, count, ap length empty));
     }
 
+pub returns-clause-run : goal.returns-clause-run
+returns-clause-run g c =
+    let journals = c.serve_table.new.journals in
+    same_run c.in_ok-table.table.plan.now c.args.plan.now (views c.in_ok-table.table.contexts)
+    c.args.contexts c.in_ok-lanes.lanes.items c.from_vec.result journals
+    (take (length c.args.answers.journals)
+    (journals ++ drop (length journals) c.args.answers.journals))
+    c.in_ok-table.ensures.plan (c.in_ok-table.ensures.contexts ∙ c.as_mut_slice.ensures.items)
+    c.from_vec.ensures.items (written_back (length c.args.answers.journals)
+    c.args.answers.journals journals refl
+    (c.serve_table.auto.journals ∙ ap length c.as_mut_slice-rooms.ensures.items))
+    c.in_ok-lanes.ensures.run
+
 pub returns-clause-printable : goal.returns-clause-printable
 returns-clause-printable g c =
     let plan : Plan = c.args.plan.now in
@@ -64,9 +124,7 @@ returns-clause-printable g c =
     let journals = c.serve_table.new.journals in
     let size : length journals ≡ length old = c.serve_table.auto.journals
     ∙ ap length c.as_mut_slice-rooms.ensures.items in
-    let journals_is : take (length old) (journals ++ drop (length journals) old) ≡ journals =
-    take-append-le (length old) journals (drop (length journals) old) (omega arith)
-    ∙ take_all (length old) journals (omega arith) in
+    let journals_is = written_back (length old) old journals refl size in
     record {
       keys = c.requires.replies.0;
       contexts = c.requires.replies.1;

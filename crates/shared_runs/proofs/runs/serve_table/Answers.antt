@@ -1,77 +1,50 @@
-use Rattle.std.proofs.Common.{◌≡◌, ◌<◌, ℕ, List, [], Option, length, map, sym, ap, ◌∙◌, subst, arith, slice_index_or}
+use Rattle.std.proofs.Common.{◌≡◌, ◌<◌, ℕ, List, [], Option, length, map, sym, ap, ◌∙◌, subst, slice_index_or}
 use Rattle.context_books.specs.Books.{BookView}
 use Rattle.lane_quotas.specs.Journals.{written, HasRoom}
 use Rattle.lane_workers.specs.Gathered.{AreOfARun}
 use Rattle.lane_workers.specs.Turns.{views}
 use Rattle.shared_runs.specs.declared.tables.Table.{Table}
-use Rattle.shared_runs.specs.Tables.{AreReady, journal_rooms}
+use Rattle.shared_runs.specs.Tables.{journal_rooms}
 use Rattle.shared_runs.specs.Closing.{entries_of}
 use Rattle.shared_runs.proofs.Closed.{book_at}
-use Rattle.shared_runs.proofs.Ending.{still_table, still_stamps, still_own, all_back, lanes_closed, still_ready, other_passes, all_served, printable, journal_each, rooms_count, has_room, journals_are}
+use Rattle.shared_runs.proofs.Ending.{still_table, still_stamps, still_own, all_back, lanes_closed, all_served, printable, rooms_count, has_room, journals_are}
 use Rattle.shared_runs.proofs.Served.{own_within}
 use Rattle.shared_runs.proofs.runs.serve_table.Goals as goal
 
-pub serve-requires-clause-table : goal.serve-requires-clause-table
-serve-requires-clause-table g c κs within =
-    still_table c.args.table c.prepare_all.new.self c.in_ok-works.ensures.same c.requires.table
-
-pub serve-requires-clause-own : goal.serve-requires-clause-own
-serve-requires-clause-own g c κs within =
-    still_own c.args.table c.prepare_all.new.self c.in_ok-works.ensures.same c.requires.own
-
-pub take_all_back-requires-clause-own : goal.take_all_back-requires-clause-own
-take_all_back-requires-clause-own g c =
-    still_own c.args.table c.prepare_all.new.self c.in_ok-works.ensures.same c.requires.own
-
-pub serve-requires-clause-ready : goal.serve-requires-clause-ready
-serve-requires-clause-ready g c κs within =
-    still_ready c.args.table c.prepare_all.new.self c.deref_mut.result.now
-    c.in_ok-works.ensures.same
-    (subst (AreReady c.args.table) (sym c.deref_mut.ensures.value) c.in_ok-works.ensures.ready)
-
 pub close-requires-clause-table : goal.close-requires-clause-table
 close-requires-clause-table g c =
-    let same = other_passes c.args.table c.prepare_all.new.self c.take_all_back.new.self
-    c.in_ok-works.ensures.same c.take_all_back.ensures.same in
-    still_table c.args.table c.take_all_back.new.self same c.requires.table
+    let same = c.in_ok-lanes.ensures.same in
+    still_table c.args.table c.serve_all.new.self same c.requires.table
 
 pub close-requires-clause-stamps : goal.close-requires-clause-stamps
 close-requires-clause-stamps g c =
-    let same = other_passes c.args.table c.prepare_all.new.self c.take_all_back.new.self
-    c.in_ok-works.ensures.same c.take_all_back.ensures.same in
-    still_stamps c.args.table c.take_all_back.new.self same c.requires.note c.requires.stamps
+    let same = c.in_ok-lanes.ensures.same in
+    still_stamps c.args.table c.serve_all.new.self same c.requires.note c.requires.stamps
 
 pub close-requires-clause-back : goal.close-requires-clause-back
 close-requires-clause-back g c =
-    let t = c.take_all_back.new.self in
-    let b = c.take_all_back.ensures in
-    let same = other_passes c.args.table c.prepare_all.new.self t c.in_ok-works.ensures.same
-    b.same in
+    let t = c.serve_all.new.self in
+    let b = c.in_ok-lanes.ensures in
+    let same = b.same in
     let own = still_own c.args.table t same c.requires.own in
-    (b.back.passes, b.back.back, all_back t own c.take_all_back.new.answers.items b.back b.all)
+    (b.back.passes, b.back.back, all_back t own c.in_ok-lanes.lanes.items b.back b.all)
+
+pub close-requires-clause-none : goal.close-requires-clause-none
+close-requires-clause-none g c = c.in_ok-lanes.ensures.books.0
 
 pub close-requires-clause-room : goal.close-requires-clause-room
-close-requires-clause-room g c =
-    let t = c.take_all_back.new.self in
-    let same = other_passes c.args.table c.prepare_all.new.self t
-    c.in_ok-works.ensures.same c.take_all_back.ensures.same in
-    let table = still_table c.args.table t same c.requires.table in
-    let rooms_are = c.requires.journals
-    ∙ ap (λ (x : Table). journal_rooms x.plan.now (views x.contexts)) (sym same) in
-    let each = journal_each t c.args.journals.now table rooms_are in
-    omega (arith, each, c.in_ok-books.ensures.capacity)
+close-requires-clause-room g c = c.in_ok-lanes.ensures.books.1
 
 pub write_journals-requires-clause-count : goal.write_journals-requires-clause-count
 write_journals-requires-clause-count g c =
-    let t = c.take_all_back.new.self in
-    let b = c.take_all_back.ensures in
-    let same = other_passes c.args.table c.prepare_all.new.self t c.in_ok-works.ensures.same
-    b.same in
+    let t = c.serve_all.new.self in
+    let b = c.in_ok-lanes.ensures in
+    let same = b.same in
     let table = still_table c.args.table t same c.requires.table in
     let rooms_are = c.requires.journals
     ∙ ap (λ (x : Table). journal_rooms x.plan.now (views x.contexts)) (sym same) in
     let own = still_own c.args.table t same c.requires.own in
-    let answers = c.take_all_back.new.answers.items in
+    let answers = c.in_ok-lanes.lanes.items in
     let closed = lanes_closed c.args.table t same c.requires.own c.requires.note answers b.back b.all
     (map entries_of c.close.new.books.items) c.close.ensures.closed in
     rooms_count t table own answers b.back b.all c.close.new.books.items
@@ -80,15 +53,14 @@ write_journals-requires-clause-count g c =
 
 pub write_journals-requires-clause-room : goal.write_journals-requires-clause-room
 write_journals-requires-clause-room g c =
-    let t = c.take_all_back.new.self in
-    let b = c.take_all_back.ensures in
-    let same = other_passes c.args.table c.prepare_all.new.self t c.in_ok-works.ensures.same
-    b.same in
+    let t = c.serve_all.new.self in
+    let b = c.in_ok-lanes.ensures in
+    let same = b.same in
     let table = still_table c.args.table t same c.requires.table in
     let rooms_are = c.requires.journals
     ∙ ap (λ (x : Table). journal_rooms x.plan.now (views x.contexts)) (sym same) in
     let own = still_own c.args.table t same c.requires.own in
-    let answers = c.take_all_back.new.answers.items in
+    let answers = c.in_ok-lanes.lanes.items in
     let closed = lanes_closed c.args.table t same c.requires.own c.requires.note answers b.back b.all
     (map entries_of c.close.new.books.items) c.close.ensures.closed in
     subst (λ (books : List (Option BookView)). (n : ℕ) → n < length books
@@ -99,15 +71,14 @@ write_journals-requires-clause-room g c =
 
 pub returns-clause-run : goal.returns-clause-run
 returns-clause-run g c =
-    let t = c.take_all_back.new.self in
-    let b = c.take_all_back.ensures in
-    let same = other_passes c.args.table c.prepare_all.new.self t c.in_ok-works.ensures.same
-    b.same in
+    let t = c.serve_all.new.self in
+    let b = c.in_ok-lanes.ensures in
+    let same = b.same in
     let table = still_table c.args.table t same c.requires.table in
     let rooms_are = c.requires.journals
     ∙ ap (λ (x : Table). journal_rooms x.plan.now (views x.contexts)) (sym same) in
     let own = still_own c.args.table t same c.requires.own in
-    let answers = c.take_all_back.new.answers.items in
+    let answers = c.in_ok-lanes.lanes.items in
     let closed = lanes_closed c.args.table t same c.requires.own c.requires.note answers b.back b.all
     (map entries_of c.close.new.books.items) c.close.ensures.closed in
     let books = c.close.new.books.items in
@@ -125,12 +96,11 @@ returns-clause-run g c =
 
 pub returns-clause-printable : goal.returns-clause-printable
 returns-clause-printable g c =
-    let t = c.take_all_back.new.self in
-    let same = other_passes c.args.table c.prepare_all.new.self t
-    c.in_ok-works.ensures.same c.take_all_back.ensures.same in
+    let t = c.serve_all.new.self in
+    let same = c.in_ok-lanes.ensures.same in
     let table = still_table c.args.table t same c.requires.table in
     let own = still_own c.args.table t same c.requires.own in
-    let b = c.take_all_back.ensures in (
+    let b = c.in_ok-lanes.ensures in (
       b.all ∙ ap (λ (x : Table). length x.plan.now.lanes) same,
-      printable t table own c.take_all_back.new.answers.items b.back b.all,
+      printable t table own c.in_ok-lanes.lanes.items b.back b.all,
     )

@@ -1,6 +1,6 @@
-use Rattle.std.proofs.Common.{rules}
+use Rattle.std.proofs.Common.{ℤ, List, subst}
 use Rattle.ring_core.specs.Product.{IsCentred}
-use Rattle.sntrup_kem.proofs.Generating.{first_low, coded_by, form_by}
+use Rattle.sntrup_kem.proofs.Generating.{gave_no_fault, fault_elsewhere, first_low, coded_by, form_by}
 use Rattle.sntrup_kem.proofs.generation.coded_key.Goals as goal
 
 pub returns-clause-key : goal.returns-clause-key
@@ -9,23 +9,35 @@ returns-clause-key g c =
     let word = g.R.Words.word c.args.words.now in
     let place = g.R.Words.place c.args.words.now in
     let k = c.in_ok-public.ensures.key in
-    let h_centred : IsCentred set.q set.p c.in_ok-public.public.h = search rules in
-    let ginv_small : IsCentred 3 set.p c.in_ok-public.secret.ginv = search rules in (
+    let H : List ℤ → Type 0 = λ a. IsCentred set.q set.p a in
+    let h_centred : IsCentred set.q set.p c.in_ok-public.public.h = subst H c.drop-4.view_is c.drop-4.invariant in
+    let G : List ℤ → Type 0 = λ a. IsCentred 3 set.p a in
+    let ginv_small : IsCentred 3 set.p c.in_ok-public.secret.ginv = subst G c.drop-3.view_is c.drop-3.invariant in
+    let codings = c.in_ok-coded.ensures in (
       k.0,
       k.1,
       first_low set word place k.0 k.1,
-      c.in_ok-public.ensures.taken (λ e. absurd (cc)) k.0 k.1,
-      coded_by set word place k.0 c.in_ok-public.public.h c.in_ok-public.secret.f c.in_ok-public.secret.ginv c.in_ok-rq_encode.field-0 c.in_ok-small_encode.field-0 c.in_ok-small_encode-2.field-0 k.2 h_centred ginv_small c.in_ok-rq_encode.ensures.bytes c.in_ok-small_encode.ensures.bytes c.in_ok-small_encode-2.ensures.bytes,
+      c.in_ok-public.ensures.taken gave_no_fault k.0 k.1,
+      coded_by set word place k.0 c.in_ok-public.public.h c.in_ok-public.secret.f c.in_ok-public.secret.ginv _ _ _ k.2 h_centred ginv_small codings.public codings.f codings.ginv,
     )
 
 pub returns-clause-f_form : goal.returns-clause-f_form
 returns-clause-f_form g c =
     let p = g.S.Params.set.p in
-    let small : IsCentred 3 p c.in_ok-public.secret.f = search rules in
-    form_by p c.in_ok-public.secret.f c.in_ok-small_encode.field-0 small c.in_ok-small_encode.ensures.bytes
+    let P : List ℤ → Type 0 = λ a. IsCentred 3 p a in
+    form_by p c.in_ok-public.secret.f _ (subst P c.drop-2.view_is c.drop-2.invariant) c.in_ok-coded.ensures.f
 
 pub returns-clause-ginv_form : goal.returns-clause-ginv_form
 returns-clause-ginv_form g c =
     let p = g.S.Params.set.p in
-    let small : IsCentred 3 p c.in_ok-public.secret.ginv = search rules in
-    form_by p c.in_ok-public.secret.ginv c.in_ok-small_encode-2.field-0 small c.in_ok-small_encode-2.ensures.bytes
+    let P : List ℤ → Type 0 = λ a. IsCentred 3 p a in
+    form_by p c.in_ok-public.secret.ginv _ (subst P c.drop-3.view_is c.drop-3.invariant) c.in_ok-coded.ensures.ginv
+
+pub returns-clause-exhausted : goal.returns-clause-exhausted
+returns-clause-exhausted g c = fault_elsewhere c.in_ok-public.ensures.exhausted
+
+pub returns-clause-no_inverse : goal.returns-clause-no_inverse
+returns-clause-no_inverse g c = fault_elsewhere c.in_ok-public.ensures.no_inverse
+
+pub returns-clause-taken : goal.returns-clause-taken
+returns-clause-taken g c = λ _. c.in_ok-public.ensures.taken gave_no_fault

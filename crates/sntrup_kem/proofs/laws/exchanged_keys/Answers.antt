@@ -1,5 +1,4 @@
-use Rattle.std.proofs.Common.{ℕ, List, arith, ap, ◌∙◌}
-use Rattle.sntrup_kem.specs.Kem.{decapsulated}
+use Rattle.std.proofs.Common.{arith}
 use Rattle.sntrup_kem.proofs.Rounds.{IsSet}
 use Rattle.sntrup_kem.proofs.Agreement.{exchange_agrees}
 use Rattle.sntrup_kem.proofs.laws.exchanged_keys.Goals as goal
@@ -16,7 +15,5 @@ returns-clause-agreement g c =
       weight = laws.weight_most;
       bound = laws.weight_bound;
     } in
-    let sk = c.in_ok-public.secret in
     let k = c.in_ok-public.ensures.keys in
-    let received = c.in_ok-decapsulated.ensures ∙ ap (λ (t : List ℕ). decapsulated laws.set sk t) c.as_slice.ensures.bytes in
-    exchange_agrees laws.set (g.R.Words.word c.args.words.now) (g.R.Words.word c.generate.new.words) (g.R.Words.place c.args.words.now) (g.R.Words.place c.generate.new.words) k.0 c.in_ok-public.public sk c.in_ok-enc.enc c.in_ok-enc.encapsulated c.in_ok-decapsulated.decapsulated s k.2 c.in_ok-enc.ensures.enc c.in_ok-enc.ensures.key received
+    exchange_agrees laws.set (g.R.Words.word c.args.words.now) (g.R.Words.word c.generate.new.words) (g.R.Words.place c.args.words.now) (g.R.Words.place c.generate.new.words) k.0 c.in_ok-public.public c.in_ok-public.secret _ _ s k.2 c.in_ok-session_keys.ensures.sent c.in_ok-session_keys.ensures.received

@@ -1,12 +1,13 @@
-use Rattle.std.proofs.Common.{◌≡◌, ◌≤◌, ℕ, List, length, sym, ap, ◌∙◌, subst, arith}
+use Rattle.std.proofs.Common.{◌≡◌, ◌≤◌, ◌-◌, ℕ, List, length, map, sym, ap, ◌∙◌, subst, arith}
 use Rattle.std.specs.Prelude.{sum}
 use Rattle.std.specs.List.{All}
 use Rattle.std.proofs.lemmas.List.{length-map}
+use Rattle.turn_lock.specs.Passes.{fresh_from}
 use Rattle.stamp_counter.specs.Seats.{SeatView}
 use Rattle.batch_plans.specs.declared.plan.Plan.{Plan}
 use Rattle.batch_plans.specs.declared.plan.CallLine.{CallLine}
 use Rattle.batch_plans.specs.Limits.{IsWithinLimits}
-use Rattle.batch_plans.specs.Names.{all_live}
+use Rattle.batch_plans.specs.Names.{at_position, all_live}
 use Rattle.batch_plans.proofs.Positions.{all_live_within}
 use Rattle.lane_workers.specs.LiveLanes.{AddsOneOf}
 use Rattle.lane_workers.specs.Turns.{views}
@@ -75,3 +76,38 @@ returns-clause-live c =
       passes = n.count.0 ∙ ap length quotas
           ∙ length-map shared.plan.now.lanes (note_quota shared.plan.now (views shared.contexts));
     }
+
+pub new-requires-clause-lanes : goal.new-requires-clause-lanes
+new-requires-clause-lanes c =
+    let plan = c.args.plan.now in
+    let placed = length-map plan.lanes (map (at_position plan)) in
+    omega (arith, ap length c.requires.placed, placed, c.requires.some)
+
+pub new-requires-2-clause-count : goal.new-requires-2-clause-count
+new-requires-2-clause-count c =
+    let plan = c.args.plan.now in
+    let size : length c.deref-2.result.now ≡ length plan.lanes =
+    ap length (c.deref-2.ensures.value ∙ c.in_ok-quotas.ensures)
+    ∙ length-map plan.lanes (note_quota plan c.args.contexts.now) in
+    (omega (arith, c.requires.some), omega (arith, c.requires.within.lanes))
+
+pub new-requires-2-clause-seat : goal.new-requires-2-clause-seat
+new-requires-2-clause-seat c =
+    let seat = c.in_ok-shared.ensures.seat in (
+      ap (λ (s : SeatView). s.drawn) seat,
+      ap (λ (s : SeatView). s.left) seat ∙ c.total-total.ensures
+          ∙ ap sum (c.deref.ensures.value ∙ sym c.deref-2.ensures.value),
+    )
+
+pub returns-clause-given : goal.returns-clause-given
+returns-clause-given c =
+    let r = c.in_ok-shared.ensures in
+    let n = c.in_ok-names.ensures in
+    let size = ap length (c.deref-2.ensures.value ∙ c.in_ok-quotas.ensures)
+    ∙ length-map c.args.plan.now.lanes (note_quota c.args.plan.now c.args.contexts.now)
+    ∙ ap (λ (p : Plan). length p.lanes) (sym r.plan) in
+    let left : length c.deref-2.result.now ≡ length c.in_ok-shared.shared.plan.now.lanes - 0 =
+    omega (arith, size) in
+    let passes = n.passes ∙ ap (fresh_from c.in_ok-names.names.lock 0) left in
+    let made = n.count.1 ∙ size in
+    record { shared = r.given; names = (λ i. record { passes = passes i; made = made i }) }

@@ -1,10 +1,8 @@
-use Rattle.std.proofs.Common.{◌≡◌, ℕ, ◌+◌, ◌-◌, ◌<◌, List, Option, Some, None, length, sym, ap, ◌∙◌, subst, arith}
-use Rattle.turn_lock.specs.Passes.{PassView, PassListView, fresh_pass, fresh_from}
+use Rattle.std.proofs.Common.{◌≡◌, ◌+◌, ◌-◌, Some, None, length, sym, ap, ◌∙◌, subst}
+use Rattle.turn_lock.specs.Passes.{PassView, fresh_pass, fresh_from}
 use Rattle.lane_workers.specs.LiveReturned.{IsPrepared}
 use Rattle.shared_runs.specs.declared.tables.Table.{Table}
-use Rattle.shared_runs.specs.Tables.{HasGiven}
 use Rattle.shared_runs.proofs.Handed.{room_is_small}
-use Rattle.live_runs.specs.Contexts.{IsReadyLive}
 use Rattle.live_runs.proofs.Handed.{name_pass, below, placed_room, is_ready}
 use Rattle.live_runs.proofs.contexts.LiveContexts.prepare.Goals as goal
 

@@ -1,14 +1,13 @@
-use Rattle.std.proofs.Common.{◌≡◌, ◌+◌, ◌<◌, ◌++◌, ◌∷◌, [], ℕ, List, length, map, inl, inr, sym, ap, ◌∙◌, subst, arith, append_assoc, length-append}
+use Rattle.std.proofs.Common.{◌≡◌, ◌+◌, ◌++◌, ◌∷◌, [], ℕ, length, map, inl, inr, sym, ap, ◌∙◌, subst, arith, append_assoc, length-append, rules}
 use Rattle.std.specs.Prelude.{slice_get}
 use Rattle.std.proofs.lemmas.List.{length-map}
-use Rattle.batch_plans.specs.declared.replies.LaneAnswers.{LaneAnswers}
 use Rattle.batch_plans.specs.Names.{at_position, all_live}
 use Rattle.batch_plans.specs.Room.{lane_room}
 use Rattle.due_replies.specs.Standing.{export_limits}
 use Rattle.lane_replies.specs.LaneCalls.{lane_calls}
 use Rattle.lane_workers.specs.declared.live_lane.LiveLane.{LiveLane}
 use Rattle.lane_workers.specs.Turns.{views}
-use Rattle.shared_runs.proofs.Ends.{pushed_at, below_count, made_of}
+use Rattle.shared_runs.proofs.Ends.{pushed_at, below_count, made_of, all_made}
 use Rattle.live_runs.specs.declared.contexts.LiveContexts.{LiveContexts}
 use Rattle.live_runs.specs.Contexts.{HasGivenLive, IsReadyLive}
 use Rattle.live_runs.proofs.Handed.{ready_same}
@@ -101,3 +100,33 @@ lanes-preserved g c =
                 c.in_ok-prepare.ensures.ready))
           ];
     }
+
+pub returns-clause-ready : goal.returns-clause-ready
+returns-clause-ready g c =
+    let i = c.lanes.invariant in
+    let t = c.args.self.now in
+    let plan = t.shared.plan.now in
+    let none : length c.lanes.answers-iterator.rest.items ≡ 0 = search rules in
+    record {
+      count = i.count
+          ∙ all_made (lane_room (all_live plan) (export_limits (views t.shared.contexts)))
+          (all_live plan).lanes c.args.answers.items c.lanes.yielded
+          c.lanes.answers-iterator.rest.items i.front c.requires.room none
+          ∙ length-map plan.lanes (map (at_position plan));
+      each = i.ready;
+    }
+
+pub returns-clause-same : goal.returns-clause-same
+returns-clause-same g c = c.lanes.invariant.same
+
+pub returns-clause-given : goal.returns-clause-given
+returns-clause-given g c =
+    let i = c.lanes.invariant in
+    let t = c.args.self.now in
+    let plan = t.shared.plan.now in
+    let none : length c.lanes.answers-iterator.rest.items ≡ 0 = search rules in
+    subst (λ k. HasGivenLive k c.lanes.self)
+    (all_made (lane_room (all_live plan) (export_limits (views t.shared.contexts)))
+    (all_live plan).lanes c.args.answers.items c.lanes.yielded
+    c.lanes.answers-iterator.rest.items i.front c.requires.room none
+    ∙ length-map plan.lanes (map (at_position plan))) i.given

@@ -1,4 +1,4 @@
-use Rattle.std.proofs.Common.{◌≡◌, Some, refl}
+use Rattle.std.proofs.Common.{refl}
 use Rattle.live_runs.proofs.Shared.{are_shared_live, all_fresh_live, are_done_live}
 use Rattle.live_runs.proofs.contexts.LiveContexts.serve.Goals as goal
 

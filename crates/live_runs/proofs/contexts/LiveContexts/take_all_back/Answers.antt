@@ -1,5 +1,4 @@
-use Rattle.std.proofs.Common.{◌≡◌, ◌+◌, ◌<◌, ◌++◌, ◌∷◌, [], ℕ, List, length, sym, refl, ap, ◌∙◌, subst, arith, append_assoc, length-append, rules}
-use Rattle.lane_workers.specs.declared.live_lane.LiveLane.{LiveLane}
+use Rattle.std.proofs.Common.{◌≡◌, ◌+◌, ◌++◌, ◌∷◌, [], length, sym, refl, ap, ◌∙◌, subst, arith, append_assoc, length-append, rules}
 use Rattle.lane_workers.specs.LiveLanes.{AreSharedLive}
 use Rattle.lane_workers.specs.LiveReturned.{IsDoneLive}
 use Rattle.live_runs.specs.declared.contexts.LiveContexts.{LiveContexts}

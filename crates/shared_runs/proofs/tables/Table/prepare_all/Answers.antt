@@ -1,10 +1,10 @@
-use Rattle.std.proofs.Common.{◌≡◌, ◌+◌, ◌++◌, ◌∷◌, [], length, inl, inr, sym, ap, ◌∙◌, subst, arith, append_assoc, length-append}
+use Rattle.std.proofs.Common.{◌≡◌, ◌+◌, ◌++◌, ◌∷◌, [], length, inl, inr, sym, ap, ◌∙◌, subst, arith, append_assoc, length-append, rules}
 use Rattle.batch_plans.specs.Room.{lane_room}
 use Rattle.due_replies.specs.Standing.{export_limits}
 use Rattle.lane_workers.specs.Turns.{views}
 use Rattle.shared_runs.specs.declared.tables.Table.{Table}
 use Rattle.shared_runs.specs.Tables.{HasGiven, IsReady}
-use Rattle.shared_runs.proofs.Ends.{pushed_at, below_count, made_of}
+use Rattle.shared_runs.proofs.Ends.{pushed_at, below_count, made_of, all_made}
 use Rattle.shared_runs.proofs.Handed.{ready_same}
 use Rattle.shared_runs.proofs.tables.Table.prepare_all.Goals as goal
 
@@ -77,3 +77,28 @@ lanes-preserved g c =
                 c.in_ok-prepare.ensures.ready))
           ];
     }
+
+pub returns-clause-ready : goal.returns-clause-ready
+returns-clause-ready g c =
+    let i = c.lanes.invariant in
+    let table = c.args.self.now in
+    let none : length c.lanes.answers-iterator.rest.items ≡ 0 = search rules in
+    record {
+      count = i.count ∙ all_made (lane_room table.plan.now (export_limits (views table.contexts)))
+          table.plan.now.lanes c.args.answers.items c.lanes.yielded
+          c.lanes.answers-iterator.rest.items i.front c.requires.room none;
+      each = i.ready;
+    }
+
+pub returns-clause-same : goal.returns-clause-same
+returns-clause-same g c = c.lanes.invariant.same
+
+pub returns-clause-given : goal.returns-clause-given
+returns-clause-given g c =
+    let i = c.lanes.invariant in
+    let table = c.args.self.now in
+    let none : length c.lanes.answers-iterator.rest.items ≡ 0 = search rules in
+    subst (λ k. HasGiven k c.lanes.self)
+    (all_made (lane_room table.plan.now (export_limits (views table.contexts)))
+    table.plan.now.lanes c.args.answers.items c.lanes.yielded
+    c.lanes.answers-iterator.rest.items i.front c.requires.room none) i.given

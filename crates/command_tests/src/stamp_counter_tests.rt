@@ -1,0 +1,79 @@
+//! The counter by itself, and shared by eight threads.
+
+ghost use Rattle.std.specs.Prelude.{◌≡◌, ◌+◌, ◌*◌, length, vec_len, All, IfOk, IfSome};
+ghost use Rattle.command_tests.specs.Seats.{Holds, MayDraw};
+
+use stamp_counter::{
+    SeatList, StampCounter, StampSeat, each_step_keeps_the_rule, the_rule_tells_stamps_apart,
+};
+use std::alloc::{AllocError as OutOfMemory, Global};
+use std::test::Fail;
+use std::thread::{Threads, for_each_mut};
+
+#[test]
+fn stamps_are_drawn_once_each(rt: HostRuntime) -> Result<(), Fail> {
+    let (counter, mut seats) = StampCounter::new(rt.alloc(), &[2, 1])?;
+    let mut first = seats.take().ok_or("the first seat")?;
+    let mut second = seats.take().ok_or("the second seat")?;
+    assert!(rt; seats.take().is_none());
+    assert_eq!(rt; counter.draw(&mut first, 1), 0);
+    assert_eq!(rt; counter.draw(&mut second, 1), 1);
+    assert_eq!(rt; counter.draw(&mut first, 1), 2);
+    counter.join(&mut first, second);
+    assert_eq!(rt; counter.close(first), 3);
+    the_rule_tells_stamps_apart();
+    each_step_keeps_the_rule();
+    Ok(())
+}
+
+// Draws 250 stamps, one after another.
+fn draw_each(counter: &StampCounter, seat: &mut StampSeat)
+    requires { MayDraw counter.now.id seat.old }
+    ensures { Holds counter.now.id seat.new }
+{
+    for _ in 0..250u32 {
+        counter.draw(seat, 1);
+    }
+}
+
+// Eight threads draw from one counter.
+fn draw_all<R: Threads + Sync>(rt: &R, counter: &StampCounter, seats: &mut [StampSeat])
+    requires { All (MayDraw counter.now.id) seats.old }
+    ensures { All (Holds counter.now.id) seats.new × (length seats.new ≡ length seats.old) }
+{
+    for_each_mut(rt, seats, 8, &|_, seat| draw_each(counter, seat));
+}
+
+// The seats of a new counter.
+fn hand_out(alloc: Global, mut list: SeatList) -> Result<Vec<StampSeat>, OutOfMemory>
+    ensures { IfOk result (λ v. v.items ≡ list) }
+{
+    let mut seats = Vec::new(alloc);
+    while let Some(seat) = list.take() {
+        seats.push(seat)?;
+    }
+    Ok(seats)
+}
+
+// All that these seats drew and have left, with one.
+fn join_all(counter: &StampCounter, mut seats: Vec<StampSeat>) -> Option<StampSeat>
+    requires { All (Holds counter.now.id) seats.items }
+    ensures { IfSome result (λ s. (s.counter ≡ counter.now.id)
+        × (length s.drawn + s.left ≡ 250 * vec_len seats)) }
+{
+    let mut all = seats.pop()?;
+    while let Some(seat) = seats.pop() {
+        counter.join(&mut all, seat);
+    }
+    Some(all)
+}
+
+#[test]
+fn eight_threads_draw_each_stamp_once(rt: HostRuntime) -> Result<(), Fail> {
+    let (counter, list) = StampCounter::new(rt.alloc(), &[250; 8])?;
+    let mut seats = hand_out(rt.alloc(), list)?;
+    draw_all(&rt, &counter, seats.as_mut_slice());
+    let seat = join_all(&counter, seats).ok_or("a seat")?;
+    assert_eq!(rt; counter.close(seat), 2000);
+    Ok(())
+}

@@ -1,0 +1,79 @@
+//! Published vectors: products and hashes.
+
+use ghash_core::{Ghash, GhashKey, field_mul};
+use hex::{FromHex, decode};
+use std::test::Fail;
+
+struct HashCase {
+    source: &'static str,
+    h: &'static str,
+    aad: &'static str,
+    ciphertext: &'static str,
+    hash: &'static str,
+}
+
+// McGrew and Viega, The Galois/Counter Mode of Operation (GCM), appendix B: H, A, C and GHASH(H, A, C).
+const HASHES: [HashCase; 4] = [
+    HashCase {
+        source: "GCM specification, test case 1",
+        h: "66e94bd4ef8a2c3b884cfa59ca342b2e",
+        aad: "",
+        ciphertext: "",
+        hash: "00000000000000000000000000000000",
+    },
+    HashCase {
+        source: "GCM specification, test case 2",
+        h: "66e94bd4ef8a2c3b884cfa59ca342b2e",
+        aad: "",
+        ciphertext: "0388dace60b6a392f328c2b971b2fe78",
+        hash: "f38cbb1ad69223dcc3457ae5b6b0f885",
+    },
+    HashCase {
+        source: "GCM specification, test case 4",
+        h: "b83b533708bf535d0aa6e52980d53b78",
+        aad: "feedfacedeadbeeffeedfacedeadbeefabaddad2",
+        ciphertext: "42831ec2217774244b7221b784d0d49ce3aa212f2c02a4e035c17e2329aca12e21d514b25466931c7d8f6a5aac84aa051ba30b396a0aac973d58e091",
+        hash: "698e57f70e6ecc7fd9463b7260a9ae5f",
+    },
+    HashCase {
+        source: "GCM specification, test case 16",
+        h: "acbef20579b4b8ebce889bac8732dad7",
+        aad: "feedfacedeadbeeffeedfacedeadbeefabaddad2",
+        ciphertext: "522dc1f099567d07f47f37a32a84427d643a8cdcbfe5c0c97598a2bd2555d1aa8cb08e48590dbb3da7b08b1056828838c5f61e6393ba7a0abcc9f662",
+        hash: "8bd0c4d8aacd391e67cca447e8c38f65",
+    },
+];
+
+#[test]
+fn hashes_are_those_published(rt: HostRuntime) -> Result<(), Fail> {
+    for case in &HASHES {
+        let source = case.source;
+        let h = <[u8; 16]>::from_hex(case.h)?;
+        let aad = decode(rt.alloc(), case.aad)?;
+        let ciphertext = decode(rt.alloc(), case.ciphertext)?;
+        assert!(rt;
+            aad.len() < 64 && ciphertext.len() < 64,
+            "{source}: lengths"
+        );
+        let key = GhashKey::new(&h);
+        let mut hash = Ghash::start(&key);
+        hash.update_padded(&aad);
+        hash.update_padded(&ciphertext);
+        let hash = hash.finish(aad.len() as u64, ciphertext.len() as u64);
+        assert_eq!(rt; hash, <[u8; 16]>::from_hex(case.hash)?, "{source}");
+    }
+    Ok(())
+}
+
+// The GCM specification, test case 2: X1 is the product of the ciphertext's block and H. Entry 8 is
+// the product of H with the unit.
+#[test]
+fn products_are_those_published(rt: HostRuntime) -> Result<(), Fail> {
+    let h = 0x66e94bd4ef8a2c3b884cfa59ca342b2e;
+    let product = field_mul(0x0388dace60b6a392f328c2b971b2fe78, h);
+    assert_eq!(rt; product, 0x5e2ec746917062882c85b0685353deb7);
+    let key = GhashKey::new(&<[u8; 16]>::from_hex("66e94bd4ef8a2c3b884cfa59ca342b2e")?);
+    assert_eq!(rt; key.products()[8], h);
+    assert_eq!(rt; key.products()[0], 0);
+    Ok(())
+}

@@ -1,0 +1,238 @@
+//! Published vectors: HMAC, HKDF and the labelled forms.
+
+use crate::expected::assert_bytes;
+use hex::{FromHex, decode};
+use hkdf_labelled::{
+    Aead, Expander, Kdf, Mac, Prk, Suite, expand_into, extract, hmac, labeled_expand_into,
+    labeled_extract, suite_id,
+};
+use std::alloc::Global;
+use std::process::Abort;
+use std::test::Fail;
+
+struct HmacCase {
+    source: &'static str,
+    key: &'static str,
+    data: &'static str,
+    sha256: &'static str,
+    sha384: &'static str,
+    sha512: &'static str,
+}
+
+// RFC 4231, test cases 1 to 4, 6 and 7 (case 5 is of a truncated output), in the RFC's order.
+const HMACS: [HmacCase; 6] = [
+    HmacCase {
+        source: "RFC 4231, 4.2",
+        key: "0b0b0b0b0b0b0b0b0b0b0b0b0b0b0b0b0b0b0b0b",
+        data: "4869205468657265",
+        sha256: "b0344c61d8db38535ca8afceaf0bf12b881dc200c9833da726e9376c2e32cff7",
+        sha384: "afd03944d84895626b0825f4ab46907f15f9dadbe4101ec682aa034c7cebc59cfaea9ea9076ede7f4af152e8b2fa9cb6",
+        sha512: "87aa7cdea5ef619d4ff0b4241a1d6cb02379f4e2ce4ec2787ad0b30545e17cdedaa833b7d6b8a702038b274eaea3f4e4be9d914eeb61f1702e696c203a126854",
+    },
+    HmacCase {
+        source: "RFC 4231, 4.3",
+        key: "4a656665",
+        data: "7768617420646f2079612077616e7420666f72206e6f7468696e673f",
+        sha256: "5bdcc146bf60754e6a042426089575c75a003f089d2739839dec58b964ec3843",
+        sha384: "af45d2e376484031617f78d2b58a6b1b9c7ef464f5a01b47e42ec3736322445e8e2240ca5e69e2c78b3239ecfab21649",
+        sha512: "164b7a7bfcf819e2e395fbe73b56e0a387bd64222e831fd610270cd7ea2505549758bf75c05a994a6d034f65f8f0e6fdcaeab1a34d4a6b4b636e070a38bce737",
+    },
+    HmacCase {
+        source: "RFC 4231, 4.4",
+        key: "aaaaaaaaaaaaaaaaaaaaaaaaaaaaaaaaaaaaaaaa",
+        data: "dddddddddddddddddddddddddddddddddddddddddddddddddddddddddddddddddddddddddddddddddddddddddddddddddddd",
+        sha256: "773ea91e36800e46854db8ebd09181a72959098b3ef8c122d9635514ced565fe",
+        sha384: "88062608d3e6ad8a0aa2ace014c8a86f0aa635d947ac9febe83ef4e55966144b2a5ab39dc13814b94e3ab6e101a34f27",
+        sha512: "fa73b0089d56a284efb0f0756c890be9b1b5dbdd8ee81a3655f83e33b2279d39bf3e848279a722c806b485a47e67c807b946a337bee8942674278859e13292fb",
+    },
+    HmacCase {
+        source: "RFC 4231, 4.5",
+        key: "0102030405060708090a0b0c0d0e0f10111213141516171819",
+        data: "cdcdcdcdcdcdcdcdcdcdcdcdcdcdcdcdcdcdcdcdcdcdcdcdcdcdcdcdcdcdcdcdcdcdcdcdcdcdcdcdcdcdcdcdcdcdcdcdcdcd",
+        sha256: "82558a389a443c0ea4cc819899f2083a85f0faa3e578f8077a2e3ff46729665b",
+        sha384: "3e8a69b7783c25851933ab6290af6ca77a9981480850009cc5577c6e1f573b4e6801dd23c4a7d679ccf8a386c674cffb",
+        sha512: "b0ba465637458c6990e5a8c5f61d4af7e576d97ff94b872de76f8050361ee3dba91ca5c11aa25eb4d679275cc5788063a5f19741120c4f2de2adebeb10a298dd",
+    },
+    HmacCase {
+        source: "RFC 4231, 4.7",
+        key: "aaaaaaaaaaaaaaaaaaaaaaaaaaaaaaaaaaaaaaaaaaaaaaaaaaaaaaaaaaaaaaaaaaaaaaaaaaaaaaaaaaaaaaaaaaaaaaaaaaaaaaaaaaaaaaaaaaaaaaaaaaaaaaaaaaaaaaaaaaaaaaaaaaaaaaaaaaaaaaaaaaaaaaaaaaaaaaaaaaaaaaaaaaaaaaaaaaaaaaaaaaaaaaaaaaaaaaaaaaaaaaaaaaaaaaaaaaaaaaaaaaaaaaaaaaaaaaaaaaaaaa",
+        data: "54657374205573696e67204c6172676572205468616e20426c6f636b2d53697a65204b6579202d2048617368204b6579204669727374",
+        sha256: "60e431591ee0b67f0d8a26aacbf5b77f8e0bc6213728c5140546040f0ee37f54",
+        sha384: "4ece084485813e9088d2c63a041bc5b44f9ef1012a2b588f3cd11f05033ac4c60c2ef6ab4030fe8296248df163f44952",
+        sha512: "80b24263c7c1a3ebb71493c1dd7be8b49b46d1f41b4aeec1121b013783f8f3526b56d037e05f2598bd0fd2215d6a1e5295e64f73f63f0aec8b915a985d786598",
+    },
+    HmacCase {
+        source: "RFC 4231, 4.8",
+        key: "aaaaaaaaaaaaaaaaaaaaaaaaaaaaaaaaaaaaaaaaaaaaaaaaaaaaaaaaaaaaaaaaaaaaaaaaaaaaaaaaaaaaaaaaaaaaaaaaaaaaaaaaaaaaaaaaaaaaaaaaaaaaaaaaaaaaaaaaaaaaaaaaaaaaaaaaaaaaaaaaaaaaaaaaaaaaaaaaaaaaaaaaaaaaaaaaaaaaaaaaaaaaaaaaaaaaaaaaaaaaaaaaaaaaaaaaaaaaaaaaaaaaaaaaaaaaaaaaaaaaaa",
+        data: "5468697320697320612074657374207573696e672061206c6172676572207468616e20626c6f636b2d73697a65206b657920616e642061206c6172676572207468616e20626c6f636b2d73697a6520646174612e20546865206b6579206e6565647320746f20626520686173686564206265666f7265206265696e6720757365642062792074686520484d414320616c676f726974686d2e",
+        sha256: "9b09ffa71b942fcb27635fbcd5b0e944bfdc63644f0713938a7f51535c3a35e2",
+        sha384: "6617178e941f020d351e2f254e8fd32c602420feb0b8fb9adccebb82461e99c5a678cc31e799176d3860e6110c46523e",
+        sha512: "e37b6a775dc87dbaa4dfa9f96e5e3ffddebd71f8867289865df5a32d20cdc944b6022cac3c4982b10d5eeb55c3e4de15134676fb6de0446065c97440fa8c6a58",
+    },
+];
+
+fn assert_hmac(
+    rt: &impl Abort,
+    alloc: Global,
+    kdf: Kdf,
+    want: &str,
+    case: &HmacCase,
+) -> Result<(), Fail> {
+    let key = decode(alloc, case.key)?;
+    let data = decode(alloc, case.data)?;
+    let whole = hmac(kdf, &key, &data);
+    assert_bytes(rt, alloc, whole.as_slice(), want, case.source, "HMAC")?;
+    let (front, rest) = data.split_at(data.len() / 2);
+    let mut mac = Mac::new(kdf, &key);
+    mac.update(front);
+    mac.update(rest);
+    let parts = mac.finish();
+    assert_bytes(
+        rt,
+        alloc,
+        parts.as_slice(),
+        want,
+        case.source,
+        "in two pieces",
+    )
+}
+
+#[test]
+fn hmacs_are_those_published(rt: HostRuntime) -> Result<(), Fail> {
+    for case in &HMACS {
+        assert_hmac(&rt, rt.alloc(), Kdf::Sha256, case.sha256, case)?;
+        assert_hmac(&rt, rt.alloc(), Kdf::Sha384, case.sha384, case)?;
+        assert_hmac(&rt, rt.alloc(), Kdf::Sha512, case.sha512, case)?;
+    }
+    Ok(())
+}
+
+struct HkdfCase {
+    source: &'static str,
+    ikm: &'static str,
+    salt: &'static str,
+    info: &'static str,
+    prk: &'static str,
+    okm: &'static str,
+}
+
+// RFC 5869, appendix A: the cases of HKDF-SHA256.
+const HKDFS: [HkdfCase; 3] = [
+    HkdfCase {
+        source: "RFC 5869, A.1",
+        ikm: "0b0b0b0b0b0b0b0b0b0b0b0b0b0b0b0b0b0b0b0b0b0b",
+        salt: "000102030405060708090a0b0c",
+        info: "f0f1f2f3f4f5f6f7f8f9",
+        prk: "077709362c2e32df0ddc3f0dc47bba6390b6c73bb50f9c3122ec844ad7c2b3e5",
+        okm: "3cb25f25faacd57a90434f64d0362f2a2d2d0a90cf1a5a4c5db02d56ecc4c5bf34007208d5b887185865",
+    },
+    HkdfCase {
+        source: "RFC 5869, A.2",
+        ikm: "000102030405060708090a0b0c0d0e0f101112131415161718191a1b1c1d1e1f202122232425262728292a2b2c2d2e2f303132333435363738393a3b3c3d3e3f404142434445464748494a4b4c4d4e4f",
+        salt: "606162636465666768696a6b6c6d6e6f707172737475767778797a7b7c7d7e7f808182838485868788898a8b8c8d8e8f909192939495969798999a9b9c9d9e9fa0a1a2a3a4a5a6a7a8a9aaabacadaeaf",
+        info: "b0b1b2b3b4b5b6b7b8b9babbbcbdbebfc0c1c2c3c4c5c6c7c8c9cacbcccdcecfd0d1d2d3d4d5d6d7d8d9dadbdcdddedfe0e1e2e3e4e5e6e7e8e9eaebecedeeeff0f1f2f3f4f5f6f7f8f9fafbfcfdfeff",
+        prk: "06a6b88c5853361a06104c9ceb35b45cef760014904671014a193f40c15fc244",
+        okm: "b11e398dc80327a1c8e7f78c596a49344f012eda2d4efad8a050cc4c19afa97c59045a99cac7827271cb41c65e590e09da3275600c2f09b8367793a9aca3db71cc30c58179ec3e87c14c01d5c1f3434f1d87",
+    },
+    HkdfCase {
+        source: "RFC 5869, A.3",
+        ikm: "0b0b0b0b0b0b0b0b0b0b0b0b0b0b0b0b0b0b0b0b0b0b",
+        salt: "",
+        info: "",
+        prk: "19ef24a32c717b167f33a91d6f648bdf96596776afdb6377ac434c1c293ccb04",
+        okm: "8da4e775a563c18f715f802a063c5a31b8a11f5c5ee1879ec3454e5f3c738d2d9d201395faa4b61a96c8",
+    },
+];
+
+fn extracted(alloc: Global, case: &HkdfCase) -> Result<Prk, Fail> {
+    let ikm = decode(alloc, case.ikm)?;
+    let salt = decode(alloc, case.salt)?;
+    Ok(extract(Kdf::Sha256, &salt, &ikm))
+}
+
+fn assert_output(rt: &impl Abort, alloc: Global, prk: Prk, case: &HkdfCase) -> Result<(), Fail> {
+    let info = decode(alloc, case.info)?;
+    let length = case.okm.len() / 2;
+    assert!(rt; length <= 82, "{}, L", case.source);
+    let mut okm = [0; 82];
+    expand_into(Kdf::Sha256, prk.as_slice(), &info, &mut okm[..length]);
+    assert_bytes(rt, alloc, &okm[..length], case.okm, case.source, "OKM")?;
+    let expander = Expander::new(Kdf::Sha256, prk);
+    for time in ["first OKM", "second OKM"] {
+        let mut okm = [0; 82];
+        expander.expand_into(&info, &mut okm[..length]);
+        assert_bytes(rt, alloc, &okm[..length], case.okm, case.source, time)?;
+    }
+    Ok(())
+}
+
+#[test]
+fn output_keying_material_is_that_published(rt: HostRuntime) -> Result<(), Fail> {
+    for case in &HKDFS {
+        let prk = extracted(rt.alloc(), case)?;
+        assert_bytes(
+            &rt,
+            rt.alloc(),
+            prk.as_slice(),
+            case.prk,
+            case.source,
+            "PRK",
+        )?;
+        assert_output(&rt, rt.alloc(), prk, case)?;
+    }
+    Ok(())
+}
+
+// RFC 9180, A.1.1.
+const SOURCE: &str = "RFC 9180, A.1.1";
+
+const SUITE: Suite = Suite {
+    kem: 0x0020,
+    kdf: Kdf::Sha256,
+    aead: Aead::Aes128,
+};
+
+const SHARED_SECRET: &str = "fe0e18c9f024ce43799ae393c7e8fe8fce9d218875e8227b0187c04e7d2ea1fc";
+
+const KEY_SCHEDULE_CONTEXT: &str =
+    "00725611c9d98c07c03f60095cd32d400d8347d45ed67097bbad50fc56da742d07cb6cffde367bb0565ba28bb02c90744a20f5ef37f30523526106f637abb05449";
+
+const SECRET: &str = "12fff91991e93b48de37e7daddb52981084bd8aa64289c3788471d9a9712f397";
+
+const EXPANDED_KEY: &str = "4531685d41d65f03dc48f6b8302c05b0";
+
+const BASE_NONCE: &str = "56d890e5accaaf011cff4b7d";
+
+// key and base_nonce from secret and key_schedule_context.
+fn assert_key_and_nonce(rt: &impl Abort, alloc: Global, secret: Prk) -> Result<(), Fail> {
+    let context = <[u8; 65]>::from_hex(KEY_SCHEDULE_CONTEXT)?;
+    let mut key = [0; 16];
+    labeled_expand_into(&SUITE, secret.as_slice(), b"key", &context, &mut key);
+    assert_bytes(rt, alloc, &key, EXPANDED_KEY, SOURCE, "key")?;
+    let expander = Expander::new(SUITE.kdf, secret);
+    let mut base_nonce = [0; 12];
+    expander.labeled_expand_into(&SUITE, b"base_nonce", &context, &mut base_nonce);
+    assert_bytes(rt, alloc, &base_nonce, BASE_NONCE, SOURCE, "base_nonce")?;
+    let mut again = [0; 16];
+    expander.labeled_expand_into(&SUITE, b"key", &context, &mut again);
+    assert_bytes(rt, alloc, &again, EXPANDED_KEY, SOURCE, "key again")
+}
+
+// secret from shared_secret, and key and base_nonce from secret and key_schedule_context.
+#[test]
+fn labels_are_those_of_hpke(rt: HostRuntime) -> Result<(), Fail> {
+    let id = suite_id(&SUITE);
+    assert_bytes(
+        &rt,
+        rt.alloc(),
+        &id,
+        "48504b45002000010001",
+        SOURCE,
+        "suite_id",
+    )?;
+    assert_eq!(rt; SUITE.kdf.size(), 32);
+    let shared_secret = <[u8; 32]>::from_hex(SHARED_SECRET)?;
+    let secret = labeled_extract(&SUITE, &shared_secret, b"secret", &[]);
+    assert_bytes(&rt, rt.alloc(), secret.as_slice(), SECRET, SOURCE, "secret")?;
+    assert_key_and_nonce(&rt, rt.alloc(), secret)
+}

@@ -1,0 +1,26 @@
+use decimal_text::{decimal_from_to, is_decimal, value_of};
+use std::test::Fail;
+
+// A number from 1 to 65,535 where the text writes one. All are own, by hand from the form.
+const NUMBERS: [(&'static [u8], Option<u64>); 9] = [
+    (b"1", Some(1)),
+    (b"65535", Some(65_535)),
+    (b"0", None),
+    (b"65536", None),
+    (b"18446744073709551617", None),
+    (b"", None),
+    (b"01", None),
+    (b"1a", None),
+    (b"+1", None),
+];
+
+#[test]
+fn a_decimal_writes_its_number(rt: HostRuntime) -> Result<(), Fail> {
+    for (text, want) in &NUMBERS {
+        assert_eq!(rt; decimal_from_to(text, 1, 65_535), *want);
+    }
+    let greatest: &[u8] = b"18446744073709551615";
+    assert!(rt; is_decimal(greatest));
+    assert_eq!(rt; value_of(greatest), Some(u64::MAX));
+    Ok(())
+}
