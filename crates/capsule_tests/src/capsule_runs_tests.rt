@@ -2,6 +2,7 @@
 
 ghost use Rattle.std.specs.Prelude.{◌≤◌, length, vec_len, IfOk};
 
+use crate::expected::assert_same;
 use batch_io::MemorySink;
 use capsule_frames::{print_capsules, read_capsules};
 use capsule_runs::serve_capsules;
@@ -111,7 +112,7 @@ fn hash_of_reply<R: Threads + Abort + Sync>(rt: &R, alloc: Global, text: &[u8]) 
     let room = vec![in alloc; 0u8; 12_000_000].expect(rt, "memory");
     let mut sink = MemorySink::new(room, 65_536, Vec::new(alloc));
     let printed = print_capsules(&answers.keys, answers.replies.as_slice(), &mut sink);
-    assert_eq!(rt; printed, Printed::Whole);
+    assert_same(rt, printed, Printed::Whole, "printed");
     Sha256::digest(sink.bytes())
 }
 
@@ -124,7 +125,7 @@ fn replies_are_those_of_another_program(rt: HostRuntime) -> Result<(), Fail> {
         text.extend_from_slice(case.lines)?;
         text.extend_from_slice(b"end\n")?;
         let got = hash_of_reply(&rt, rt.alloc(), &text);
-        assert_eq!(rt; got, <[u8; 32]>::from_hex(case.sha256)?, "{what}");
+        assert_same(&rt, got, <[u8; 32]>::from_hex(case.sha256)?, what);
     }
     Ok(())
 }
@@ -181,9 +182,11 @@ fn large_batch(alloc: Global) -> Result<Vec<u8>, Fail> {
 fn a_large_batch(rt: HostRuntime) -> Result<(), Fail> {
     let text = large_batch(rt.alloc())?;
     let got = hash_of_reply(&rt, rt.alloc(), &text);
-    assert_eq!(rt;
+    assert_same(
+        &rt,
         got,
-        <[u8; 32]>::from_hex("7e0f38ef629822b925dfd66c09226ce5be1bc3a1e9e3206bd59c27fecffa6c95")?
+        <[u8; 32]>::from_hex("7e0f38ef629822b925dfd66c09226ce5be1bc3a1e9e3206bd59c27fecffa6c95")?,
+        "got",
     );
     Ok(())
 }

@@ -7,4 +7,6 @@
 #[cfg(test)]
 mod capsule_runs_tests;
 #[cfg(test)]
+mod expected;
+#[cfg(test)]
 mod ohttp_capsule_tests;

@@ -5,6 +5,7 @@ mod exchanges;
 mod refusals;
 
 use self::calls::taken;
+use crate::expected::assert_same;
 use aes_gcm::Checks;
 use hex::FromHex;
 use hkdf_labelled::{Aead, Kdf, Suite};
@@ -35,19 +36,29 @@ fn the_exchange_of_the_rfc_is_read(rt: HostRuntime) -> Result<(), Fail> {
         kdf: Kdf::Sha256,
         aead: Aead::Aes128,
     };
-    assert_eq!(rt; &header(1, &suite)[..], &request[..7]);
-    assert_eq!(rt; suite_named(1, 0x0020, &request[..7]), Some(suite));
+    assert_same(&rt, &header(1, &suite)[..], &request[..7], "header");
+    assert_same(
+        &rt,
+        suite_named(1, 0x0020, &request[..7]),
+        Some(suite),
+        "suite",
+    );
     let gateway = context_of(alloc, Role::Recipient, 1, suite, &shared_secret)?;
     let mut checks = Checks::new(&rt);
     let opened = opened_first(alloc, gateway.as_context(), &request[39..], &mut checks);
     let question = <[u8; 25]>::from_hex("00034745540568747470730b6578616d706c652e636f6d012f")?;
-    assert_eq!(rt; opened.expect(&rt, "a request").as_slice(), &question[..]);
+    assert_same(
+        &rt,
+        opened.expect(&rt, "a request").as_slice(),
+        &question[..],
+        "question",
+    );
     let asked = Asked {
         context: context_of(alloc, Role::Sender, 1, suite, &shared_secret)?,
         enc: ByteList::from_vec(Vec::from_slice(alloc, &request[7..39])?),
     };
     let reply = taken(&rt, alloc, &asked, &response).expect(&rt, "a response");
-    assert_eq!(rt; reply.as_slice(), &[0x01, 0x40, 0xc8][..]);
+    assert_same(&rt, reply.as_slice(), &[0x01, 0x40, 0xc8][..], "reply");
     Ok(())
 }
 
@@ -61,9 +72,9 @@ fn a_fault_is_told_by_its_number_and_in_words(rt: HostRuntime) -> Result<(), Fai
         (CapsuleFault::OutOfMemory, 5, "out of memory"),
     ];
     for (fault, number, text) in faults {
-        assert_eq!(rt; u8::from(fault), number);
+        assert_same(&rt, u8::from(fault), number, "its number");
         let printed = format!(in rt.alloc(); "{fault}")?;
-        assert_eq!(rt; printed.as_str(), text);
+        assert_same(&rt, printed.as_str(), text, "printed");
     }
     Ok(())
 }

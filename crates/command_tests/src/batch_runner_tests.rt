@@ -6,13 +6,14 @@ mod other_runs;
 mod runs;
 mod threads;
 
-use crate::batch_runner_tests::other_runs::{BAD, EXCHANGES, OTHERS};
-use crate::batch_runner_tests::runs::{RUNS, SCHEDULED};
+use crate::batch_runner_tests::other_runs::{BAD, EXCHANGES, Exchange, OTHERS};
+use crate::batch_runner_tests::runs::{RUNS, Run, SCHEDULED};
+use crate::expected::assert_same;
 use batch_io::{FreeGate, Gate, MemorySink, MemorySource, PureSink, PureSource};
 use batch_runner::{Outcome, serve_pure, serve_words, status};
 use request_frames::Reason;
 use result_verdicts::Verdict;
-use std::alloc::Global;
+use std::alloc::{AllocError, Global};
 use std::process::Abort;
 use std::sync::Wait;
 use std::test::Fail;
@@ -113,167 +114,191 @@ const RUN_WORDS: [&'static [&'static str]; 4] = [
     &["run", "--mult", "lanes"],
 ];
 
+fn words_of(alloc: Global, words: &[&str]) -> Result<Vec<String>, AllocError> {
+    let mut owned = Vec::new(alloc);
+    for word in words {
+        owned.push(String::from_str(alloc, word)?)?;
+    }
+    Ok(owned)
+}
+
 // The outcome of these words over a source and a sink.
-pub fn outcome_of<R: Threads + Wait + Sync, G: Gate + Sync>(
+pub fn outcome_of<R: Abort + Threads + Wait + Sync, G: Gate + Sync>(
     rt: &R,
     alloc: Global,
     words: &[&str],
     mut source: MemorySource,
     sink: &mut MemorySink,
     gate: &G,
-) -> Result<Outcome, Fail> {
-    let mut owned = Vec::new(alloc);
-    for word in words {
-        owned.push(String::from_str(alloc, word)?)?;
-    }
-    Ok(serve_words(rt, alloc, &owned, &mut source, sink, gate))
+) -> Outcome {
+    let words = words_of(alloc, words).expect(rt, "memory");
+    serve_words(rt, alloc, &words, &mut source, sink, gate)
 }
 
 // The text that an input is answered, and the outcome, where the lanes tell this gate their points.
-pub fn gated_answer_to<R: Threads + Wait + Sync, G: Gate + Sync>(
+pub fn gated_answer_to<R: Abort + Threads + Wait + Sync, G: Gate + Sync>(
     rt: &R,
     alloc: Global,
     words: &[&str],
     input: &str,
     step: usize,
     gate: &G,
-) -> Result<(Outcome, MemorySink), Fail> {
-    let input = input.as_bytes().to_vec(alloc)?;
+) -> (Outcome, MemorySink) {
+    let input = input.as_bytes().to_vec(alloc).expect(rt, "memory");
+    let room = vec![in alloc; 0; 32_768].expect(rt, "memory");
     let source = MemorySource::new(input, step.max(1), Vec::new(alloc));
-    let mut sink = MemorySink::new(vec![in alloc; 0; 32_768]?, 4096, Vec::new(alloc));
-    let outcome = outcome_of(rt, alloc, words, source, &mut sink, gate)?;
-    Ok((outcome, sink))
+    let mut sink = MemorySink::new(room, 4096, Vec::new(alloc));
+    let outcome = outcome_of(rt, alloc, words, source, &mut sink, gate);
+    (outcome, sink)
 }
 
-pub fn answer_to<R: Threads + Wait + Sync>(
+pub fn answer_to<R: Abort + Threads + Wait + Sync>(
     rt: &R,
     alloc: Global,
     words: &[&str],
     input: &str,
     step: usize,
-) -> Result<(Outcome, MemorySink), Fail> {
+) -> (Outcome, MemorySink) {
     gated_answer_to(rt, alloc, words, input, step, &FreeGate::new())
 }
 
-#[test]
-fn each_batch_of_one_lane_gets_its_text(rt: HostRuntime) -> Result<(), Fail> {
-    let alloc = rt.alloc();
-    for case in &RUNS {
-        let name = case.source;
-        let (outcome, sink) = answer_to(&rt, alloc, case.words, case.input, case.step)?;
-        assert_eq!(rt; outcome, Outcome::Done, "{name}");
-        assert_eq!(rt; sink.bytes(), case.reply.as_bytes(), "{name}");
+// An end with this outcome and this text.
+pub fn assert_end(
+    rt: &impl Abort,
+    end: &(Outcome, MemorySink),
+    outcome: Outcome,
+    text: &[u8],
+    name: &str,
+) {
+    assert_same(rt, end.0, outcome, name);
+    assert_same(rt, end.1.bytes(), text, name);
+}
+
+// Each run is done, with its text.
+fn assert_runs<R: Abort + Threads + Wait + Sync>(rt: &R, alloc: Global, runs: &[Run]) {
+    for case in runs {
+        let end = answer_to(rt, alloc, case.words, case.input, case.step);
+        assert_end(rt, &end, Outcome::Done, case.reply.as_bytes(), case.source);
     }
-    Ok(())
 }
 
 #[test]
-fn each_batch_of_lanes_gets_its_text(rt: HostRuntime) -> Result<(), Fail> {
-    let alloc = rt.alloc();
-    for case in &SCHEDULED {
-        let name = case.source;
-        let (outcome, sink) = answer_to(&rt, alloc, case.words, case.input, case.step)?;
-        assert_eq!(rt; outcome, Outcome::Done, "{name}");
-        assert_eq!(rt; sink.bytes(), case.reply.as_bytes(), "{name}");
-    }
-    Ok(())
+fn each_batch_of_one_lane_gets_its_text(rt: HostRuntime) {
+    assert_runs(&rt, rt.alloc(), RUNS.as_slice());
 }
 
 #[test]
-fn each_other_command_writes_its_text(rt: HostRuntime) -> Result<(), Fail> {
-    let alloc = rt.alloc();
+fn each_batch_of_lanes_gets_its_text(rt: HostRuntime) {
+    assert_runs(&rt, rt.alloc(), SCHEDULED.as_slice());
+}
+
+#[test]
+fn each_other_command_writes_its_text(rt: HostRuntime) {
     for case in &OTHERS {
-        let name = case.source;
-        let (outcome, sink) = answer_to(&rt, alloc, case.words, case.input, 4096)?;
-        assert_eq!(rt; outcome, case.outcome, "{name}");
-        assert_eq!(rt; sink.bytes(), case.text.as_bytes(), "{name}");
+        let end = answer_to(&rt, rt.alloc(), case.words, case.input, 4096);
+        assert_end(&rt, &end, case.outcome, case.text.as_bytes(), case.source);
     }
-    Ok(())
 }
 
 #[test]
-fn each_bad_line_is_named(rt: HostRuntime) -> Result<(), Fail> {
-    let alloc = rt.alloc();
+fn each_bad_line_is_named(rt: HostRuntime) {
     for case in &BAD {
-        let name = case.what;
         let bad = Outcome::BadBatch {
             line: case.line,
             reason: case.reason,
         };
-        let (outcome, sink) = answer_to(&rt, alloc, &["run"], case.input, 4096)?;
-        assert_eq!(rt; outcome, bad, "{name}");
-        assert_eq!(rt; sink.bytes(), case.reply.as_bytes(), "{name}");
+        let end = answer_to(&rt, rt.alloc(), &["run"], case.input, 4096);
+        assert_end(&rt, &end, bad, case.reply.as_bytes(), case.what);
     }
-    Ok(())
 }
 
 #[test]
-fn each_option_of_run_is_taken(rt: HostRuntime) -> Result<(), Fail> {
-    let alloc = rt.alloc();
+fn each_option_of_run_is_taken(rt: HostRuntime) {
     for words in &RUN_WORDS {
-        let (outcome, sink) = answer_to(&rt, alloc, words, EMPTY, 4096)?;
-        assert_eq!(rt; outcome, Outcome::Done);
-        assert_eq!(rt; sink.bytes(), EMPTY.as_bytes());
+        let end = answer_to(&rt, rt.alloc(), words, EMPTY, 4096);
+        assert_end(
+            &rt,
+            &end,
+            Outcome::Done,
+            EMPTY.as_bytes(),
+            "the shortest batch",
+        );
     }
-    Ok(())
+}
+
+// Each multiplier's text is the plain one's.
+fn assert_exchange<R: Abort + Threads + Wait + Sync>(rt: &R, alloc: Global, case: &Exchange) {
+    let (_, plain) = answer_to(rt, alloc, &["run"], case.input, 4096);
+    assert_same(rt, plain.bytes().len(), case.size, case.source);
+    assert!(rt;
+        plain.bytes().ends_with(case.lanes.as_bytes()),
+        "{}",
+        case.source
+    );
+    for words in &RUN_WORDS {
+        let end = answer_to(rt, alloc, words, case.input, 4096);
+        assert_end(rt, &end, Outcome::Done, plain.bytes(), case.source);
+    }
 }
 
 #[test]
-fn keys_are_the_same_with_each_multiplier(rt: HostRuntime) -> Result<(), Fail> {
-    let alloc = rt.alloc();
+fn keys_are_the_same_with_each_multiplier(rt: HostRuntime) {
     for case in &EXCHANGES {
-        let name = case.source;
-        let (_, plain) = answer_to(&rt, alloc, &["run"], case.input, 4096)?;
-        assert_eq!(rt; plain.bytes().len(), case.size, "{name}");
-        assert!(rt; plain.bytes().ends_with(case.lanes.as_bytes()), "{name}");
-        for words in &RUN_WORDS {
-            let (outcome, sink) = answer_to(&rt, alloc, words, case.input, 4096)?;
-            assert_eq!(rt; outcome, Outcome::Done, "{name}");
-            assert_eq!(rt; sink.bytes(), plain.bytes(), "{name}");
-        }
+        assert_exchange(&rt, rt.alloc(), case);
     }
-    Ok(())
 }
 
 #[test]
 fn pure_ends_are_served(rt: HostRuntime) -> Result<(), Fail> {
     let alloc = rt.alloc();
-    let mut words = Vec::new(alloc);
-    words.push(String::from_str(alloc, "run")?)?;
+    let words = words_of(alloc, &["run"])?;
     let mut source = PureSource::new(EMPTY.as_bytes().to_vec(alloc)?);
     let mut sink = PureSink::new();
     let gate = FreeGate::new();
     let outcome = serve_pure(&rt, alloc, &words, &mut source, &mut sink, &gate);
-    assert_eq!(rt; outcome, Outcome::Done);
+    assert_same(&rt, outcome, Outcome::Done, "outcome");
     Ok(())
 }
 
+fn end_with<R: Abort + Threads + Wait + Sync>(
+    rt: &R,
+    alloc: Global,
+    fault: &Fault,
+) -> (Outcome, MemorySink) {
+    let input = fault.input.as_bytes().to_vec(alloc).expect(rt, "memory");
+    let failing_reads = fault.failing_reads.to_vec(alloc).expect(rt, "memory");
+    let failing_writes = fault.failing_writes.to_vec(alloc).expect(rt, "memory");
+    let room = vec![in alloc; 0; 64].expect(rt, "memory");
+    let source = MemorySource::new(input, 4, failing_reads);
+    let mut sink = MemorySink::new(room, fault.sink_step.max(1), failing_writes);
+    let outcome = outcome_of(rt, alloc, &["run"], source, &mut sink, &FreeGate::new());
+    (outcome, sink)
+}
+
 #[test]
-fn a_fault_leaves_a_front_of_the_text(rt: HostRuntime) -> Result<(), Fail> {
-    let alloc = rt.alloc();
+fn a_fault_leaves_a_front_of_the_text(rt: HostRuntime) {
     for case in &FAULTS {
-        let name = case.name;
-        let input = case.input.as_bytes().to_vec(alloc)?;
-        let source = MemorySource::new(input, 4, case.failing_reads.to_vec(alloc)?);
-        let room = vec![in alloc; 0; 64]?;
-        let step = case.sink_step.max(1);
-        let mut sink = MemorySink::new(room, step, case.failing_writes.to_vec(alloc)?);
-        let outcome = outcome_of(&rt, alloc, &["run"], source, &mut sink, &FreeGate::new())?;
-        assert_eq!(rt; outcome, case.outcome, "{name}");
-        assert_eq!(rt; sink.bytes(), case.written.as_bytes(), "{name}");
+        let end = end_with(&rt, rt.alloc(), case);
+        assert_end(&rt, &end, case.outcome, case.written.as_bytes(), case.name);
     }
-    Ok(())
+}
+
+// The outcome where a call of either end would be a fault.
+fn untouched<R: Abort + Threads + Wait + Sync>(
+    rt: &R,
+    alloc: Global,
+    words: &[&str],
+) -> Result<Outcome, AllocError> {
+    let source = MemorySource::new(Vec::new(alloc), 1, [1].to_vec(alloc)?);
+    let mut sink = MemorySink::new(Vec::new(alloc), 1, [1].to_vec(alloc)?);
+    Ok(outcome_of(rt, alloc, words, source, &mut sink, &FreeGate::new()))
 }
 
 #[test]
 fn other_words_read_and_write_nothing(rt: HostRuntime) -> Result<(), Fail> {
-    let alloc = rt.alloc();
     for words in &USAGE {
-        // A call of either end would be a fault.
-        let source = MemorySource::new(Vec::new(alloc), 1, [1].to_vec(alloc)?);
-        let mut sink = MemorySink::new(Vec::new(alloc), 1, [1].to_vec(alloc)?);
-        let outcome = outcome_of(&rt, alloc, words, source, &mut sink, &FreeGate::new())?;
-        assert_eq!(rt; outcome, Outcome::Usage);
+        let outcome = untouched(&rt, rt.alloc(), words)?;
+        assert_same(&rt, outcome, Outcome::Usage, "outcome");
     }
     Ok(())
 }
@@ -297,7 +322,7 @@ fn statuses_are_those_of_the_manual(rt: HostRuntime) {
         (broken, 7),
     ];
     for (outcome, want) in rows {
-        assert_eq!(rt; status(&outcome), want);
+        assert_same(&rt, status(&outcome), want, "status");
     }
 }
 
@@ -310,25 +335,12 @@ fn longest_schedule(alloc: Global) -> Result<String, Fail> {
 }
 
 // One batch's outcome and text in this schedule.
-fn rehearse<R: Threads + Wait + Sync>(
+fn rehearse<R: Abort + Threads + Wait + Sync>(
     rt: &R,
     alloc: Global,
     steps: &str,
-) -> Result<(Outcome, MemorySink), Fail> {
+) -> (Outcome, MemorySink) {
     answer_to(rt, alloc, &["rehearse", steps], RUNS[1].input, 4096)
-}
-
-fn assert_rehearsed<R: Abort + Threads + Wait + Sync>(
-    rt: &R,
-    alloc: Global,
-    steps: &str,
-    want: Outcome,
-    text: &[u8],
-) -> Result<(), Fail> {
-    let (outcome, sink) = rehearse(rt, alloc, steps)?;
-    assert_eq!(rt; outcome, want);
-    assert_eq!(rt; sink.bytes(), text);
-    Ok(())
 }
 
 // Numbers of lanes that aren't there do nothing: so the text is that of no schedule.
@@ -336,9 +348,11 @@ fn assert_rehearsed<R: Abort + Threads + Wait + Sync>(
 fn the_longest_schedule_is_taken(rt: HostRuntime) -> Result<(), Fail> {
     let alloc = rt.alloc();
     let mut steps = longest_schedule(alloc)?;
-    let (_, none) = rehearse(&rt, alloc, "-")?;
-    assert_rehearsed(&rt, alloc, &steps, Outcome::Done, none.bytes())?;
+    let (_, none) = rehearse(&rt, alloc, "-");
+    let end = rehearse(&rt, alloc, &steps);
+    assert_end(&rt, &end, Outcome::Done, none.bytes(), "65,536 steps");
     steps.push_str(",15")?;
-    assert_rehearsed(&rt, alloc, &steps, Outcome::Usage, b"")?;
+    let end = rehearse(&rt, alloc, &steps);
+    assert_end(&rt, &end, Outcome::Usage, b"", "65,537 steps");
     Ok(())
 }

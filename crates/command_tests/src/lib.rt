@@ -7,6 +7,8 @@
 #[cfg(test)]
 mod batch_runner_tests;
 #[cfg(test)]
+mod expected;
+#[cfg(test)]
 mod live_table_tests;
 #[cfg(test)]
 mod shared_context_tests;

@@ -5,6 +5,7 @@ ghost use Rattle.turn_lock.specs.Passes.{AllOf};
 ghost use Rattle.stamped_lists.specs.Stamps.{IsNote};
 ghost use Rattle.command_tests.specs.Passes.{MayDraw};
 
+use crate::expected::assert_same;
 use call_places::{Act, Entry, Place, Step};
 use live_table::LiveTable;
 use stamp_counter::{StampCounter, StampSeat};
@@ -72,7 +73,7 @@ fn entries_of_cases<R: Wait>(rt: &R, alloc: Global) -> Result<(Vec<Entry>, u64),
 #[test]
 fn a_look_finds_what_was_added_and_not_retired(rt: HostRuntime) -> Result<(), Fail> {
     let (entries, stamps) = entries_of_cases(&rt, rt.alloc())?;
-    assert_eq!(rt; entries.len(), NOTES.len());
+    assert_same(&rt, entries.len(), NOTES.len(), "how many entries");
     let mut call = 0u32;
     for (act, name, live) in NOTES {
         let place = Place {
@@ -85,10 +86,10 @@ fn a_look_finds_what_was_added_and_not_retired(rt: HostRuntime) -> Result<(), Fa
             stamp: u64::from(call),
             step: Step::Note { name, act, live },
         };
-        assert_eq!(rt; entries.get(call as usize), Some(&wanted));
+        assert_same(&rt, entries.get(call as usize), Some(&wanted), "entry");
         call = call.wrapping_add(1);
     }
-    assert_eq!(rt; stamps, 9);
+    assert_same(&rt, stamps, 9, "stamps");
     Ok(())
 }
 
@@ -228,8 +229,8 @@ fn entries_of_four<R: Threads + Wait + Sync>(
 #[test]
 fn four_lanes_note_at_once(rt: HostRuntime) -> Result<(), Fail> {
     let (entries, stamps) = entries_of_four(&rt, rt.alloc())?;
-    assert_eq!(rt; entries.len(), 1200);
+    assert_same(&rt, entries.len(), 1200, "how many entries");
     assert!(rt; is_told(&entries));
-    assert_eq!(rt; stamps, 1200);
+    assert_same(&rt, stamps, 1200, "stamps");
     Ok(())
 }

@@ -8,6 +8,7 @@ ghost use Rattle.turn_lock.specs.Passes.{AllOf};
 ghost use Rattle.stamped_lists.specs.Stamps.{IsNote};
 ghost use Rattle.command_tests.specs.Passes.{MayDraw};
 
+use crate::expected::assert_same;
 use aes_gcm::Checks;
 use call_places::{Item, Span, Step};
 use context_books::{Book, Draw};
@@ -174,10 +175,10 @@ fn drawn_by_two<R: Threads + Wait + Sync>(rt: &R, alloc: Global) -> Result<(Book
 #[test]
 fn two_lanes_draw_from_one_context(rt: HostRuntime) -> Result<(), Fail> {
     let (book, stamps) = drawn_by_two(&rt, rt.alloc())?;
-    assert_eq!(rt; book.entries().len(), 2000);
-    assert_eq!(rt; book.seq(), 1500);
+    assert_same(&rt, book.entries().len(), 2000, "how many entries");
+    assert_same(&rt, book.seq(), 1500, "sequence number");
     assert!(rt; is_numbered(&book, 1500));
-    assert_eq!(rt; stamps, 2000);
+    assert_same(&rt, stamps, 2000, "stamps");
     Ok(())
 }
 
@@ -345,10 +346,10 @@ fn opened_both<R: Threads + Wait + Sync>(
 fn what_one_end_sealed_the_other_opens(rt: HostRuntime) -> Result<(), Fail> {
     let pool = <[u8; 104]>::from_hex(POOL)?;
     let [first, second] = sealed_both(&rt, rt.alloc())?;
-    assert_eq!(rt; &first[..], &pool[14..59]);
-    assert_eq!(rt; &second[..], &pool[59..]);
+    assert_same(&rt, &first[..], &pool[14..59], "first");
+    assert_same(&rt, &second[..], &pool[59..], "second");
     let texts = opened_both(&rt, rt.alloc(), &pool)?;
-    assert_eq!(rt; texts, [*TEXT; 2]);
+    assert_same(&rt, texts, [*TEXT; 2], "texts");
     Ok(())
 }
 
@@ -357,6 +358,6 @@ fn an_export_is_that_published(rt: HostRuntime) -> Result<(), Fail> {
     let (_, context, _) = one_lane(rt.alloc(), Role::Recipient)?;
     let mut exported = [0u8; 32];
     assert!(rt; context.export_into(b"", &mut exported).is_ok());
-    assert_eq!(rt; exported, <[u8; 32]>::from_hex(EXPORTED)?);
+    assert_same(&rt, exported, <[u8; 32]>::from_hex(EXPORTED)?, "exported");
     Ok(())
 }

@@ -3,6 +3,7 @@
 ghost use Rattle.std.specs.Prelude.{◌≡◌, ◌+◌, ◌*◌, length, vec_len, All, IfOk, IfSome};
 ghost use Rattle.command_tests.specs.Seats.{Holds, MayDraw};
 
+use crate::expected::assert_same;
 use stamp_counter::{
     SeatList, StampCounter, StampSeat, each_step_keeps_the_rule, the_rule_tells_stamps_apart,
 };
@@ -16,11 +17,26 @@ fn stamps_are_drawn_once_each(rt: HostRuntime) -> Result<(), Fail> {
     let mut first = seats.take().ok_or("the first seat")?;
     let mut second = seats.take().ok_or("the second seat")?;
     assert!(rt; seats.take().is_none());
-    assert_eq!(rt; counter.draw(&mut first, 1), 0);
-    assert_eq!(rt; counter.draw(&mut second, 1), 1);
-    assert_eq!(rt; counter.draw(&mut first, 1), 2);
+    assert_same(
+        &rt,
+        counter.draw(&mut first, 1),
+        0,
+        "a stamp of the first seat",
+    );
+    assert_same(
+        &rt,
+        counter.draw(&mut second, 1),
+        1,
+        "a stamp of the second seat",
+    );
+    assert_same(
+        &rt,
+        counter.draw(&mut first, 1),
+        2,
+        "a stamp of the first seat",
+    );
     counter.join(&mut first, second);
-    assert_eq!(rt; counter.close(first), 3);
+    assert_same(&rt, counter.close(first), 3, "stamps drawn");
     the_rule_tells_stamps_apart();
     each_step_keeps_the_rule();
     Ok(())
@@ -74,6 +90,6 @@ fn eight_threads_draw_each_stamp_once(rt: HostRuntime) -> Result<(), Fail> {
     let mut seats = hand_out(rt.alloc(), list)?;
     draw_all(&rt, &counter, seats.as_mut_slice());
     let seat = join_all(&counter, seats).ok_or("a seat")?;
-    assert_eq!(rt; counter.close(seat), 2000);
+    assert_same(&rt, counter.close(seat), 2000, "stamps drawn");
     Ok(())
 }

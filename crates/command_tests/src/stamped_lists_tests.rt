@@ -1,5 +1,6 @@
 //! Stamps for two lists, drawn by one lane.
 
+use crate::expected::assert_same;
 use stamp_counter::StampCounter;
 use stamped_lists::draw_stamps;
 use std::test::Fail;
@@ -13,6 +14,6 @@ fn stamps_rise_over_two_lists(rt: HostRuntime) -> Result<(), Fail> {
     let (first, lane) = draw_stamps(&counter, &mut list, lane, 2);
     let (second, lane) = draw_stamps(&counter, &mut other, lane, 3);
     let (third, _) = draw_stamps(&counter, &mut list, lane, 1);
-    assert_eq!(rt; [first, second, third], [0, 2, 5]);
+    assert_same(&rt, [first, second, third], [0, 2, 5], "stamps");
     Ok(())
 }

@@ -6,6 +6,7 @@ ghost use Rattle.call_places.specs.Entries.{last_of};
 ghost use Rattle.turn_lock.specs.Passes.{AllOf};
 ghost use Rattle.command_tests.specs.Passes.{IsNew};
 
+use crate::expected::assert_same;
 use call_places::{Entry, Listed, Place, Step};
 use std::alloc::{AllocError as OutOfMemory, Global};
 use std::process::Abort;
@@ -166,7 +167,7 @@ fn is_in_order(log: &Log) -> bool {
 }
 
 fn assert_in_order(rt: &impl Abort, log: &Log, count: usize) {
-    assert_eq!(rt; log.list.len(), count);
+    assert_same(rt, log.list.len(), count, "how many are listed");
     assert!(rt; is_in_order(log));
 }
 
@@ -177,7 +178,7 @@ fn each_lane_has_its_calls_in_order(rt: HostRuntime) -> Result<(), Fail> {
     let sixteen = filled(&rt, rt.alloc(), 16, 200)?;
     assert_in_order(&rt, &sixteen, 3200);
     let untouched = filled(&rt, rt.alloc(), 3, 0)?;
-    assert_eq!(rt; untouched.list.len(), 0);
+    assert_same(&rt, untouched.list.len(), 0, "what was not listed");
     Ok(())
 }
 
@@ -196,9 +197,11 @@ fn the_lowest_pass_is_taken_first(rt: HostRuntime) -> Result<(), Fail> {
     passes.put(first);
     for number in 0..3 {
         let pass = passes.take().ok_or("a pass that was put back")?;
-        assert_eq!(rt;
+        assert_same(
+            &rt,
             (pass.number(), pass.turns(), pass.next_call()),
-            (number, 0, 0)
+            (number, 0, 0),
+            "the pass",
         );
     }
     let _ = lock;

@@ -1,6 +1,7 @@
 //! Books over published messages: numbers that are drawn, and openings with verdicts that were found
 //! ahead of time.
 
+use crate::expected::assert_same;
 use crate::messages::{Message, POOL, Settled, context_of, items_of, settle_three};
 use call_places::{Entry, Listed, Place, Step};
 use context_books::{Book, Draw};
@@ -71,10 +72,10 @@ const OPENINGS: [OpeningCase; 5] = [
 
 fn expect(rt: &impl Abort, settled: &Settled, case: &OpeningCase) {
     let name = case.name;
-    assert_eq!(rt; settled.steps, case.steps, "{name}");
-    assert_eq!(rt; settled.missed, case.missed, "{name}");
+    assert_same(rt, settled.steps, case.steps, name);
+    assert_same(rt, settled.missed, case.missed, name);
     assert!(rt; settled.checked <= u64::from(settled.missed), "{name}");
-    assert_eq!(rt; settled.due, case.seq, "{name}");
+    assert_same(rt, settled.due, case.seq, name);
 }
 
 #[test]
@@ -83,7 +84,7 @@ fn items_are_opened_one_after_another(rt: HostRuntime) -> Result<(), Fail> {
     for case in &OPENINGS {
         let (limit, guess) = (case.limit, case.guess);
         assert!(rt; 1 <= limit && guess <= limit);
-        let context = context_of(Role::Recipient, limit)?;
+        let context = context_of(&rt, Role::Recipient, limit);
         let items = items_of(case.messages);
         let settled = settle_three(&rt, rt.alloc(), &context, &pool, &items, guess)?;
         expect(&rt, &settled, case);
@@ -114,10 +115,20 @@ const REFUSED: Entry = Entry {
 #[test]
 fn numbers_are_drawn_up_to_the_limit(rt: HostRuntime) -> Result<(), Fail> {
     let mut book = Book::new(rt.alloc(), 1, &[1, 1])?;
-    assert_eq!(rt; book.draw(SEALED.place, 3), Draw::Number(0));
-    assert_eq!(rt; book.draw(REFUSED.place, 5), Draw::Limit);
-    assert_eq!(rt; book.seq(), 1);
-    assert_eq!(rt; book.entries(), &[SEALED, REFUSED][..]);
-    assert_eq!(rt; book.last_entry(), Some(REFUSED));
+    assert_same(
+        &rt,
+        book.draw(SEALED.place, 3),
+        Draw::Number(0),
+        "the last number",
+    );
+    assert_same(
+        &rt,
+        book.draw(REFUSED.place, 5),
+        Draw::Limit,
+        "past the limit",
+    );
+    assert_same(&rt, book.seq(), 1, "sequence number");
+    assert_same(&rt, book.entries(), &[SEALED, REFUSED][..], "entries");
+    assert_same(&rt, book.last_entry(), Some(REFUSED), "last entry");
     Ok(())
 }

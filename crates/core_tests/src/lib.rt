@@ -9,6 +9,8 @@
 #[cfg(test)]
 mod books;
 #[cfg(test)]
+mod expected;
+#[cfg(test)]
 mod messages;
 #[cfg(test)]
 mod rehearsals;

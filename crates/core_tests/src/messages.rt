@@ -18,6 +18,7 @@ use hpke_context::Context;
 use key_schedule::{CipherSecrets, Role, Secrets};
 use speculative_open::GuessTable;
 use std::alloc::Global;
+use std::process::Abort;
 use std::test::Fail;
 use std::thread::Threads;
 
@@ -28,20 +29,24 @@ pub(crate) const SUITE: Suite = Suite {
 };
 
 /// The context, by its key, base_nonce and exporter_secret.
-pub(crate) fn context_of(role: Role, limit: u64) -> Result<Context, Fail>
+pub(crate) fn context_of(rt: &impl Abort, role: Role, limit: u64) -> Context
     requires { 1 ≤ limit }
-    ensures parts { IfOk result (λ c. IsOfTests role limit c) }
-    ensures cipher { IfOk result (λ c. HasCipher c) }
+    ensures parts { IsOfTests role limit result }
+    ensures cipher { HasCipher result }
 {
-    let exporter = "45ff1c2e220db587171952c0592d5f5ebe103f1561a2614e38f2ffd47e99e3f8";
+    let key = <[u8; 16]>::from_hex("4531685d41d65f03dc48f6b8302c05b0");
+    let base_nonce = <[u8; 12]>::from_hex("56d890e5accaaf011cff4b7d");
+    let exporter = <[u8; 32]>::from_hex(
+        "45ff1c2e220db587171952c0592d5f5ebe103f1561a2614e38f2ffd47e99e3f8",
+    );
     let secrets = Secrets {
         cipher: CipherSecrets::Aes128 {
-            key: <[u8; 16]>::from_hex("4531685d41d65f03dc48f6b8302c05b0")?,
-            base_nonce: <[u8; 12]>::from_hex("56d890e5accaaf011cff4b7d")?,
+            key: key.expect(rt, "hex"),
+            base_nonce: base_nonce.expect(rt, "hex"),
         },
-        exporter: Prk::from_slice(&<[u8; 32]>::from_hex(exporter)?),
+        exporter: Prk::from_slice(&exporter.expect(rt, "hex")),
     };
-    Ok(Context::new(role, SUITE, secrets, limit))
+    Context::new(role, SUITE, secrets, limit)
 }
 
 /// Both aads and ciphertexts of RFC 9180, A.1.1.1, with the sequence numbers 0 and 1, and the second

@@ -11,38 +11,37 @@ use rows::{
 };
 use std::alloc::Global;
 use std::process::Abort;
-use std::test::Fail;
 use std::thread::Threads;
 use wants::expect;
 
-fn lane_1_first<R: Threads + Sync + Abort>(rt: &R, alloc: Global) -> Result<(), Fail> {
-    let answers = rehearsed(rt, alloc, 2, &[seal(A1, P)], &[seal(A0, P)], &[1, 0])?;
-    expect(rt, alloc, &answers, &LANE_1_FIRST)
+fn lane_1_first<R: Threads + Sync + Abort>(rt: &R, alloc: Global) {
+    let answers = rehearsed(rt, alloc, 2, &[seal(A1, P)], &[seal(A0, P)], &[1, 0]);
+    expect(rt, alloc, &answers, &LANE_1_FIRST);
 }
 
-fn lanes_not_there<R: Threads + Sync + Abort>(rt: &R, alloc: Global) -> Result<(), Fail> {
-    let answers = rehearsed(rt, alloc, 2, &[seal(A0, P)], &[seal(A1, P)], &[2, 255])?;
-    expect(rt, alloc, &answers, &LANES_NOT_THERE)
+fn lanes_not_there<R: Threads + Sync + Abort>(rt: &R, alloc: Global) {
+    let answers = rehearsed(rt, alloc, 2, &[seal(A0, P)], &[seal(A1, P)], &[2, 255]);
+    expect(rt, alloc, &answers, &LANES_NOT_THERE);
 }
 
 // Own, by hand: lane 1 draws first; and a schedule of lanes that aren't there leaves lane 0 first.
 #[test]
-fn seals_take_numbers_in_the_order_of_the_schedule(rt: HostRuntime) -> Result<(), Fail> {
-    lane_1_first(&rt, rt.alloc())?;
-    lanes_not_there(&rt, rt.alloc())
+fn seals_take_numbers_in_the_order_of_the_schedule(rt: HostRuntime) {
+    lane_1_first(&rt, rt.alloc());
+    lanes_not_there(&rt, rt.alloc());
 }
 
-fn changed_tag<R: Threads + Sync + Abort>(rt: &R, alloc: Global) -> Result<(), Fail> {
-    let answers = rehearsed(rt, alloc, 9, &[unseal_all(0, 3)], &[], &[])?;
-    expect(rt, alloc, &answers, &CHANGED_TAG)
+fn changed_tag<R: Threads + Sync + Abort>(rt: &R, alloc: Global) {
+    let answers = rehearsed(rt, alloc, 9, &[unseal_all(0, 3)], &[], &[]);
+    expect(rt, alloc, &answers, &CHANGED_TAG);
 }
 
-fn five_changed_tags<R: Threads + Sync + Abort>(rt: &R, alloc: Global) -> Result<(), Fail> {
-    let answers = rehearsed(rt, alloc, 9, &[unseal_all(3, 6)], &[], &[])?;
-    expect(rt, alloc, &answers, &FIVE_CHANGED_TAGS)
+fn five_changed_tags<R: Threads + Sync + Abort>(rt: &R, alloc: Global) {
+    let answers = rehearsed(rt, alloc, 9, &[unseal_all(3, 6)], &[], &[]);
+    expect(rt, alloc, &answers, &FIVE_CHANGED_TAGS);
 }
 
-fn stale_guess<R: Threads + Sync + Abort>(rt: &R, alloc: Global) -> Result<(), Fail> {
+fn stale_guess<R: Threads + Sync + Abort>(rt: &R, alloc: Global) {
     let answers = rehearsed(
         rt,
         alloc,
@@ -50,25 +49,25 @@ fn stale_guess<R: Threads + Sync + Abort>(rt: &R, alloc: Global) -> Result<(), F
         &[unseal_all(9, 1)],
         &[unseal(A0, C0)],
         &[0, 1, 1, 1, 1],
-    )?;
-    expect(rt, alloc, &answers, &STALE_GUESS)
+    );
+    expect(rt, alloc, &answers, &STALE_GUESS);
 }
 
-fn replay<R: Threads + Sync + Abort>(rt: &R, alloc: Global) -> Result<(), Fail> {
-    let answers = rehearsed(rt, alloc, 9, &[unseal_all(10, 2)], &[], &[])?;
-    expect(rt, alloc, &answers, &REPLAY)
+fn replay<R: Threads + Sync + Abort>(rt: &R, alloc: Global) {
+    let answers = rehearsed(rt, alloc, 9, &[unseal_all(10, 2)], &[], &[]);
+    expect(rt, alloc, &answers, &REPLAY);
 }
 
 // Own, by hand: item i is tested ahead at the numbers guess + i - k, for k from 0 to min(i, 3).
 #[test]
-fn openings_guess_and_settle_by_the_schedule(rt: HostRuntime) -> Result<(), Fail> {
-    changed_tag(&rt, rt.alloc())?;
-    five_changed_tags(&rt, rt.alloc())?;
-    stale_guess(&rt, rt.alloc())?;
-    replay(&rt, rt.alloc())
+fn openings_guess_and_settle_by_the_schedule(rt: HostRuntime) {
+    changed_tag(&rt, rt.alloc());
+    five_changed_tags(&rt, rt.alloc());
+    stale_guess(&rt, rt.alloc());
+    replay(&rt, rt.alloc());
 }
 
-fn two_contexts<R: Threads + Sync + Abort>(rt: &R, alloc: Global) -> Result<(), Fail> {
+fn two_contexts<R: Threads + Sync + Abort>(rt: &R, alloc: Global) {
     let answers = rehearsed(
         rt,
         alloc,
@@ -76,11 +75,11 @@ fn two_contexts<R: Threads + Sync + Abort>(rt: &R, alloc: Global) -> Result<(), 
         &[seal(A0, P), unseal_all(12, 2)],
         &[seal(A1, P)],
         &[0, 0, 0, 0, 1, 0],
-    )?;
-    expect(rt, alloc, &answers, &TWO_CONTEXTS)
+    );
+    expect(rt, alloc, &answers, &TWO_CONTEXTS);
 }
 
-fn limit_1<R: Threads + Sync + Abort>(rt: &R, alloc: Global) -> Result<(), Fail> {
+fn limit_1<R: Threads + Sync + Abort>(rt: &R, alloc: Global) {
     let answers = rehearsed(
         rt,
         alloc,
@@ -88,13 +87,13 @@ fn limit_1<R: Threads + Sync + Abort>(rt: &R, alloc: Global) -> Result<(), Fail>
         &[seal(A0, P), seal(A0, P)],
         &[unseal(A0, C0), unseal(A1, C1), unseal(A1, X1)],
         &[],
-    )?;
-    expect(rt, alloc, &answers, &LIMIT_1)
+    );
+    expect(rt, alloc, &answers, &LIMIT_1);
 }
 
 // Own, by hand: stamps count the places of both contexts; each refusal at LIMIT has its place.
 #[test]
-fn stamps_and_limits_are_those_of_all_contexts(rt: HostRuntime) -> Result<(), Fail> {
-    two_contexts(&rt, rt.alloc())?;
-    limit_1(&rt, rt.alloc())
+fn stamps_and_limits_are_those_of_all_contexts(rt: HostRuntime) {
+    two_contexts(&rt, rt.alloc());
+    limit_1(&rt, rt.alloc());
 }

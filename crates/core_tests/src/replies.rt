@@ -5,6 +5,7 @@ ghost use Rattle.batch_plans.specs.Room.{opened_room};
 ghost use Rattle.hpke_context.specs.Contexts.{HasCipher};
 ghost use Rattle.call_places.specs.Spans.{ItemIsInPool};
 
+use crate::expected::assert_same;
 use crate::messages::{Message, POOL, context_of, items_of, settle_three};
 use batch_plans::{CallRefusal, LaneAnswers, LaneProgress, PlainList, Reply};
 use call_places::{Item, Span};
@@ -67,7 +68,7 @@ const REPLIES: [Reply; 5] = [
 
 #[test]
 fn seals_and_an_export_are_those_published(rt: HostRuntime) -> Result<(), Fail> {
-    let context = context_of(Role::Sender, 2)?;
+    let context = context_of(&rt, Role::Sender, 2);
     let mut progress = room_for(rt.alloc(), 167, 5)?;
     finish_seal(&mut progress, &context, Draw::Number(0), b"Count-0", TEXT);
     finish_seal(&mut progress, &context, Draw::Number(1), b"Count-1", TEXT);
@@ -75,9 +76,14 @@ fn seals_and_an_export_are_those_published(rt: HostRuntime) -> Result<(), Fail> 
     export(&mut progress, &context, b"", 32);
     refuse(&mut progress, CallRefusal::Role);
     let answers = progress.finish();
-    assert_eq!(rt; answers.replies.as_slice(), REPLIES.as_slice());
+    assert_same(
+        &rt,
+        answers.replies.as_slice(),
+        REPLIES.as_slice(),
+        "replies",
+    );
     let bytes = <[u8; 167]>::from_hex(SEALED)?;
-    assert_eq!(rt; answers.pool.as_slice(), bytes.as_slice());
+    assert_same(&rt, answers.pool.as_slice(), bytes.as_slice(), "pool");
     Ok(())
 }
 
@@ -153,16 +159,17 @@ const OPENINGS: [OpeningCase; 2] = [
 
 fn expect(rt: &impl Abort, answers: &LaneAnswers, case: &OpeningCase) {
     let name = case.name;
-    assert_eq!(rt;
+    assert_same(
+        rt,
         answers.replies.as_slice(),
         case.replies.as_slice(),
-        "{name}"
+        name,
     );
     let bytes = answers.pool.as_slice();
-    assert_eq!(rt; bytes.len(), 87, "{name}");
+    assert!(rt; bytes.len() == 87, "{name}");
     for (i, opened) in case.opened.iter().enumerate() {
         let want = if *opened { *TEXT } else { [0; 29] };
-        assert_eq!(rt; &bytes[29 * i..29 * i + 29], want.as_slice(), "{name}");
+        assert_same(rt, &bytes[29 * i..29 * i + 29], want.as_slice(), name);
     }
 }
 
@@ -172,7 +179,7 @@ fn openings_are_replied_to_item_by_item(rt: HostRuntime) -> Result<(), Fail> {
     for case in &OPENINGS {
         let limit = case.limit;
         assert!(rt; 1 <= limit);
-        let context = context_of(Role::Recipient, limit)?;
+        let context = context_of(&rt, Role::Recipient, limit);
         let items = items_of(case.messages);
         let answers = opened(&rt, rt.alloc(), &context, &pool, &items)?;
         expect(&rt, &answers, case);

@@ -3,6 +3,7 @@
 ghost use Rattle.std.specs.Prelude.{◌≡◌, ◌≤◌, All, IfOk, length};
 ghost use Rattle.call_places.specs.Spans.{ItemIsInPool};
 
+use crate::expected::{assert_at, assert_same};
 use crate::messages::{Message, POOL, item};
 use aes_gcm::GcmKey;
 use call_places::{Item, Span};
@@ -126,10 +127,10 @@ fn messages_open_at_their_numbers(rt: HostRuntime) -> Result<(), Fail> {
     for case in &TABLES {
         let source = case.source;
         let table = table_of(&rt, rt.alloc(), case.guess, case.limit, &pool, &items)?;
-        assert_eq!(rt; table.guess(), case.guess);
+        assert_same(&rt, table.guess(), case.guess, "guess");
         for (i, n, verdict) in case.looks {
             assert!(rt; *i < 5);
-            assert_eq!(rt; table.look(*i, *n), *verdict, "{source}: item {i} at {n}");
+            assert_at(&rt, table.look(*i, *n), *verdict, source, (*i, *n));
         }
     }
     Ok(())
@@ -150,8 +151,8 @@ fn rows_are_filled_in_pieces(rt: HostRuntime) -> Result<(), Fail> {
     let items = [zeros, zeros, zeros, zeros, item(Message::Second)];
     let table = table_of(&rt, rt.alloc(), 0, 9, &pool, &items)?;
     for i in 0..4usize {
-        assert_eq!(rt; table.look(i, 0), Some(false), "item {i}");
+        assert_at(&rt, table.look(i, 0), Some(false), "item", i);
     }
-    assert_eq!(rt; table.look(4, 1), Some(true));
+    assert_same(&rt, table.look(4, 1), Some(true), "a look at item 4");
     Ok(())
 }

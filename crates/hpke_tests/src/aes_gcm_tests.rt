@@ -2,7 +2,7 @@
 
 ghost use Rattle.std.specs.Prelude.{◌≡◌, ◌+◌, ◌≤◌, length};
 
-use crate::expected::assert_bytes;
+use crate::expected::{assert_at, assert_bytes, assert_same};
 use aes_gcm::{Checks, GcmKey};
 use hex::{FromHex, decode};
 use std::alloc::Global;
@@ -116,14 +116,16 @@ fn assert_seal<R: Threads + Abort>(rt: &R, alloc: Global, case: &SealCase) -> Re
     let mut sealed = [0u8; 80];
     key.seal_into(&iv, &aad, &plaintext, &mut sealed[..length + 16]);
     let (text, tag) = sealed[..length + 16].split_at(length);
-    assert_bytes(rt, alloc, text, case.ciphertext, source, "ciphertext")?;
-    assert_bytes(rt, alloc, tag, case.tag, source, "tag")?;
+    assert_bytes(rt, alloc, text, case.ciphertext, source, "ciphertext");
+    assert_bytes(rt, alloc, tag, case.tag, source, "tag");
     let hashed = key.hash_ciphertext(rt, &aad, &sealed[..length + 16]);
     let held = (hashed.holds_at(&iv), hashed.holds_at(&NONCE));
-    assert_eq!(rt;
+    assert_at(
+        rt,
         held,
         (true, false),
-        "{source}: hashed once, and another nonce"
+        "hashed once, and another nonce",
+        source,
     );
     Ok(())
 }
@@ -211,8 +213,8 @@ fn assert_opens<R: Threads + Abort>(
     );
     let mut clear = vec![in alloc; 0u8; length]?;
     key.decrypt_into(&NONCE, b"aad", sealed, &mut clear);
-    assert_eq!(rt; clear.as_slice(), text, "{length} bytes");
-    assert_eq!(rt; checks.count(), 1);
+    assert_at(rt, clear.as_slice(), text, "bytes", length);
+    assert_same(rt, checks.count(), 1, "how many checks");
     Ok(())
 }
 
@@ -227,7 +229,7 @@ fn texts_of_all_lengths_open(rt: HostRuntime) -> Result<(), Fail> {
         let mut sealed = vec![in rt.alloc(); 0u8; length + 16]?;
         key.seal_into(&NONCE, b"aad", &text, &mut sealed);
         let source = format!(in rt.alloc(); "{length} bytes")?;
-        assert_bytes(&rt, rt.alloc(), &sealed[length..], case.tag, &source, "tag")?;
+        assert_bytes(&rt, rt.alloc(), &sealed[length..], case.tag, &source, "tag");
         assert_opens(&rt, rt.alloc(), &key, &sealed, &text)?;
     }
     Ok(())
@@ -265,6 +267,6 @@ fn changed_tags_do_not_hold(rt: HostRuntime) -> Result<(), Fail> {
         "15 bytes"
     );
     assert!(rt; !key.check_tag(&[0; 12], &[], &[], &mut checks), "no byte");
-    assert_eq!(rt; checks.count(), 4);
+    assert_same(&rt, checks.count(), 4, "how many checks");
     Ok(())
 }

@@ -1,9 +1,26 @@
-//! What tests expect, as published in hex.
+//! What tests expect. A comparison stands in a function of its own, since each `assert_eq!` makes the
+//! proof of the function that it stands in seconds longer.
 
 use hex::decode;
 use std::alloc::Global;
+use std::fmt::Debug;
 use std::process::Abort;
-use std::test::Fail;
+
+/// Both are the same; a failure prints both, and what they are.
+pub fn assert_same<T: Copy + Debug + PartialEq>(rt: &impl Abort, got: T, want: T, what: &str) {
+    assert_eq!(rt; got, want, "{what}");
+}
+
+/// Both are the same; a failure prints both, what they are, and at what place or case.
+pub fn assert_at<T: Copy + Debug + PartialEq, P: Copy + Debug>(
+    rt: &impl Abort,
+    got: T,
+    want: T,
+    what: &str,
+    at: P,
+) {
+    assert_eq!(rt; got, want, "{what}: {at:?}");
+}
 
 /// The bytes are those that `want` writes in hex; a failure prints where these were published.
 pub fn assert_bytes(
@@ -13,8 +30,7 @@ pub fn assert_bytes(
     want: &str,
     source: &str,
     what: &str,
-) -> Result<(), Fail> {
-    let want = decode(alloc, want)?;
+) {
+    let want = decode(alloc, want).expect(rt, "hex");
     assert_eq!(rt; bytes, want.as_slice(), "{source}: {what}");
-    Ok(())
 }

@@ -1,6 +1,6 @@
 //! Published vectors: HMAC, HKDF and the labelled forms.
 
-use crate::expected::assert_bytes;
+use crate::expected::{assert_bytes, assert_same};
 use hex::{FromHex, decode};
 use hkdf_labelled::{
     Aead, Expander, Kdf, Mac, Prk, Suite, expand_into, extract, hmac, labeled_expand_into,
@@ -81,7 +81,7 @@ fn assert_hmac(
     let key = decode(alloc, case.key)?;
     let data = decode(alloc, case.data)?;
     let whole = hmac(kdf, &key, &data);
-    assert_bytes(rt, alloc, whole.as_slice(), want, case.source, "HMAC")?;
+    assert_bytes(rt, alloc, whole.as_slice(), want, case.source, "HMAC");
     let (front, rest) = data.split_at(data.len() / 2);
     let mut mac = Mac::new(kdf, &key);
     mac.update(front);
@@ -94,7 +94,8 @@ fn assert_hmac(
         want,
         case.source,
         "in two pieces",
-    )
+    );
+    Ok(())
 }
 
 #[test]
@@ -156,12 +157,12 @@ fn assert_output(rt: &impl Abort, alloc: Global, prk: Prk, case: &HkdfCase) -> R
     assert!(rt; length <= 82, "{}, L", case.source);
     let mut okm = [0; 82];
     expand_into(Kdf::Sha256, prk.as_slice(), &info, &mut okm[..length]);
-    assert_bytes(rt, alloc, &okm[..length], case.okm, case.source, "OKM")?;
+    assert_bytes(rt, alloc, &okm[..length], case.okm, case.source, "OKM");
     let expander = Expander::new(Kdf::Sha256, prk);
     for time in ["first OKM", "second OKM"] {
         let mut okm = [0; 82];
         expander.expand_into(&info, &mut okm[..length]);
-        assert_bytes(rt, alloc, &okm[..length], case.okm, case.source, time)?;
+        assert_bytes(rt, alloc, &okm[..length], case.okm, case.source, time);
     }
     Ok(())
 }
@@ -177,7 +178,7 @@ fn output_keying_material_is_that_published(rt: HostRuntime) -> Result<(), Fail>
             case.prk,
             case.source,
             "PRK",
-        )?;
+        );
         assert_output(&rt, rt.alloc(), prk, case)?;
     }
     Ok(())
@@ -208,14 +209,15 @@ fn assert_key_and_nonce(rt: &impl Abort, alloc: Global, secret: Prk) -> Result<(
     let context = <[u8; 65]>::from_hex(KEY_SCHEDULE_CONTEXT)?;
     let mut key = [0; 16];
     labeled_expand_into(&SUITE, secret.as_slice(), b"key", &context, &mut key);
-    assert_bytes(rt, alloc, &key, EXPANDED_KEY, SOURCE, "key")?;
+    assert_bytes(rt, alloc, &key, EXPANDED_KEY, SOURCE, "key");
     let expander = Expander::new(SUITE.kdf, secret);
     let mut base_nonce = [0; 12];
     expander.labeled_expand_into(&SUITE, b"base_nonce", &context, &mut base_nonce);
-    assert_bytes(rt, alloc, &base_nonce, BASE_NONCE, SOURCE, "base_nonce")?;
+    assert_bytes(rt, alloc, &base_nonce, BASE_NONCE, SOURCE, "base_nonce");
     let mut again = [0; 16];
     expander.labeled_expand_into(&SUITE, b"key", &context, &mut again);
-    assert_bytes(rt, alloc, &again, EXPANDED_KEY, SOURCE, "key again")
+    assert_bytes(rt, alloc, &again, EXPANDED_KEY, SOURCE, "key again");
+    Ok(())
 }
 
 // secret from shared_secret, and key and base_nonce from secret and key_schedule_context.
@@ -229,10 +231,10 @@ fn labels_are_those_of_hpke(rt: HostRuntime) -> Result<(), Fail> {
         "48504b45002000010001",
         SOURCE,
         "suite_id",
-    )?;
-    assert_eq!(rt; SUITE.kdf.size(), 32);
+    );
+    assert_same(&rt, SUITE.kdf.size(), 32, "Nh");
     let shared_secret = <[u8; 32]>::from_hex(SHARED_SECRET)?;
     let secret = labeled_extract(&SUITE, &shared_secret, b"secret", &[]);
-    assert_bytes(&rt, rt.alloc(), secret.as_slice(), SECRET, SOURCE, "secret")?;
+    assert_bytes(&rt, rt.alloc(), secret.as_slice(), SECRET, SOURCE, "secret");
     assert_key_and_nonce(&rt, rt.alloc(), secret)
 }

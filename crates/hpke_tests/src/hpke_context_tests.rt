@@ -2,7 +2,7 @@
 
 ghost use Rattle.std.specs.Prelude.{◌≤◌, length};
 
-use crate::expected::assert_bytes;
+use crate::expected::{assert_at, assert_bytes, assert_same};
 use aes_gcm::Checks;
 use hex::{FromHex, decode};
 use hkdf_labelled::{Aead, Kdf, Suite};
@@ -177,9 +177,9 @@ fn assert_opened<R: Threads + Abort>(
     let mut text = [0u8; 29];
     let mut checks = Checks::new(rt);
     let answer = recipient.unseal_into(aad, ct, &mut text, &mut checks);
-    assert_eq!(rt; answer, Ok(seq));
-    assert_eq!(rt; text, *TEXT, "sequence number {seq}");
-    assert_eq!(rt; checks.count(), 1);
+    assert_same(rt, answer, Ok(seq), "answer");
+    assert_at(rt, text, *TEXT, "sequence number", seq);
+    assert_same(rt, checks.count(), 1, "how many checks");
 }
 
 // The message at the number is sealed as it was published, where it was, and opens.
@@ -195,9 +195,14 @@ fn assert_message<R: Threads + Abort>(
     let aad = message.map_or(&b""[..], |message| message.aad);
     assert!(rt; aad.len() <= 9);
     let mut ct = [0u8; 45];
-    assert_eq!(rt; sender.seal_into(aad, TEXT, &mut ct), Ok(seq));
+    assert_same(
+        rt,
+        sender.seal_into(aad, TEXT, &mut ct),
+        Ok(seq),
+        "what the sender answers",
+    );
     if let Some(message) = message {
-        assert_bytes(rt, alloc, &ct, message.ct, message.source, "ct")?;
+        assert_bytes(rt, alloc, &ct, message.ct, message.source, "ct");
     }
     assert_opened(rt, recipient, aad, &ct, seq);
     Ok(())
@@ -211,7 +216,12 @@ fn messages_are_those_published(rt: HostRuntime) -> Result<(), Fail> {
         for seq in 0..257u64 {
             assert_message(&rt, rt.alloc(), case, seq, &mut sender, &mut recipient)?;
         }
-        assert_eq!(rt; (sender.seq(), recipient.seq()), (257, 257));
+        assert_same(
+            &rt,
+            (sender.seq(), recipient.seq()),
+            (257, 257),
+            "sequence numbers",
+        );
     }
     Ok(())
 }
@@ -301,10 +311,15 @@ fn the_number_rises_where_a_message_opens(rt: HostRuntime) -> Result<(), Fail> {
         let mut text = [0xee; 29];
         let mut checks = Checks::new(&rt);
         let answer = recipient.unseal_into(aad, &ct, &mut text, &mut checks);
-        assert_eq!(rt; answer, case.answer, "LIMIT {limit}, number {seq}");
+        assert_at(&rt, answer, case.answer, "LIMIT and number", (limit, seq));
         let want = if answer.is_ok() { *TEXT } else { [0xee; 29] };
-        assert_eq!(rt; text, want, "LIMIT {limit}, number {seq}");
-        assert_eq!(rt; recipient.seq() == seq, answer.is_err());
+        assert_at(&rt, text, want, "LIMIT and number", (limit, seq));
+        assert_same(
+            &rt,
+            recipient.seq() == seq,
+            answer.is_err(),
+            "the recipient stays",
+        );
     }
     Ok(())
 }
@@ -363,15 +378,15 @@ fn refusals_come_in_their_order(rt: HostRuntime) -> Result<(), Fail> {
         for want in &case.sealed {
             let mut ct = [0xee; 45];
             let answer = sequential.seal_into(b"Count-0", TEXT, &mut ct);
-            assert_eq!(rt; answer, *want);
+            assert_same(&rt, answer, *want, "answer");
             let untouched = ct == [0xee; 45];
-            assert_eq!(rt; untouched, answer.is_err());
+            assert_same(&rt, untouched, answer.is_err(), "untouched");
         }
         let mut checks = Checks::new(&rt);
         let answer = sequential.unseal_into(b"", &[0; 15], &mut [], &mut checks);
-        assert_eq!(rt; answer, Err(case.opened));
+        assert_same(&rt, answer, Err(case.opened), "answer");
         let checked = case.opened == CallFault::Failed;
-        assert_eq!(rt; checks.count(), u64::from(checked));
+        assert_same(&rt, checks.count(), u64::from(checked), "how many checks");
     }
     Ok(())
 }
@@ -412,7 +427,7 @@ fn exports_are_those_published_at_both_ends(rt: HostRuntime) -> Result<(), Fail>
                 want,
                 "RFC 9180, A.1.1.2",
                 "by number",
-            )?;
+            );
             let mut out = [0u8; 32];
             let again = sequential.context().export_into(exporter_context, &mut out);
             assert_bytes(
@@ -422,8 +437,8 @@ fn exports_are_those_published_at_both_ends(rt: HostRuntime) -> Result<(), Fail>
                 want,
                 "RFC 9180, A.1.1.2",
                 "by context",
-            )?;
-            assert_eq!(rt; (answer, again), (Ok(()), Ok(())));
+            );
+            assert_same(&rt, (answer, again), (Ok(()), Ok(())), "answers");
         }
     }
     Ok(())
@@ -443,22 +458,42 @@ fn export(
 #[test]
 fn an_export_has_255_hashes_at_most(rt: HostRuntime) -> Result<(), Fail> {
     let context = context_for(rt.alloc(), Role::Sender, Aead::ExportOnly, 1)?;
-    assert_eq!(rt; context.export_limit(), 8160);
-    assert_eq!(rt; export(rt.alloc(), &context, 0)?, (Ok(()), true));
-    assert_eq!(rt; export(rt.alloc(), &context, 8160)?, (Ok(()), false));
+    assert_same(&rt, context.export_limit(), 8160, "export limit");
+    assert_same(
+        &rt,
+        export(rt.alloc(), &context, 0)?,
+        (Ok(()), true),
+        "0 bytes",
+    );
+    assert_same(
+        &rt,
+        export(rt.alloc(), &context, 8160)?,
+        (Ok(()), false),
+        "8160 bytes",
+    );
     let refused = (Err(CallFault::ExportSize), true);
-    assert_eq!(rt; export(rt.alloc(), &context, 8161)?, refused);
+    assert_same(
+        &rt,
+        export(rt.alloc(), &context, 8161)?,
+        refused,
+        "8161 bytes",
+    );
     Ok(())
 }
 
 fn assert_parts(rt: &impl Abort, alloc: Global, case: &ContextCase) -> Result<(), Fail> {
     let context = sequential_of(alloc, Role::Recipient, case, 7)?.into_context();
-    assert_eq!(rt; context.role(), Role::Recipient);
-    assert_eq!(rt; *context.suite(), case.suite);
-    assert_eq!(rt; context.limit(), 7);
+    assert_same(rt, context.role(), Role::Recipient, "role");
+    assert_same(rt, *context.suite(), case.suite, "suite");
+    assert_same(rt, context.limit(), 7, "limit");
     assert!(rt; context.cipher().is_some());
     let base_nonce = <[u8; 12]>::from_hex(case.base_nonce)?;
-    assert_eq!(rt; context.base_nonce().copied(), Some(base_nonce));
+    assert_same(
+        rt,
+        context.base_nonce().copied(),
+        Some(base_nonce),
+        "base nonce",
+    );
     Ok(())
 }
 
@@ -482,9 +517,9 @@ fn a_fault_is_told_by_its_number_and_in_words(rt: HostRuntime) -> Result<(), Fai
         (CallFault::ExportSize, 5, "the export is too long"),
     ];
     for (fault, number, want) in rows {
-        assert_eq!(rt; u8::from(fault), number);
+        assert_same(&rt, u8::from(fault), number, "its number");
         let text = format!(in rt.alloc(); "{fault}")?;
-        assert_eq!(rt; text.as_str(), want);
+        assert_same(&rt, text.as_str(), want, "text");
     }
     Ok(())
 }

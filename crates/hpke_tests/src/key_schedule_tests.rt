@@ -1,6 +1,6 @@
 //! Published vectors: the key schedule, exports and nonces.
 
-use crate::expected::assert_bytes;
+use crate::expected::{assert_bytes, assert_same};
 use hex::{FromHex, decode};
 use hkdf_labelled::{Aead, Kdf, Suite, labeled_expand_into};
 use key_schedule::{CipherSecrets, Mode, PskFault, Secrets, nonce_at, schedule, verify_psk_inputs};
@@ -180,7 +180,7 @@ fn secrets_are_those_published(rt: HostRuntime) -> Result<(), Fail> {
         let (alloc, source) = (rt.alloc(), case.source);
         let secrets = secrets_of(alloc, case)?;
         let (key, base_nonce) = parts(&secrets.cipher);
-        assert_bytes(&rt, alloc, key, case.key, source, "key")?;
+        assert_bytes(&rt, alloc, key, case.key, source, "key");
         assert_bytes(
             &rt,
             alloc,
@@ -188,9 +188,9 @@ fn secrets_are_those_published(rt: HostRuntime) -> Result<(), Fail> {
             case.base_nonce,
             source,
             "base_nonce",
-        )?;
+        );
         let (exporter, want) = (secrets.exporter.as_slice(), case.exporter_secret);
-        assert_bytes(&rt, alloc, exporter, want, source, "exporter_secret")?;
+        assert_bytes(&rt, alloc, exporter, want, source, "exporter_secret");
     }
     Ok(())
 }
@@ -221,7 +221,7 @@ fn exported_values_are_those_published(rt: HostRuntime) -> Result<(), Fail> {
                 want,
                 case.source,
                 "exported_value",
-            )?;
+            );
         }
     }
     Ok(())
@@ -284,7 +284,7 @@ fn nonces_are_those_published(rt: HostRuntime) -> Result<(), Fail> {
     for case in &NONCES {
         let base_nonce = <[u8; 12]>::from_hex(case.base_nonce)?;
         let nonce = nonce_at(&base_nonce, case.seq);
-        assert_bytes(&rt, rt.alloc(), &nonce, case.nonce, case.source, "nonce")?;
+        assert_bytes(&rt, rt.alloc(), &nonce, case.nonce, case.source, "nonce");
     }
     Ok(())
 }
@@ -301,9 +301,9 @@ fn a_fault_is_told_by_its_number_and_in_words(rt: HostRuntime) -> Result<(), Fai
         (PskFault::Missing, 3, "mode psk needs a psk"),
     ];
     for (fault, number, want) in rows {
-        assert_eq!(rt; u8::from(fault), number);
+        assert_same(&rt, u8::from(fault), number, "its number");
         let text = format!(in rt.alloc(); "{fault}")?;
-        assert_eq!(rt; text.as_str(), want);
+        assert_same(&rt, text.as_str(), want, "text");
     }
     Ok(())
 }

@@ -1,5 +1,6 @@
 //! Whole demonstrations.
 
+use crate::expected::assert_same;
 use batch_io::{FreeGate, MemorySink};
 use demo_runs::{DemoReport, demo, print_report};
 use field_text::Printed;
@@ -52,11 +53,11 @@ fn each_demonstration_gives_its_report(rt: HostRuntime) -> Result<(), Fail> {
         let messages = row.messages.clamp(1, 65_536);
         let lanes = row.lanes.clamp(1, 16);
         let report = demo(&rt, alloc, row.seed, messages, lanes, &FreeGate::new())?;
-        assert_eq!(rt; report, want);
+        assert_same(&rt, report, want, "report");
         let mut sink = MemorySink::new(vec![in alloc; 0; 256]?, 100, Vec::new(alloc));
         let printed = print_report(&report, &mut sink);
-        assert_eq!(rt; printed, Printed::Whole);
-        assert_eq!(rt; sink.bytes(), row.text.as_bytes());
+        assert_same(&rt, printed, Printed::Whole, "printed");
+        assert_same(&rt, sink.bytes(), row.text.as_bytes(), "what is written");
     }
     Ok(())
 }

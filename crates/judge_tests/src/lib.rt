@@ -8,6 +8,8 @@
 #[cfg(test)]
 mod demo_runs_tests;
 #[cfg(test)]
+mod expected;
+#[cfg(test)]
 mod journal_check_tests;
 #[cfg(test)]
 mod result_verdicts_tests;

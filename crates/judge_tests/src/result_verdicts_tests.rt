@@ -1,5 +1,6 @@
 //! The line of each verdict.
 
+use crate::expected::assert_same;
 use batch_io::MemorySink;
 use field_text::Printed;
 use result_verdicts::{Verdict, print_verdict};
@@ -24,11 +25,21 @@ fn each_verdict_is_printed(rt: HostRuntime) -> Result<(), Fail> {
     let alloc = rt.alloc();
     for (verdict, text) in &LINES {
         let mut sink = MemorySink::new(vec![in alloc; 0; 40]?, 40, Vec::new(alloc));
-        assert_eq!(rt; print_verdict(*verdict, &mut sink), Printed::Whole);
-        assert_eq!(rt; sink.bytes(), text.as_bytes());
+        assert_same(
+            &rt,
+            print_verdict(*verdict, &mut sink),
+            Printed::Whole,
+            "printed",
+        );
+        assert_same(&rt, sink.bytes(), text.as_bytes(), "what is written");
         let mut failing = MemorySink::new(vec![in alloc; 0; 40]?, 40, Vec::from_array(alloc, [1])?);
-        assert_eq!(rt; print_verdict(*verdict, &mut failing), Printed::Failed);
-        assert_eq!(rt; failing.bytes().len(), 0);
+        assert_same(
+            &rt,
+            print_verdict(*verdict, &mut failing),
+            Printed::Failed,
+            "a print that fails",
+        );
+        assert_same(&rt, failing.bytes().len(), 0, "bytes before the failure");
     }
     Ok(())
 }

@@ -5,6 +5,7 @@ ghost use Rattle.std.specs.Prelude.{◌≡◌, map, IfOk};
 ghost use Rattle.lattice_tests.specs.Examples.{placed, placed_at};
 ghost use Rattle.ring_core.specs.Product.{centred};
 
+use crate::expected::assert_at;
 use ring_core::{Multiplier, Params, Rq, Small};
 use std::alloc::{AllocError as OutOfMemory, Global};
 use std::process::Abort;
@@ -194,7 +195,7 @@ fn assert_product_in_q<S: Params, M: Multiplier>(
     let in_q = mult.mul_q_small(alloc, &a, &b)?;
     for k in 0..S::P {
         let number = i32::from(want.coefficient(k));
-        assert_eq!(rt; in_q.coefficient(k), number, "{source}, {k}");
+        assert_at(rt, in_q.coefficient(k), number, source, k);
     }
     Ok(())
 }
@@ -211,7 +212,7 @@ fn assert_product_in_3<S: Params, M: Multiplier>(
     let want: Small<S> = example.product.small(alloc)?;
     let in_3 = mult.mul_3(alloc, &a, &b)?;
     for k in 0..S::P {
-        assert_eq!(rt; in_3.coefficient(k), want.coefficient(k), "{source}, {k}");
+        assert_at(rt, in_3.coefficient(k), want.coefficient(k), source, k);
     }
     Ok(())
 }

@@ -8,6 +8,8 @@
 #[cfg(test)]
 mod examples;
 #[cfg(test)]
+mod expected;
+#[cfg(test)]
 mod radix_pack_tests;
 #[cfg(test)]
 mod rand_words_tests;

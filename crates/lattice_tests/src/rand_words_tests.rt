@@ -1,5 +1,6 @@
 ghost use Rattle.std.specs.Prelude.{◌≡◌};
 
+use crate::expected::{assert_at, assert_same};
 use rand_words::{SeedStream, Words, short_random, small_random};
 use ring_core::{Params, Small, Sntrup761, Sntrup857};
 use std::alloc::{AllocError as OutOfMemory, Global};
@@ -48,7 +49,7 @@ fn streams_are_those_of_chacha20(rt: HostRuntime) {
     for case in &STREAMS {
         let stream = case.stream;
         let first = first_words(SeedStream::new(&ZERO_SEED, stream));
-        assert_eq!(rt; first, case.words, "stream {stream}");
+        assert_at(&rt, first, case.words, "stream", stream);
     }
 }
 
@@ -76,8 +77,8 @@ fn assert_zeros<S: Params>(rt: &impl Abort, alloc: Global) -> Result<(), OutOfMe
         place: 0,
     };
     let zeros: Small<S> = small_random(alloc, &mut words)?;
-    assert_eq!(rt; zeros.as_slice().len(), S::P);
-    assert_eq!(rt; zeros.weight(), 0);
+    assert_same(rt, zeros.as_slice().len(), S::P, "coefficients of zero");
+    assert_same(rt, zeros.weight(), 0, "weight of zero");
     Ok(())
 }
 
@@ -140,8 +141,8 @@ fn weighted_sum(list: &[i8]) -> i64 {
 
 fn assert_mark<S: Params>(rt: &impl Abort, sample: &Small<S>, mark: &Mark, what: &str) {
     assert!(rt; sample.as_slice().starts_with(&mark.first), "{what}");
-    assert_eq!(rt; weighted_sum(sample.as_slice()), mark.sum, "{what}");
-    assert_eq!(rt; sample.weight(), mark.weight, "{what}");
+    assert_same(rt, weighted_sum(sample.as_slice()), mark.sum, what);
+    assert_same(rt, sample.weight(), mark.weight, what);
 }
 
 fn assert_samples<S: Params>(

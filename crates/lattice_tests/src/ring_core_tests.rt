@@ -2,6 +2,7 @@ ghost use Rattle.std.specs.Prelude.{◌≡◌, ◌<◌, ◌≤◌, unsigned_abs}
 ghost use Rattle.ring_core.specs.Bounds.{IsWithin};
 
 use crate::examples::{PRODUCTS_761, PRODUCTS_857, assert_products};
+use crate::expected::{assert_at, assert_same};
 use ring_core::{Multiplier, Plain, Rq, Small, Sntrup761, Sntrup857};
 use std::test::Fail;
 
@@ -38,10 +39,16 @@ fn dense_coefficient(k: usize) -> i32
 fn the_largest_coefficients_are_multiplied(rt: HostRuntime) -> Result<(), Fail> {
     let a: Rq<Sntrup761> = Rq::from_coefficients(rt.alloc(), &[2295; P])?;
     let b: Small<Sntrup761> = Small::from_coefficients(rt.alloc(), &filled(1))?;
-    assert_eq!(rt; b.weight(), P);
+    assert_same(&rt, b.weight(), P, "weight");
     let product = Plain.mul_q_small(rt.alloc(), &a, &b)?;
     for k in 0..P {
-        assert_eq!(rt; product.coefficient(k), dense_coefficient(k), "at {k}");
+        assert_at(
+            &rt,
+            product.coefficient(k),
+            dense_coefficient(k),
+            "coefficient",
+            k,
+        );
     }
     Ok(())
 }
@@ -62,7 +69,7 @@ const RESIDUES: [(i32, i32); 8] = [
 fn coefficients_are_centred(rt: HostRuntime) -> Result<(), Fail> {
     for (number, residue) in RESIDUES {
         let element: Rq<Sntrup761> = Rq::from_coefficients(rt.alloc(), &[number; P])?;
-        assert_eq!(rt; element.coefficient(760), residue, "{number}");
+        assert_at(&rt, element.coefficient(760), residue, "number", number);
     }
     Ok(())
 }
@@ -71,7 +78,7 @@ fn coefficients_are_centred(rt: HostRuntime) -> Result<(), Fail> {
 fn a_vector_of_coefficients_is_kept(rt: HostRuntime) -> Result<(), Fail> {
     let list = Vec::from_slice(rt.alloc(), &filled(-1))?;
     let element: Small<Sntrup761> = Small::from_vec(list);
-    assert_eq!(rt; element.weight(), P);
-    assert_eq!(rt; element.coefficient(760), -1);
+    assert_same(&rt, element.weight(), P, "weight");
+    assert_same(&rt, element.coefficient(760), -1, "coefficient 760");
     Ok(())
 }

@@ -1,5 +1,6 @@
 ghost use Rattle.std.specs.Prelude.{◌≤◌, unsigned_abs};
 
+use crate::expected::{assert_at, assert_same};
 use ring_core::{Multiplier, Params, Plain, Small, Sntrup761, Sntrup857};
 use ring_inverse::quick::{quick_3, quick_3f};
 use ring_inverse::{Reciprocal, reciprocal_3, reciprocal_3f};
@@ -126,12 +127,12 @@ fn assert_modulo_3<S: Params>(
     let source = case.source;
     let a: Small<S> = element(alloc, case.element)?;
     let found = quick_3(alloc, &Plain, &a)?.is_some();
-    assert_eq!(rt; found, is_inverse(&case.modulo_3), "{source}");
+    assert_same(rt, found, is_inverse(&case.modulo_3), source);
     match (reciprocal_3(alloc, &Plain, &a)?, &case.modulo_3) {
         (Reciprocal::Inverse(v), Want::Inverse(places)) => {
             for k in 0..S::P {
                 let number = i32::from(v.coefficient(k));
-                assert_eq!(rt; number, number_at(places, k), "{source}: {k}");
+                assert_at(rt, number, number_at(places, k), source, k);
             }
         }
         (Reciprocal::Annihilator(u), Want::Annihilator) => assert!(rt; u.weight() > 0, "{source}"),
@@ -148,11 +149,11 @@ fn assert_modulo_q<S: Params>(
     let source = case.source;
     let f: Small<S> = element(alloc, case.element)?;
     let found = quick_3f(alloc, &Plain, &f)?.is_some();
-    assert_eq!(rt; found, is_inverse(&case.modulo_q), "{source}");
+    assert_same(rt, found, is_inverse(&case.modulo_q), source);
     match (reciprocal_3f(alloc, &Plain, &f)?, &case.modulo_q) {
         (Reciprocal::Inverse(v), Want::Inverse(places)) => {
             for k in 0..S::P {
-                assert_eq!(rt; v.coefficient(k), number_at(places, k), "{source}: {k}");
+                assert_at(rt, v.coefficient(k), number_at(places, k), source, k);
             }
         }
         (Reciprocal::Annihilator(_), Want::Annihilator) => {}
@@ -183,7 +184,12 @@ fn assert_annihilated<S: Params>(
     match reciprocal_3(alloc, &Plain, &a)? {
         Reciprocal::Annihilator(u) => {
             assert!(rt; u.weight() > 0);
-            assert_eq!(rt; Plain.mul_3(alloc, &u, &a)?.weight(), 0);
+            assert_same(
+                rt,
+                Plain.mul_3(alloc, &u, &a)?.weight(),
+                0,
+                "weight of the product",
+            );
         }
         Reciprocal::Inverse(_) => assert!(rt; false),
     }
@@ -206,7 +212,7 @@ fn assert_dense_modulo_3(
         Some(v) => {
             for (k, number) in DENSE_MODULO_3 {
                 if *k < P {
-                    assert_eq!(rt; i32::from(v.coefficient(*k)), *number, "{k}");
+                    assert_at(rt, i32::from(v.coefficient(*k)), *number, "coefficient", k);
                 }
             }
         }
@@ -224,7 +230,7 @@ fn assert_dense_modulo_q(
         Reciprocal::Inverse(v) => {
             for (k, number) in DENSE_MODULO_Q {
                 if *k < P {
-                    assert_eq!(rt; v.coefficient(*k), *number, "{k}");
+                    assert_at(rt, v.coefficient(*k), *number, "coefficient", k);
                 }
             }
         }

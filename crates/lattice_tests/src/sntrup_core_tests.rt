@@ -1,5 +1,6 @@
 ghost use Rattle.std.specs.Prelude.{◌≡◌, ◌-◌, ◌≤◌};
 
+use crate::expected::{assert_at, assert_same};
 use rand_words::{SeedStream, Words, short_random};
 use ring_core::{Params, Plain, Small, Sntrup761, Sntrup857};
 use sntrup_core::{KeyFault, PublicPoly, SecretPolys, decrypt, encrypt, keygen};
@@ -115,16 +116,20 @@ fn assert_key<S: Params>(
     secret: &SecretPolys<S>,
 ) {
     let seed = case.seed;
-    assert_eq!(rt; mark_of(public.h.as_slice()), case.h, "h, seed {seed}");
-    assert_eq!(rt;
+    assert_at(rt, mark_of(public.h.as_slice()), case.h, "h of seed", seed);
+    assert_at(
+        rt,
         mark_of_small(secret.f.as_slice()),
         case.f,
-        "f, seed {seed}"
+        "f of seed",
+        seed,
     );
-    assert_eq!(rt;
+    assert_at(
+        rt,
         mark_of_small(secret.ginv.as_slice()),
         case.ginv,
-        "1/g, seed {seed}"
+        "1/g of seed",
+        seed,
     );
 }
 
@@ -138,11 +143,11 @@ fn assert_round_trip<S: Params>(
 ) -> Result<(), OutOfMemory> {
     let seed = case.seed;
     let r = short_of::<S>(alloc, seed)?;
-    assert_eq!(rt; mark_of_small(r.as_slice()), case.r, "r, seed {seed}");
+    assert_at(rt, mark_of_small(r.as_slice()), case.r, "r of seed", seed);
     let c = encrypt(alloc, &Plain, &r, public)?;
-    assert_eq!(rt; mark_of(c.as_slice()), case.c, "c, seed {seed}");
+    assert_at(rt, mark_of(c.as_slice()), case.c, "c of seed", seed);
     let decrypted = decrypt(alloc, &Plain, &c, secret)?;
-    assert_eq!(rt; decrypted.as_slice(), r.as_slice(), "seed {seed}");
+    assert_at(rt, decrypted.as_slice(), r.as_slice(), "seed", seed);
     Ok(())
 }
 
@@ -211,8 +216,8 @@ fn middle_then_stream(middle: u64) -> Late
 fn assert_exhausted<S: Params>(rt: &impl Abort, alloc: Global, count: u64) {
     let mut words = middle_then_stream(count);
     let made = keygen::<S, Late, Plain>(alloc, &mut words, &Plain);
-    assert_eq!(rt; made.err(), Some(KeyFault::Exhausted), "{count} words");
-    assert_eq!(rt; words.given, count);
+    assert_at(rt, made.err(), Some(KeyFault::Exhausted), "words", count);
+    assert_same(rt, words.given, count, "words taken");
 }
 
 #[test]
@@ -250,7 +255,7 @@ fn each_fault_is_printed(rt: HostRuntime) -> Result<(), Fail> {
         (KeyFault::OutOfMemory, "out of memory"),
     ] {
         let printed = format!(in rt.alloc(); "{fault}")?;
-        assert_eq!(rt; printed.as_str(), text);
+        assert_same(&rt, printed.as_str(), text, "printed");
     }
     Ok(())
 }

@@ -4,6 +4,7 @@ mod refusals;
 mod rejections;
 mod vectors;
 
+use crate::expected::assert_same;
 use hex::FromHex;
 use rand_words::SeedStream;
 use ring_core::{Plain, Sntrup761, Sntrup857};
@@ -55,7 +56,7 @@ fn assert_exchange<S: KemParams>(rt: &impl Abort, alloc: Global) {
         alloc, &mut words, &Lanes, &Karatsuba, &Plain,
     );
     let (sent, received) = made.expect(rt, "an exchange");
-    assert_eq!(rt; sent, received);
+    assert_same(rt, sent, received, "sent");
 }
 
 #[test]

@@ -4,6 +4,7 @@ mod gates;
 mod memory;
 mod streams;
 
+use crate::expected::assert_same;
 use batch_io::{Got, Sink, Source, Took};
 use std::process::Abort;
 
@@ -19,10 +20,10 @@ pub fn expect_reads<S: Source>(
     for want in gives {
         let mut buf = [0; 4];
         let got = source.read(&mut buf);
-        assert_eq!(rt; got, *want, "{name}");
+        assert_same(rt, got, *want, name);
         if let Got::Bytes(count) = got {
             assert!(rt; count <= rest.len(), "{name}");
-            assert_eq!(rt; &buf[..count], &rest[..count], "{name}");
+            assert_same(rt, &buf[..count], &rest[..count], name);
             rest = &rest[count..];
         }
     }
@@ -40,7 +41,7 @@ pub fn expect_writes<K: Sink>(
     let mut rest = bytes;
     for want in takes {
         let took = sink.write(rest);
-        assert_eq!(rt; took, *want, "{name}");
+        assert_same(rt, took, *want, name);
         if let Took::Bytes(count) = took {
             rest = &rest[count..];
         }

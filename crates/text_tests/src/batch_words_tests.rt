@@ -2,7 +2,8 @@
 
 mod no_commands;
 
-use crate::batch_words_tests::no_commands::{DASHES, NO_COMMANDS};
+use crate::batch_words_tests::no_commands::NO_COMMANDS;
+use crate::expected::{assert_at, assert_same};
 use batch_words::{Command, Mult, Schedule, read_words};
 use std::alloc::{AllocError, Global};
 use std::process::Abort;
@@ -108,10 +109,12 @@ fn words_of_a_run_are_read(rt: HostRuntime) -> Result<(), Fail> {
     for (words, workers, mult) in &RUNS {
         let (words, workers, mult) = (*words, *workers, *mult);
         let read = read_words(alloc, &strings(alloc, words)?)?;
-        assert_eq!(rt;
+        assert_at(
+            &rt,
             run_of(read, words.first().copied().unwrap_or("")),
             Some((workers, mult)),
-            "{words:?}"
+            "words",
+            words,
         );
     }
     Ok(())
@@ -126,7 +129,7 @@ fn words_of_a_rehearsal_are_read(rt: HostRuntime) -> Result<(), Fail> {
         let schedule = schedule_of(read);
         assert!(rt; schedule.is_some(), "{words:?}");
         if let Some(schedule) = schedule {
-            assert_eq!(rt; schedule.as_slice(), lanes, "{words:?}");
+            assert_at(&rt, schedule.as_slice(), lanes, "words", words);
         }
     }
     Ok(())
@@ -152,10 +155,12 @@ fn words_of_a_demonstration_are_read(rt: HostRuntime) -> Result<(), Fail> {
     for (words, seed, messages, lanes) in &DEMOS {
         let (words, seed, messages, lanes) = (*words, *seed, *messages, *lanes);
         let read = read_words(alloc, &strings(alloc, words)?)?;
-        assert_eq!(rt;
+        assert_at(
+            &rt,
             numbers_of(read),
             Some((seed, messages, lanes)),
-            "{words:?}"
+            "words",
+            words,
         );
     }
     Ok(())
@@ -180,25 +185,33 @@ fn multipliers_of_other_commands_are_read(rt: HostRuntime) -> Result<(), Fail> {
     let alloc = rt.alloc();
     for (words, mult) in &MULTS {
         let (words, mult) = (*words, *mult);
-        assert_eq!(rt;
+        assert_at(
+            &rt,
             mult_of(alloc, "check", words)?,
             Some(mult),
-            "check {words:?}"
+            "check",
+            words,
         );
-        assert_eq!(rt;
+        assert_at(
+            &rt,
             mult_of(alloc, "capsules", words)?,
             Some(mult),
-            "capsules {words:?}"
+            "capsules",
+            words,
         );
     }
     Ok(())
 }
 
-fn expect_none(rt: &impl Abort, alloc: Global, table: &[&[&str]]) -> Result<(), AllocError> {
-    for words in table {
-        let words = *words;
-        let read = read_words(alloc, &strings(alloc, words)?)?;
-        assert!(rt; read.is_none(), "{words:?}");
+// The words of each line spell no command.
+fn expect_none(rt: &impl Abort, alloc: Global, lines: &str) -> Result<(), AllocError> {
+    for line in lines.lines() {
+        let mut words = Vec::new(alloc);
+        for word in line.split("|") {
+            words.push(String::from_str(alloc, word)?)?;
+        }
+        let read = read_words(alloc, &words)?;
+        assert!(rt; read.is_none(), "{line}");
     }
     Ok(())
 }
@@ -206,8 +219,11 @@ fn expect_none(rt: &impl Abort, alloc: Global, table: &[&[&str]]) -> Result<(), 
 #[test]
 fn other_words_spell_no_command(rt: HostRuntime) -> Result<(), Fail> {
     let alloc = rt.alloc();
-    expect_none(&rt, alloc, NO_COMMANDS.as_slice())?;
-    expect_none(&rt, alloc, DASHES.as_slice())?;
+    for lines in &NO_COMMANDS {
+        expect_none(&rt, alloc, lines)?;
+    }
+    let read = read_words(alloc, &Vec::new(alloc))?;
+    assert!(rt; read.is_none(), "no words");
     Ok(())
 }
 
@@ -229,7 +245,12 @@ fn steps_read(alloc: Global, steps: usize) -> Result<Option<usize>, AllocError> 
 #[test]
 fn a_schedule_has_at_most_65536_steps(rt: HostRuntime) -> Result<(), Fail> {
     let alloc = rt.alloc();
-    assert_eq!(rt; steps_read(alloc, 65_536)?, Some(65_536));
-    assert_eq!(rt; steps_read(alloc, 65_537)?, None);
+    assert_same(
+        &rt,
+        steps_read(alloc, 65_536)?,
+        Some(65_536),
+        "65,536 steps",
+    );
+    assert_same(&rt, steps_read(alloc, 65_537)?, None, "65,537 steps");
     Ok(())
 }

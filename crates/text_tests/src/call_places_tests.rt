@@ -1,6 +1,7 @@
 ghost use Rattle.std.specs.Prelude.{◌≡◌, []};
 ghost use Rattle.call_places.specs.Entries.{last_of};
 
+use crate::expected::{assert_at, assert_same};
 use call_places::{
     Act, Entry, Item, Listed, Mark, Place, Span, Step, a_name_is_live_until_it_is_retired,
     a_note_changes_its_own_name, later_entries_change_no_number,
@@ -75,18 +76,18 @@ fn a_log_is_listed_and_shows_its_last_entry(rt: HostRuntime) -> Result<(), Fail>
         limit: 2,
         quotas: LinkedList::new(alloc),
     };
-    assert_eq!(rt; last_of_listed(&log), None);
+    assert_same(&rt, last_of_listed(&log), None, "the last that is listed");
     let mut call = 0;
     for (step, advances) in STEPS {
-        assert_eq!(rt; step.advances(), advances, "{step:?}");
+        assert_at(&rt, step.advances(), advances, "step", step);
         let next = entry(call, step);
         log.entries.push(next)?;
-        assert_eq!(rt; last_of_listed(&log), Some(next), "{step:?}");
+        assert_at(&rt, last_of_listed(&log), Some(next), "step", step);
         let mark = Mark {
             place: next.place,
             stamp: next.stamp,
         };
-        assert_eq!(rt; next.mark(), mark, "{step:?}");
+        assert_at(&rt, next.mark(), mark, "step", step);
         call = call.wrapping_add(1);
     }
     later_entries_change_no_number(&log.entries, &log.entries);

@@ -1,6 +1,7 @@
 //! Texts that are read, texts that are bad, and replies that are printed.
 
 use crate::bad_case::BadCase;
+use crate::expected::assert_same;
 use crate::sinks::sink_of;
 use call_places::Span;
 use capsule_frames::{CapsuleLine, CapsuleRefusal, CapsuleReply, print_capsules, read_capsules};
@@ -129,7 +130,7 @@ fn bad_texts_have_their_first_reason(rt: HostRuntime) -> Result<(), Fail> {
             Ok(_plan) => panic!(rt; "a batch: {what}"),
             Err(ReadBatchFault::OutOfMemory) => panic!(rt; "memory"),
             Err(ReadBatchFault::Bad(bad)) => {
-                assert_eq!(rt; bad, BadBatch { line, reason }, "{what}")
+                assert_same(&rt, bad, BadBatch { line, reason }, what)
             }
         }
     }
@@ -146,18 +147,20 @@ fn each_kind_is_counted_by_itself(rt: HostRuntime) -> Result<(), Fail> {
     let end = text.len();
     text.extend_from_slice(b"end\n")?;
     match read_capsules(rt.alloc(), &text) {
-        Ok(batch) => assert_eq!(rt; batch.lines.as_slice().len(), 257),
+        Ok(batch) => assert_same(&rt, batch.lines.as_slice().len(), 257, "how many lines"),
         Err(_fault) => panic!(rt; "256 lines of one kind"),
     }
     text.truncate(end);
     text.extend_from_slice(b"take 0 @0\nend\n")?;
     match read_capsules(rt.alloc(), &text) {
-        Err(ReadBatchFault::Bad(bad)) => assert_eq!(rt;
+        Err(ReadBatchFault::Bad(bad)) => assert_same(
+            &rt,
             bad,
             BadBatch {
                 line: 259,
-                reason: Reason::Count
-            }
+                reason: Reason::Count,
+            },
+            "bad",
         ),
         _ => panic!(rt; "257 lines of one kind"),
     }
@@ -171,9 +174,11 @@ fn a_batch_is_read(rt: HostRuntime) -> Result<(), Fail> {
     let Ok(batch) = read_capsules(rt.alloc(), text) else {
         panic!(rt; "a batch");
     };
-    assert_eq!(rt;
+    assert_same(
+        &rt,
         batch.plan.pool.as_slice(),
-        &[0x42, 0x65, 0xaa, 0xaa, 0x00, 0xff][..]
+        &[0x42, 0x65, 0xaa, 0xaa, 0x00, 0xff][..],
+        "pool",
     );
     let want = [
         CapsuleLine::Ask {
@@ -195,7 +200,7 @@ fn a_batch_is_read(rt: HostRuntime) -> Result<(), Fail> {
             response: EncField::Bytes(Span { start: 4, len: 2 }),
         },
     ];
-    assert_eq!(rt; batch.lines.as_slice(), &want[..]);
+    assert_same(&rt, batch.lines.as_slice(), &want[..], "lines");
     Ok(())
 }
 
@@ -220,8 +225,13 @@ fn replies_are_printed(rt: HostRuntime) -> Result<(), Fail> {
             CapsuleReply::Refused(CapsuleRefusal::NonceSize),
         ],
     )?;
-    let mut sink = sink_of(alloc, 2_000, 0)?;
-    assert_eq!(rt; print_capsules(&keys, &replies, &mut sink), Printed::Whole);
+    let mut sink = sink_of(&rt, alloc, 2_000, 0);
+    assert_same(
+        &rt,
+        print_capsules(&keys, &replies, &mut sink),
+        Printed::Whole,
+        "printed",
+    );
     let want =
         b"hpkebatch 2\nkey 0 peer\nasked 01\nanswered 02 03\ntook -\nrefused noncesize\nend\n";
     assert!(rt; sink.bytes() == want.as_slice(), "the reply");

@@ -1,3 +1,4 @@
+use crate::expected::assert_same;
 use decimal_text::{decimal_from_to, is_decimal, value_of};
 use std::test::Fail;
 
@@ -17,10 +18,15 @@ const NUMBERS: [(&'static [u8], Option<u64>); 9] = [
 #[test]
 fn a_decimal_writes_its_number(rt: HostRuntime) -> Result<(), Fail> {
     for (text, want) in &NUMBERS {
-        assert_eq!(rt; decimal_from_to(text, 1, 65_535), *want);
+        assert_same(&rt, decimal_from_to(text, 1, 65_535), *want, "number");
     }
     let greatest: &[u8] = b"18446744073709551615";
     assert!(rt; is_decimal(greatest));
-    assert_eq!(rt; value_of(greatest), Some(u64::MAX));
+    assert_same(
+        &rt,
+        value_of(greatest),
+        Some(u64::MAX),
+        "the greatest number",
+    );
     Ok(())
 }

@@ -18,6 +18,8 @@ mod capsule_frames_tests;
 #[cfg(test)]
 mod decimal_text_tests;
 #[cfg(test)]
+mod expected;
+#[cfg(test)]
 mod field_text_tests;
 #[cfg(test)]
 mod live_frames_tests;

@@ -4,6 +4,7 @@ ghost use Rattle.std.specs.Prelude.{IsTrue};
 ghost use Rattle.hpke_context.specs.Contexts.{encrypts};
 
 use super::calls::{QUESTION, REPLY, answered, asked, keys_of, taken};
+use crate::expected::assert_same;
 use hex::FromHex;
 use hkdf_labelled::{Aead, Kdf, Suite};
 use ring_core::{Sntrup761, Sntrup857};
@@ -112,7 +113,7 @@ fn assert_encrypts(rt: &impl Abort, aead: Aead)
 
 fn assert_digest(rt: &impl Abort, bytes: &[u8], digits: &str) {
     let want = <[u8; 32]>::from_hex(digits).expect(rt, "64 hex digits");
-    assert_eq!(rt; Sha256::digest(bytes), want, "{digits}");
+    assert_same(rt, Sha256::digest(bytes), want, digits);
 }
 
 fn assert_exchange<R: Abort + Threads + Sync, S: KemParams>(
@@ -170,10 +171,25 @@ fn texts_of_all_lengths_are_exchanged(rt: HostRuntime) -> Result<(), Fail> {
         let (asked, request) = asked(&rt, alloc, &public, &suite, &text);
         let answer = answered(&rt, alloc, &secret, request.as_slice(), &[3; 32], &text);
         let (question, response) = answer.expect(&rt, "an answer");
-        assert_eq!(rt; question.as_slice().len(), length);
-        assert_eq!(rt; response.as_slice().len(), 32 + length + 16);
+        assert_same(
+            &rt,
+            question.as_slice().len(),
+            length,
+            "size of the question",
+        );
+        assert_same(
+            &rt,
+            response.as_slice().len(),
+            32 + length + 16,
+            "size of the response",
+        );
         let reply = taken(&rt, alloc, &asked, response.as_slice()).expect(&rt, "a reply");
-        assert_eq!(rt; Sha256::digest(reply.as_slice()), Sha256::digest(&text));
+        assert_same(
+            &rt,
+            Sha256::digest(reply.as_slice()),
+            Sha256::digest(&text),
+            "reply",
+        );
     }
     Ok(())
 }

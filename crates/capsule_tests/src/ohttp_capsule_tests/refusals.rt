@@ -1,6 +1,7 @@
 //! Messages that are spoilt, and why each is refused.
 
 use super::calls::{QUESTION, REPLY, answered, asked, keys_of, taken};
+use crate::expected::assert_same;
 use hkdf_labelled::{Aead, Kdf, Suite};
 use ohttp_capsule::{Asked, CapsuleFault};
 use radix_pack::ByteList;
@@ -183,7 +184,7 @@ fn assert_request_refused<R: Abort + Threads + Sync>(
     let request = spoil(rt, alloc, request, case);
     match answered(rt, alloc, secret, request.as_slice(), &nonce[..size], REPLY) {
         Ok(_pair) => panic!(rt; "answered: {what}"),
-        Err(fault) => assert_eq!(rt; fault, want, "{what}"),
+        Err(fault) => assert_same(rt, fault, want, what),
     }
 }
 
@@ -198,7 +199,7 @@ fn assert_response_refused<R: Abort + Threads + Sync>(
     let response = spoil(rt, alloc, response, case);
     match taken(rt, alloc, asked, response.as_slice()) {
         Ok(_text) => panic!(rt; "taken: {what}"),
-        Err(fault) => assert_eq!(rt; fault, want, "{what}"),
+        Err(fault) => assert_same(rt, fault, want, what),
     }
 }
 

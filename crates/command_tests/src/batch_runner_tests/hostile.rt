@@ -1,11 +1,13 @@
 //! Ends that give and take in pieces, faults in each place, batches that are cut, and lines of malice.
 
-use crate::batch_runner_tests::outcome_of;
 use crate::batch_runner_tests::runs::SCHEDULED;
+use crate::batch_runner_tests::{assert_end, outcome_of};
+use crate::expected::{assert_at, assert_same};
 use batch_io::{FreeGate, MemorySink, MemorySource};
 use batch_runner::Outcome;
 use request_frames::Reason;
 use std::alloc::{AllocError, Global};
+use std::process::Abort;
 use std::sync::Wait;
 use std::test::Fail;
 use std::thread::Threads;
@@ -18,85 +20,74 @@ const STEPS: [usize; 5] = [1, 2, 3, 7, 65_536];
 
 // The text that an input is answered, where the ends give and take so many bytes a call, and those calls
 // fail.
-fn answer_by_steps<R: Threads + Wait + Sync>(
+fn answer_by_steps<R: Abort + Threads + Wait + Sync>(
     rt: &R,
     alloc: Global,
     input: &[u8],
     steps: (usize, usize),
     failing_reads: &[u32],
     failing_writes: &[u32],
-) -> Result<(Outcome, MemorySink), Fail> {
-    let failing = failing_reads.to_vec(alloc)?;
-    let source = MemorySource::new(input.to_vec(alloc)?, steps.0.max(1), failing);
-    let room = vec![in alloc; 0; 4096]?;
-    let mut sink = MemorySink::new(room, steps.1.max(1), failing_writes.to_vec(alloc)?);
-    let outcome = outcome_of(rt, alloc, &["run"], source, &mut sink, &FreeGate::new())?;
-    Ok((outcome, sink))
+) -> (Outcome, MemorySink) {
+    let input = input.to_vec(alloc).expect(rt, "memory");
+    let failing_reads = failing_reads.to_vec(alloc).expect(rt, "memory");
+    let failing_writes = failing_writes.to_vec(alloc).expect(rt, "memory");
+    let room = vec![in alloc; 0; 4096].expect(rt, "memory");
+    let source = MemorySource::new(input, steps.0.max(1), failing_reads);
+    let mut sink = MemorySink::new(room, steps.1.max(1), failing_writes);
+    let outcome = outcome_of(rt, alloc, &["run"], source, &mut sink, &FreeGate::new());
+    (outcome, sink)
 }
 
 #[test]
-fn pieces_of_each_size_are_the_same_batch(rt: HostRuntime) -> Result<(), Fail> {
-    let alloc = rt.alloc();
+fn pieces_of_each_size_are_the_same_batch(rt: HostRuntime) {
     let row = &SCHEDULED[OPENING];
+    let text = row.reply.as_bytes();
     for read in STEPS {
         for written in STEPS {
             let steps = (read, written);
-            let (outcome, sink) = answer_by_steps(
-                &rt,
-                alloc,
-                row.input.as_bytes(),
-                steps,
-                &[],
-                &[],
-            )?;
-            assert_eq!(rt; outcome, Outcome::Done, "{read} {written}");
-            assert_eq!(rt; sink.bytes(), row.reply.as_bytes(), "{read} {written}");
+            let end = answer_by_steps(&rt, rt.alloc(), row.input.as_bytes(), steps, &[], &[]);
+            assert_end(&rt, &end, Outcome::Done, text, "pieces of each size");
         }
     }
-    Ok(())
 }
 
 #[test]
-fn each_read_fails_in_turn(rt: HostRuntime) -> Result<(), Fail> {
-    let alloc = rt.alloc();
+fn each_read_fails_in_turn(rt: HostRuntime) {
     let input = SCHEDULED[OPENING].input.as_bytes();
+    let text = SCHEDULED[OPENING].reply.as_bytes();
     let reads = input.len().div_ceil(16) as u32 + 1;
     for read in 1..=reads {
-        let (outcome, sink) = answer_by_steps(&rt, alloc, input, (16, 16), &[read], &[])?;
-        assert_eq!(rt; outcome, Outcome::ReadFault, "{read}");
-        assert_eq!(rt; sink.bytes(), b"".as_slice(), "{read}");
+        let end = answer_by_steps(&rt, rt.alloc(), input, (16, 16), &[read], &[]);
+        assert_end(&rt, &end, Outcome::ReadFault, b"", "a read that fails");
     }
-    let (outcome, _) = answer_by_steps(&rt, alloc, input, (16, 16), &[reads + 1], &[])?;
-    assert_eq!(rt; outcome, Outcome::Done);
-    Ok(())
+    let end = answer_by_steps(&rt, rt.alloc(), input, (16, 16), &[reads + 1], &[]);
+    assert_end(&rt, &end, Outcome::Done, text, "no read that fails");
 }
 
 // The writes are as many as fail, one after another, until there is none to fail.
 #[test]
-fn each_write_fails_in_turn(rt: HostRuntime) -> Result<(), Fail> {
-    let alloc = rt.alloc();
+fn each_write_fails_in_turn(rt: HostRuntime) {
     let row = &SCHEDULED[OPENING];
     let whole = row.reply.as_bytes();
     let mut failed = 0;
     for write in 1..1_000 {
         let (outcome, sink) = answer_by_steps(
             &rt,
-            alloc,
+            rt.alloc(),
             row.input.as_bytes(),
             (16, 16),
             &[],
             &[write],
-        )?;
+        );
         assert!(rt; whole.starts_with(sink.bytes()), "{write}");
         if outcome == Outcome::Done {
-            assert_eq!(rt; sink.bytes(), whole);
+            assert_same(&rt, sink.bytes(), whole, "what is written");
             break;
         }
-        assert_eq!(rt; outcome, Outcome::WriteFault, "{write}");
+        assert_at(&rt, outcome, Outcome::WriteFault, "failed write", write);
         failed = write;
     }
     assert!(rt; failed as usize >= whole.len() / 16);
-    Ok(())
 }
 
 // The line that a front of a batch is answered: it has no `end`, or not even its first line.
@@ -114,9 +105,9 @@ fn a_cut_batch_is_named(rt: HostRuntime) -> Result<(), Fail> {
     let input = SCHEDULED[OPENING].input.as_bytes();
     for size in 0..input.len() {
         let front = &input[..size];
-        let (_, sink) = answer_by_steps(&rt, alloc, front, (4096, 4096), &[], &[])?;
+        let (_, sink) = answer_by_steps(&rt, alloc, front, (4096, 4096), &[], &[]);
         let wanted = cut_reply(alloc, front)?;
-        assert_eq!(rt; sink.bytes(), wanted.as_bytes(), "{size}");
+        assert_at(&rt, sink.bytes(), wanted.as_bytes(), "piece size", size);
     }
     Ok(())
 }
@@ -141,25 +132,19 @@ fn batch_with(alloc: Global, line: &[u8]) -> Result<Vec<u8>, AllocError> {
 }
 
 // How a batch of one lane with this line ends.
-fn outcome_with<R: Threads + Wait + Sync>(
-    rt: &R,
-    alloc: Global,
-    line: &[u8],
-) -> Result<Outcome, Fail> {
-    let input = batch_with(alloc, line)?;
-    let (outcome, _) = answer_by_steps(rt, alloc, &input, (4096, 4096), &[], &[])?;
-    Ok(outcome)
+fn outcome_with<R: Abort + Threads + Wait + Sync>(rt: &R, alloc: Global, line: &[u8]) -> Outcome {
+    let input = batch_with(alloc, line).expect(rt, "memory");
+    let (outcome, _) = answer_by_steps(rt, alloc, &input, (4096, 4096), &[], &[]);
+    outcome
 }
 
 #[test]
-fn lines_of_malice_are_named(rt: HostRuntime) -> Result<(), Fail> {
-    let alloc = rt.alloc();
+fn lines_of_malice_are_named(rt: HostRuntime) {
     for (line, reason) in &LINES {
         let (line, reason) = (*line, *reason);
         let bad = Outcome::BadBatch { line: 3, reason };
-        assert_eq!(rt; outcome_with(&rt, alloc, line)?, bad, "{line:?}");
+        assert_at(&rt, outcome_with(&rt, rt.alloc(), line), bad, "line", line);
     }
-    Ok(())
 }
 
 // An opening of so many messages, each of no bytes.
@@ -175,12 +160,22 @@ fn opening_of(alloc: Global, count: usize) -> Result<String, AllocError> {
 fn an_opening_has_at_most_4096_messages(rt: HostRuntime) -> Result<(), Fail> {
     let alloc = rt.alloc();
     let most = opening_of(alloc, 4_096)?;
-    assert_eq!(rt; outcome_with(&rt, alloc, most.as_bytes())?, Outcome::Done);
+    assert_same(
+        &rt,
+        outcome_with(&rt, alloc, most.as_bytes()),
+        Outcome::Done,
+        "4096 messages",
+    );
     let more = opening_of(alloc, 4_097)?;
     let bad = Outcome::BadBatch {
         line: 3,
         reason: Reason::Count,
     };
-    assert_eq!(rt; outcome_with(&rt, alloc, more.as_bytes())?, bad);
+    assert_same(
+        &rt,
+        outcome_with(&rt, alloc, more.as_bytes()),
+        bad,
+        "4097 messages",
+    );
     Ok(())
 }

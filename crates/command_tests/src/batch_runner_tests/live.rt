@@ -3,6 +3,7 @@
 
 use crate::batch_runner_tests::threads::{MOST_TURNS, sealed_numbers};
 use crate::batch_runner_tests::{answer_to, gated_answer_to};
+use crate::expected::{assert_at, assert_same};
 use batch_io::{HoldGate, MemorySink, Point};
 use batch_runner::Outcome;
 use std::alloc::Global;
@@ -27,11 +28,11 @@ fn a_lane_that_is_held_up_holds_no_add_up(rt: HostRuntime) -> Result<(), Fail> {
     for (held, other) in [(0, 1), (1, 0)] {
         let gate = HoldGate::new(held, Point::Drawn, other, MOST_TURNS);
         let words = ["live", "--workers", "2"];
-        let (outcome, sink) = gated_answer_to(&rt, alloc, &words, ADDS, 4096, &gate)?;
-        assert_eq!(rt; outcome, Outcome::Done);
+        let (outcome, sink) = gated_answer_to(&rt, alloc, &words, ADDS, 4096, &gate);
+        assert_same(&rt, outcome, Outcome::Done, "outcome");
         assert!(rt; !gate.gave_up());
         let text = str::from_utf8(sink.bytes())?;
-        assert_eq!(rt; text.split(ADDED).count(), 3);
+        assert_same(&rt, text.split(ADDED).count(), 3, "what was added");
         let mut numbers = sealed_numbers(alloc, sink.bytes())?;
         numbers.sort_unstable();
         assert!(rt; numbers.iter().copied().eq([0, 0, 0, 1]));
@@ -91,24 +92,32 @@ fn done_run<R: Abort + Threads + Wait + Sync>(
     alloc: Global,
     batch: &str,
     workers: &str,
-) -> Result<MemorySink, Fail> {
+) -> MemorySink {
     let words = ["live", "--workers", workers];
-    let (outcome, sink) = answer_to(rt, alloc, &words, batch, 4096)?;
-    assert_eq!(rt; outcome, Outcome::Done);
-    Ok(sink)
+    let (outcome, sink) = answer_to(rt, alloc, &words, batch, 4096);
+    assert_same(rt, outcome, Outcome::Done, "outcome");
+    sink
 }
 
 fn assert_refusals(rt: &impl Abort, text: &str, found: usize, workers: &str) -> Result<(), Fail> {
     let (first, second) = text.split_once("lane 1\n").ok_or("two lanes")?;
-    assert_eq!(rt; first.split("\nsealed ").count(), 51, "{workers}");
-    assert_eq!(rt; first.split("refused nocontext\n").count(), 51, "{workers}");
-    assert_eq!(rt;
+    assert_at(rt, first.split("\nsealed ").count(), 51, "workers", workers);
+    assert_at(
+        rt,
+        first.split("refused nocontext\n").count(),
+        51,
+        "workers",
+        workers,
+    );
+    assert_at(
+        rt,
         second
             .split("refused nocontext\n")
             .count()
             .wrapping_add(found),
         101,
-        "{workers}"
+        "workers",
+        workers,
     );
     Ok(())
 }
@@ -135,7 +144,7 @@ fn each_look_is_answered_by_the_table(rt: HostRuntime) -> Result<(), Fail> {
     let alloc = rt.alloc();
     let batch = racing_lanes(alloc)?;
     for workers in ["1", "2", "4"] {
-        let sink = done_run(&rt, alloc, &batch, workers)?;
+        let sink = done_run(&rt, alloc, &batch, workers);
         let text = str::from_utf8(sink.bytes())?;
         let found = found_by_lane_1(text).ok_or("a note that tells what is live")?;
         assert_refusals(&rt, text, found, workers)?;
@@ -159,10 +168,10 @@ fn adding_lanes(alloc: Global) -> Result<String, Fail> {
 }
 
 fn assert_all_added(rt: &impl Abort, text: &str) -> Result<(), Fail> {
-    assert_eq!(rt; text.split("added\n").count(), 257);
-    assert_eq!(rt; text.split("\njournal +").count(), 257);
+    assert_same(rt, text.split("added\n").count(), 257, "lines of adds");
+    assert_same(rt, text.split("\njournal +").count(), 257, "journals");
     let (_, table) = text.split_once("table\n").ok_or("a table")?;
-    assert_eq!(rt; table.lines().count(), 16 * 18 + 1);
+    assert_same(rt, table.lines().count(), 16 * 18 + 1, "lines of the table");
     Ok(())
 }
 
@@ -170,7 +179,7 @@ fn assert_all_added(rt: &impl Abort, text: &str) -> Result<(), Fail> {
 fn sixteen_lanes_add_256_contexts(rt: HostRuntime) -> Result<(), Fail> {
     let alloc = rt.alloc();
     let batch = adding_lanes(alloc)?;
-    let sink = done_run(&rt, alloc, &batch, "16")?;
+    let sink = done_run(&rt, alloc, &batch, "16");
     assert_all_added(&rt, str::from_utf8(sink.bytes())?)?;
     Ok(())
 }

@@ -1,6 +1,7 @@
 //! Runs whose lanes threads serve. Which of the allowed texts comes depends on the threads.
 
-use crate::batch_runner_tests::{answer_to, gated_answer_to};
+use crate::batch_runner_tests::{answer_to, assert_end, gated_answer_to};
+use crate::expected::assert_same;
 use batch_io::{HoldGate, Point};
 use batch_runner::Outcome;
 use std::alloc::Global;
@@ -22,45 +23,46 @@ const SEALS: &str =
     "hpkebatch 1\nshare send 32 1 1 fe0e18c9f024ce43799ae393c7e8fe8fce9d218875e8227b0187c04e7d2ea1fc base 4f6465206f6e2061204772656369616e2055726e - - 9\nlane\nseal 0 436f756e742d30 4265617574792069732074727574682c20747275746820626561757479\nlane\nseal 0 436f756e742d30 4265617574792069732074727574682c20747275746820626561757479\nend\n";
 
 #[test]
-fn an_opening_that_is_held_up_is_answered_at_its_place(rt: HostRuntime) -> Result<(), Fail> {
+fn an_opening_that_is_held_up_is_answered_at_its_place(rt: HostRuntime) {
     let gate = HoldGate::new(0, Point::Guessed, 1, MOST_TURNS);
     let words = ["run", "--workers", "2"];
-    let (outcome, sink) = gated_answer_to(&rt, rt.alloc(), &words, OPENINGS, 4096, &gate)?;
-    assert_eq!(rt; outcome, Outcome::Done);
-    assert_eq!(rt; sink.bytes(), OPENED.as_bytes());
+    let end = gated_answer_to(&rt, rt.alloc(), &words, OPENINGS, 4096, &gate);
+    assert_end(
+        &rt,
+        &end,
+        Outcome::Done,
+        OPENED.as_bytes(),
+        "lane 0 is held",
+    );
     assert!(rt; !gate.gave_up());
-    Ok(())
 }
 
 // Whichever lane is held at its draw, the other one answers meanwhile: so no lane waits for the other
 // lane's call to end, and the text is that of one of the two orders.
 #[test]
-fn a_seal_that_is_held_up_holds_no_other_lane_up(rt: HostRuntime) -> Result<(), Fail> {
+fn a_seal_that_is_held_up_holds_no_other_lane_up(rt: HostRuntime) {
     let alloc = rt.alloc();
-    let (_, first) = answer_to(&rt, alloc, &["rehearse", "0,1"], SEALS, 4096)?;
-    let (_, second) = answer_to(&rt, alloc, &["rehearse", "1,0"], SEALS, 4096)?;
+    let (_, first) = answer_to(&rt, alloc, &["rehearse", "0,1"], SEALS, 4096);
+    let (_, second) = answer_to(&rt, alloc, &["rehearse", "1,0"], SEALS, 4096);
     assert!(rt; first.bytes() != second.bytes());
     for (held, other) in [(0, 1), (1, 0)] {
         let gate = HoldGate::new(held, Point::Drawn, other, MOST_TURNS);
         let words = ["run", "--workers", "2"];
-        let (outcome, sink) = gated_answer_to(&rt, alloc, &words, SEALS, 4096, &gate)?;
-        assert_eq!(rt; outcome, Outcome::Done);
+        let (outcome, sink) = gated_answer_to(&rt, alloc, &words, SEALS, 4096, &gate);
+        assert_same(&rt, outcome, Outcome::Done, "outcome");
         assert!(rt; sink.bytes() == first.bytes() || sink.bytes() == second.bytes());
         assert!(rt; !gate.gave_up());
     }
-    Ok(())
 }
 
 // One worker serves lane 0 first.
 #[test]
-fn one_worker_serves_the_lanes_in_order(rt: HostRuntime) -> Result<(), Fail> {
+fn one_worker_serves_the_lanes_in_order(rt: HostRuntime) {
     let alloc = rt.alloc();
-    let (_, first) = answer_to(&rt, alloc, &["rehearse", "-"], SEALS, 4096)?;
+    let (_, first) = answer_to(&rt, alloc, &["rehearse", "-"], SEALS, 4096);
     let words = ["run", "--mult=plain", "--workers=1"];
-    let (outcome, sink) = answer_to(&rt, alloc, &words, SEALS, 4096)?;
-    assert_eq!(rt; outcome, Outcome::Done);
-    assert_eq!(rt; sink.bytes(), first.bytes());
-    Ok(())
+    let end = answer_to(&rt, alloc, &words, SEALS, 4096);
+    assert_end(&rt, &end, Outcome::Done, first.bytes(), "one worker");
 }
 
 // ---- sixteen lanes
@@ -97,8 +99,8 @@ fn each_number_is_used_once_by_whichever_lane(rt: HostRuntime) -> Result<(), Fai
     let batch = sixteen_lanes(alloc)?;
     for workers in ["1", "2", "3", "4", "16"] {
         let words = ["run", "--workers", workers];
-        let (outcome, sink) = answer_to(&rt, alloc, &words, &batch, 4096)?;
-        assert_eq!(rt; outcome, Outcome::Done);
+        let (outcome, sink) = answer_to(&rt, alloc, &words, &batch, 4096);
+        assert_same(&rt, outcome, Outcome::Done, "outcome");
         let mut numbers = sealed_numbers(alloc, sink.bytes())?;
         for lane in numbers.chunks(2) {
             assert!(rt; lane.is_sorted(), "{workers}");

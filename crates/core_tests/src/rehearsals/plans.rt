@@ -15,7 +15,7 @@ use hex::FromHex;
 use hkdf_labelled::{Aead, Kdf};
 use key_schedule::{Mode, Role};
 use std::alloc::Global;
-use std::test::Fail;
+use std::process::Abort;
 use std::thread::Threads;
 
 // RFC 9180, A.1.1.1: both aads of the sequence numbers 0 and 1, pt, both ciphertexts; then the
@@ -115,77 +115,86 @@ fn line(role: Role, limit: u64) -> ContextLine
 }
 
 // The messages, and zeros behind them.
-fn pool(alloc: Global) -> Result<ByteList, Fail>
-    ensures { IfOk result (λ pool. length pool ≡ 1024) }
+fn pool(rt: &impl Abort, alloc: Global) -> ByteList
+    ensures { length result ≡ 1024 }
 {
     let mut pool = [0; 1024];
-    pool[..223].copy_from_slice(&<[u8; 223]>::from_hex(POOL)?);
-    Ok(PlainList::from_vec(Vec::from_slice(alloc, &pool)?))
+    let messages = <[u8; 223]>::from_hex(POOL).expect(rt, "hex");
+    pool[..223].copy_from_slice(&messages);
+    PlainList::from_vec(Vec::from_slice(alloc, &pool).expect(rt, "memory"))
 }
 
 // Context 0 seals and context 1 opens.
-fn contexts(alloc: Global, limit: u64) -> Result<ContextLines, Fail>
-    ensures { IfOk result (λ lines. lines ≡ two_lines limit) }
+fn contexts(rt: &impl Abort, alloc: Global, limit: u64) -> ContextLines
+    ensures { result ≡ two_lines limit }
 {
     let lines = [line(Role::Sender, limit), line(Role::Recipient, limit)];
-    Ok(PlainList::from_vec(Vec::from_slice(alloc, &lines)?))
+    PlainList::from_vec(Vec::from_slice(alloc, &lines).expect(rt, "memory"))
 }
 
-fn lanes(alloc: Global, first: &[CallLine], second: &[CallLine]) -> Result<LaneLines, Fail>
-    ensures { IfOk result (λ lanes. lanes ≡ first.now ∷ second.now ∷ []) }
+fn lanes(rt: &impl Abort, alloc: Global, first: &[CallLine], second: &[CallLine]) -> LaneLines
+    ensures { result ≡ first.now ∷ second.now ∷ [] }
 {
-    let first = PlainList::from_vec(Vec::from_slice(alloc, first)?);
-    let second = PlainList::from_vec(Vec::from_slice(alloc, second)?);
-    Ok(PlainList::from_vec(Vec::from_array(alloc, [first, second])?))
+    let first = PlainList::from_vec(Vec::from_slice(alloc, first).expect(rt, "memory"));
+    let second = PlainList::from_vec(Vec::from_slice(alloc, second).expect(rt, "memory"));
+    PlainList::from_vec(Vec::from_array(alloc, [first, second]).expect(rt, "memory"))
+}
+
+fn items(rt: &impl Abort, alloc: Global) -> PlainList<Item>
+    ensures { result ≡ ITEMS }
+{
+    PlainList::from_vec(Vec::from_slice(alloc, &ITEMS).expect(rt, "memory"))
 }
 
 // The pool has bytes for each call of its own, as each line of a text has.
-fn plan_of(alloc: Global, limit: u64, first: &[CallLine], second: &[CallLine]) -> Result<Plan, Fail>
+fn plan_of(
+    rt: &impl Abort,
+    alloc: Global,
+    limit: u64,
+    first: &[CallLine],
+    second: &[CallLine],
+) -> Plan
     requires limit { 1 ≤ limit }
     requires small { IsTrue (are_small ITEMS (first.now ∷ second.now ∷ [])) }
-    ensures within { IfOk result (λ plan. IsWithinLimits plan) }
-    ensures plain { IfOk result (λ plan. IsPlain plan) }
-    ensures keys { IfOk result (λ plan. plan.keys ≡ []) }
-    ensures contexts { IfOk result (λ plan. plan.contexts ≡ two_lines limit) }
+    ensures within { IsWithinLimits result }
+    ensures plain { IsPlain result }
+    ensures keys { result.keys ≡ [] }
+    ensures contexts { result.contexts ≡ two_lines limit }
 {
-    let pool = pool(alloc)?;
-    let contexts = contexts(alloc, limit)?;
-    let lanes = lanes(alloc, first, second)?;
-    let items = PlainList::from_vec(Vec::from_slice(alloc, &ITEMS)?);
-    Ok(Plan {
+    Plan {
         version: 2,
         seed: None,
-        pool,
+        pool: pool(rt, alloc),
         keys: PlainList::from_vec(Vec::new(alloc)),
-        contexts,
-        items,
-        lanes,
+        contexts: contexts(rt, alloc, limit),
+        items: items(rt, alloc),
+        lanes: lanes(rt, alloc, first, second),
         added: 0,
-    })
+    }
 }
 
-pub(crate) fn rehearsed<R: Threads + Sync>(
+pub(crate) fn rehearsed<R: Abort + Threads + Sync>(
     rt: &R,
     alloc: Global,
     limit: u64,
     first: &[CallLine],
     second: &[CallLine],
     schedule: &[u8],
-) -> Result<Answers, Fail>
+) -> Answers
     requires limit { 1 ≤ limit }
     requires small { IsTrue (are_small ITEMS (first.now ∷ second.now ∷ [])) }
 {
-    let plan = plan_of(alloc, limit, first, second)?;
+    let plan = plan_of(rt, alloc, limit, first, second);
     let contexts = [
-        Some(context_of(Role::Sender, limit)?),
-        Some(context_of(Role::Recipient, limit)?),
+        Some(context_of(rt, Role::Sender, limit)),
+        Some(context_of(rt, Role::Recipient, limit)),
     ];
     let keys = PlainList::from_vec(Vec::new(alloc));
-    let replies = PlainList::from_vec(Vec::from_array(
-        alloc,
-        [ContextReply::Shared, ContextReply::Shared],
-    )?);
-    let mut answers = Answers::for_plan(alloc, &plan, keys, replies, &[8160, 8160])?;
-    rehearse(rt, alloc, &plan, &contexts, schedule, &mut answers)?;
-    Ok(answers)
+    let replies = [ContextReply::Shared, ContextReply::Shared];
+    let replies = PlainList::from_vec(Vec::from_array(alloc, replies).expect(rt, "memory"));
+    let Ok(mut answers) = Answers::for_plan(alloc, &plan, keys, replies, &[8160, 8160]) else {
+        panic!(rt; "memory");
+    };
+    rehearse(rt, alloc, &plan, &contexts, schedule, &mut answers).expect(rt, "memory");
+    answers
 }

@@ -1,11 +1,11 @@
 //! What the lanes of a rehearsal are answered with.
 
+use crate::expected::assert_same;
 use batch_plans::{Answers, Batch, LaneAnswers, Reply};
 use call_places::{Mark, Place};
 use hex::decode;
 use std::alloc::Global;
 use std::process::Abort;
-use std::test::Fail;
 
 // What a lane is answered with; the parts of its pool are in hex.
 #[derive(Clone, Copy)]
@@ -23,56 +23,50 @@ pub(crate) struct Want {
     pub(crate) journals: [&'static [(u32, u32, u32, u64)]; 2],
 }
 
-fn expect_lane(
-    rt: &impl Abort,
-    alloc: Global,
-    name: &str,
-    lane: &LaneAnswers,
-    want: &LaneWant,
-) -> Result<(), Fail> {
-    assert_eq!(rt; lane.replies.as_slice(), want.replies, "{name}");
-    assert_eq!(rt; lane.batches.as_slice(), want.batches, "{name}");
+fn pool_of(rt: &impl Abort, alloc: Global, want: &LaneWant) -> Vec<u8> {
     let mut pool = Vec::new(alloc);
     for part in want.pool {
-        pool.extend_from_slice(decode(alloc, part)?.as_slice())?;
+        let part = decode(alloc, part).expect(rt, "hex");
+        pool.extend_from_slice(part.as_slice()).expect(rt, "memory");
     }
-    assert_eq!(rt; lane.pool.as_slice(), pool.as_slice(), "{name}");
-    Ok(())
+    pool
+}
+
+fn expect_lane(rt: &impl Abort, alloc: Global, name: &str, lane: &LaneAnswers, want: &LaneWant) {
+    let pool = pool_of(rt, alloc, want);
+    assert_same(rt, lane.replies.as_slice(), want.replies, name);
+    assert_same(rt, lane.batches.as_slice(), want.batches, name);
+    assert_same(rt, lane.pool.as_slice(), pool.as_slice(), name);
 }
 
 fn expect_journal(rt: &impl Abort, name: &str, journal: &[Mark], want: &[(u32, u32, u32, u64)]) {
-    assert_eq!(rt; journal.len(), want.len(), "{name}");
+    assert_same(rt, journal.len(), want.len(), name);
     for (mark, (lane, call, item, stamp)) in journal.iter().zip(want) {
         let place = Place {
             lane: *lane,
             call: *call,
             item: *item,
         };
-        assert_eq!(rt;
+        assert_same(
+            rt,
             *mark,
             Mark {
                 place,
-                stamp: *stamp
+                stamp: *stamp,
             },
-            "{name}"
+            name,
         );
     }
 }
 
-pub(crate) fn expect(
-    rt: &impl Abort,
-    alloc: Global,
-    answers: &Answers,
-    want: &Want,
-) -> Result<(), Fail> {
+pub(crate) fn expect(rt: &impl Abort, alloc: Global, answers: &Answers, want: &Want) {
     let name = want.name;
-    assert_eq!(rt; answers.lanes.as_slice().len(), 2, "{name}");
+    assert_same(rt, answers.lanes.as_slice().len(), 2, name);
     for (lane, want) in answers.lanes.as_slice().iter().zip(&want.lanes) {
-        expect_lane(rt, alloc, name, lane, want)?;
+        expect_lane(rt, alloc, name, lane, want);
     }
-    assert_eq!(rt; answers.journals.as_slice().len(), 2, "{name}");
+    assert_same(rt, answers.journals.as_slice().len(), 2, name);
     for (journal, want) in answers.journals.as_slice().iter().zip(&want.journals) {
         expect_journal(rt, name, journal.as_slice(), want);
     }
-    Ok(())
 }

@@ -2,6 +2,7 @@
 
 ghost use Rattle.batch_plans.specs.Limits.{IsWithinLimits};
 
+use crate::expected::{assert_at, assert_same};
 use crate::set_ups::plans::{base_line, plan_of, set_up_with, span_of};
 use batch_plans::{ContextKind, ContextLine, ContextReply, EncField, KeyLine, KeyReply, Plan};
 use call_places::Span;
@@ -17,7 +18,7 @@ use std::process::Abort;
 
 fn assert_hash(rt: &impl Abort, bytes: &[u8], digits: &str, what: &str, of: &str) {
     let want = <[u8; 32]>::from_hex(digits).expect(rt, "64 hex digits");
-    assert_eq!(rt; Sha256::digest(bytes), want, "{what}, {of}");
+    assert_at(rt, Sha256::digest(bytes), want, what, of);
 }
 
 // 32 bytes that the context of this number exports.
@@ -180,26 +181,26 @@ fn assert_sender(rt: &impl Abort, setup: &Setup, case: &ExchangeCase) {
         "encapsulation",
         of,
     );
-    assert_eq!(rt;
+    assert_at(
+        rt,
         exported(rt, setup, 0),
         exported(rt, setup, 1),
-        "session key, {of}"
+        "session key",
+        of,
     );
 }
 
 fn assert_recipients(rt: &impl Abort, first: &Setup, second: &Setup, of: &str) {
     let sent = exported(rt, first, 0);
     for number in 0..3 {
-        assert_eq!(rt;
-            exported(rt, second, number),
-            sent,
-            "context {number}, {of}"
-        );
+        assert_at(rt, exported(rt, second, number), sent, of, number);
     }
-    assert_eq!(rt;
+    assert_at(
+        rt,
         exported(rt, second, 3),
         exported(rt, second, 4),
-        "rejection key, {of}"
+        "rejection key",
+        of,
     );
     let Some(KeyReply::Secret { public: held }) = second.keys.as_slice().get(1) else {
         panic!(rt; "no secret key, {of}");
@@ -220,9 +221,11 @@ fn assert_exchange<M: Multiplier>(rt: &impl Abort, alloc: Global, case: &Exchang
     let second = set_up_with(rt, alloc, &plan, mult);
     assert_recipients(rt, &first, &second, of);
     let limits = export_limits(alloc, second.standing.as_slice()).expect(rt, "memory");
-    assert_eq!(rt;
+    assert_same(
+        rt,
         limits.as_slice(),
-        [8160, 8160, 8160, 8160, 8160].as_slice()
+        [8160, 8160, 8160, 8160, 8160].as_slice(),
+        "export limits",
     );
 }
 

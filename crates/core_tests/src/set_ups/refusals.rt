@@ -1,5 +1,6 @@
 //! Keys and contexts that are refused.
 
+use crate::expected::{assert_at, assert_same};
 use crate::set_ups::plans::{BASE, NO_BYTES, base_line, plan_of, set_up_with, span_of};
 use batch_plans::{
     ContextKind, ContextLine, ContextRefusal, ContextReply, EncField, KeyLine, KeyRefusal, KeyReply,
@@ -82,7 +83,7 @@ fn keys_are_refused_by_length_and_form(rt: HostRuntime) -> Result<(), Fail> {
     let setup = set_up_with(&rt, alloc, &plan, &Plain);
     for (number, case) in KEY_REFUSALS.iter().enumerate() {
         let reply = setup.keys.as_slice().get(number).expect(&rt, "a reply");
-        assert_eq!(rt; key_refusal_of(reply), case.1, "key {number}");
+        assert_at(&rt, key_refusal_of(reply), case.1, "key", number);
     }
     Ok(())
 }
@@ -243,9 +244,9 @@ fn assert_context(rt: &impl Abort, alloc: Global, case: &ContextCase) {
     let plan = plan_of(rt, alloc, ffs_and_zeros(rt, alloc), keys, contexts);
     let setup = set_up_with(rt, alloc, &plan, &Plain);
     let reply = setup.contexts.as_slice().last().expect(rt, "a reply");
-    assert_eq!(rt; refusal_of(reply), case.want, "{}", case.what);
+    assert_same(rt, refusal_of(reply), case.want, case.what);
     let slot = setup.standing.as_slice().last().expect(rt, "a slot");
-    assert_eq!(rt; slot.is_some(), case.want.is_none(), "{}", case.what);
+    assert_same(rt, slot.is_some(), case.want.is_none(), case.what);
 }
 
 #[test]

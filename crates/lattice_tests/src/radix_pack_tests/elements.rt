@@ -2,6 +2,7 @@ ghost use Rattle.std.specs.Prelude.{◌≡◌, length};
 ghost use Rattle.radix_pack.specs.Codings.{rounded_length};
 
 use super::{Runs, TOOL, bytes_of};
+use crate::expected::{assert_at, assert_same};
 use radix_pack::{rounded_decode, rounded_encode, rq_decode, rq_encode};
 use ring_core::{Params, Rq, Sntrup761, Sntrup857};
 use std::alloc::Global;
@@ -53,7 +54,7 @@ const RQ_857: [RqCase; 2] = [
 
 fn assert_rq_bytes(rt: &impl Abort, bytes: &[u8], case: &RqCase) {
     let source = case.source;
-    assert_eq!(rt; bytes.len(), case.length, "{source}");
+    assert_same(rt, bytes.len(), case.length, source);
     assert!(rt; bytes.starts_with(&case.first), "{source}");
     assert!(rt; bytes.ends_with(&case.last), "{source}");
     if case.coefficient < 0 {
@@ -151,10 +152,12 @@ fn assert_rounded<S: Params>(
     let element: Rq<S> = rounded_decode(alloc, bytes)?;
     for i in 0..S::P {
         let want = 3 * i32::from(case.digits[i % 2]);
-        assert_eq!(rt;
+        assert_at(
+            rt,
             element.coefficient(i).wrapping_add(case.half),
             want,
-            "{source}, at {i}"
+            source,
+            i,
         );
     }
     let encoded = rounded_encode(alloc, &element)?;

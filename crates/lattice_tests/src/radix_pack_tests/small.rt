@@ -1,6 +1,7 @@
 ghost use Rattle.std.specs.Prelude.{◌≡◌, IfOk, vec_len};
 ghost use Rattle.radix_pack.specs.Codings.{small_length};
 
+use crate::expected::assert_at;
 use radix_pack::{small_decode, small_encode};
 use ring_core::{Params, Small, Sntrup761, Sntrup857};
 use std::alloc::{AllocError as OutOfMemory, Global};
@@ -77,7 +78,7 @@ fn assert_small<S: Params>(
     match (&decoded, &case.coefficients) {
         (Some(element), Some(pattern)) => {
             for i in 0..S::P {
-                assert_eq!(rt; element.coefficient(i), pattern[i % 4], "{source}, at {i}");
+                assert_at(rt, element.coefficient(i), pattern[i % 4], source, i);
             }
             let encoded = small_encode(alloc, element)?;
             assert!(rt; encoded.as_slice() == &bytes[..], "{source}");

@@ -1,3 +1,4 @@
+use crate::expected::{assert_at, assert_same};
 use ring_core::{Sntrup761, Sntrup857};
 use sntrup_kem::{KemParams, KeyBytesFault, PublicKey, SecretKey};
 use std::alloc::{AllocError as OutOfMemory, Global};
@@ -34,13 +35,13 @@ fn assert_secrets_refused<S: KemParams>(
         small.wrapping_mul(2).wrapping_sub(1),
     ] {
         let fault = secret_fault::<S>(alloc, &secret_with::<S>(alloc, place)?);
-        assert_eq!(rt; fault, Some(KeyBytesFault::Form), "ff at {place}");
+        assert_at(rt, fault, Some(KeyBytesFault::Form), "ff at", place);
     }
     let whole = secret_with::<S>(alloc, small.wrapping_mul(2))?;
-    assert_eq!(rt; secret_fault::<S>(alloc, &whole), None);
+    assert_same(rt, secret_fault::<S>(alloc, &whole), None, "a whole key");
     for count in [S::SECRET.wrapping_sub(1), S::SECRET.wrapping_add(1)] {
         let fault = secret_fault::<S>(alloc, &vec![in alloc; 0u8; count]?);
-        assert_eq!(rt; fault, Some(KeyBytesFault::Length), "{count} bytes");
+        assert_at(rt, fault, Some(KeyBytesFault::Length), "bytes", count);
     }
     Ok(())
 }
@@ -52,7 +53,7 @@ fn assert_publics_refused<S: KemParams>(rt: &impl Abort, alloc: Global) -> Resul
         (S::PUBLIC.wrapping_add(1), Some(KeyBytesFault::Length)),
     ] {
         let fault = public_fault::<S>(alloc, &vec![in alloc; 0xffu8; count]?);
-        assert_eq!(rt; fault, want, "{count} bytes");
+        assert_at(rt, fault, want, "bytes", count);
     }
     Ok(())
 }
@@ -74,7 +75,7 @@ fn each_fault_is_printed(rt: HostRuntime) -> Result<(), Fail> {
         (KeyBytesFault::OutOfMemory, "out of memory"),
     ] {
         let printed = format!(in rt.alloc(); "{fault}")?;
-        assert_eq!(rt; printed.as_str(), text);
+        assert_same(&rt, printed.as_str(), text, "printed");
     }
     Ok(())
 }

@@ -1,6 +1,7 @@
 ghost use Rattle.std.specs.Prelude.{◌≡◌, length, IfOk, vec_len};
 
 use super::{bytes_of, decapsulated, encapsulated, keys_of};
+use crate::expected::{assert_at, assert_same};
 use radix_pack::{rounded_encode, rq_decode, small_decode, small_encode};
 use ring_core::{Plain, Small, Sntrup761, Sntrup857};
 use sha2::{Digest, Sha512};
@@ -150,10 +151,10 @@ fn assert_rejected<S: KemParams>(
     for (place, digits) in &case.spoilt {
         let other = spoilt(alloc, enc.as_slice(), *place)?;
         let key = decapsulated(rt, alloc, &other, &secret);
-        assert_eq!(rt; key, bytes_of(rt, digits), "byte {place}");
+        assert_at(rt, key, bytes_of(rt, digits), "byte", place);
     }
     let key = light_key(alloc, case.whole_bytes, &public, &secret);
-    assert_eq!(rt; key, Some(bytes_of(rt, case.light)), "weight");
+    assert_same(rt, key, Some(bytes_of(rt, case.light)), "weight");
     Ok(())
 }
 

@@ -1,4 +1,5 @@
 use super::{bytes_of, decapsulated, encapsulated, keys_of};
+use crate::expected::assert_at;
 use ring_core::{Sntrup761, Sntrup857};
 use sha2::{Digest, Sha256};
 use sntrup_kem::{KemParams, PublicKey, SecretKey};
@@ -7,7 +8,7 @@ use std::process::Abort;
 
 // Compares the bytes with 64 hex digits.
 fn assert_bytes(rt: &impl Abort, bytes: &[u8; 32], digits: &str, what: &str, of: &str) {
-    assert_eq!(rt; *bytes, bytes_of(rt, digits), "{what}, {of}");
+    assert_at(rt, *bytes, bytes_of(rt, digits), what, of);
 }
 
 struct KemCase {

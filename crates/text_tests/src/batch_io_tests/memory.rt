@@ -1,6 +1,7 @@
 //! The ends in memory, which fail on demand or never, and the gate that holds nobody.
 
 use crate::batch_io_tests::{expect_reads, expect_writes};
+use crate::expected::assert_same;
 use batch_io::{FreeGate, Gate, Got, MemorySink, MemorySource, Point, PureSink, PureSource, Took};
 use std::test::Fail;
 
@@ -132,7 +133,7 @@ fn ends_in_memory_move_in_steps_and_fail_on_demand(rt: HostRuntime) -> Result<()
         assert!(rt; case.step > 0);
         let mut sink = MemorySink::new(vec![in alloc; 0; 7]?, case.step, failing);
         expect_writes(&rt, &mut sink, case.takes, b"hpkebatch", case.name);
-        assert_eq!(rt; sink.bytes(), b"hpkebat".as_slice(), "{}", case.name);
+        assert_same(&rt, sink.bytes(), b"hpkebat".as_slice(), case.name);
     }
     Ok(())
 }

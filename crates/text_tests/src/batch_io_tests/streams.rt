@@ -3,6 +3,7 @@
 ghost use Rattle.std.specs.Prelude.{◌≤◌, IfOk};
 
 use crate::batch_io_tests::{expect_reads, expect_writes};
+use crate::expected::assert_same;
 use batch_io::{Got, Sink, Source, StdSink, StdSource, Took};
 use std::io;
 use std::io::{ErrorKind, Read, Write};
@@ -92,7 +93,7 @@ fn the_std_sink_flushes_each_write_and_answers_failed_where_one_fails(rt: HostRu
     ];
     expect_writes(&rt, &mut sink, &takes, b"batch", "std sink");
     drop(sink);
-    assert_eq!(rt; writer.flushed, 5);
+    assert_same(&rt, writer.flushed, 5, "flushes");
 }
 
 // Reads and writes of so many bytes at once, up to the largest piece that is printed.
@@ -109,9 +110,9 @@ fn the_std_ends_move_large_pieces_whole(rt: HostRuntime) -> Result<(), Fail> {
             flushed: 0,
         };
         let got = StdSource::new(&mut script).read(&mut piece);
-        assert_eq!(rt; got, Got::Bytes(size));
+        assert_same(&rt, got, Got::Bytes(size), "got");
         let took = StdSink::new(&mut script).write(&piece);
-        assert_eq!(rt; took, Took::Bytes(size));
+        assert_same(&rt, took, Took::Bytes(size), "took");
     }
     Ok(())
 }

@@ -1,5 +1,6 @@
 //! Fields, and the pieces of a line.
 
+use crate::expected::assert_same;
 use call_places::Span;
 use field_text::{Pieces, Reason, Stop, cut_at, read_bytes, read_number};
 use std::alloc::{AllocError, Global};
@@ -38,11 +39,11 @@ fn expect_bytes(
     let mut pool = Vec::from_slice(alloc, b"pool".as_slice())?;
     match read_bytes(&mut pool, piece, 2) {
         Ok(span) => {
-            assert_eq!(rt; span.start, 4);
-            assert_eq!(rt; Ok(&pool[4..]), want);
-            assert_eq!(rt; span.len as usize + 4, pool.len());
+            assert_same(rt, span.start, 4, "start");
+            assert_same(rt, Ok(&pool[4..]), want, "pool");
+            assert_same(rt, span.len as usize + 4, pool.len(), "its end");
         }
-        Err(Stop::Bad(reason)) => assert_eq!(rt; Err(reason), want),
+        Err(Stop::Bad(reason)) => assert_same(rt, Err(reason), want, "Err(reason)"),
         Err(Stop::OutOfMemory) => panic!(rt; "memory"),
     }
     Ok(())
@@ -51,7 +52,7 @@ fn expect_bytes(
 #[test]
 fn a_field_has_its_value_or_its_reason(rt: HostRuntime) -> Result<(), Fail> {
     for (piece, want) in &NUMBERS {
-        assert_eq!(rt; read_number(piece, 1, 65_535), *want);
+        assert_same(&rt, read_number(piece, 1, 65_535), *want, "a piece");
     }
     for (piece, want) in &BYTES {
         expect_bytes(&rt, rt.alloc(), piece, *want)?;
@@ -61,13 +62,13 @@ fn a_field_has_its_value_or_its_reason(rt: HostRuntime) -> Result<(), Fail> {
 
 // What is left behind a bytes field and a number.
 fn expect_rest(rt: &impl Abort, pieces: &mut Pieces) {
-    assert_eq!(rt; pieces.len(), 2);
-    assert_eq!(rt; pieces.exactly(3), Err(Reason::Fields));
-    assert_eq!(rt; pieces.piece(), Ok(b"export".as_slice()));
+    assert_same(rt, pieces.len(), 2, "how many pieces");
+    assert_same(rt, pieces.exactly(3), Err(Reason::Fields), "three pieces");
+    assert_same(rt, pieces.piece(), Ok(b"export".as_slice()), "next piece");
     assert!(rt; !pieces.is_empty());
-    assert_eq!(rt; pieces.piece(), Ok(b"".as_slice()));
+    assert_same(rt, pieces.piece(), Ok(b"".as_slice()), "next piece");
     assert!(rt; pieces.is_empty());
-    assert_eq!(rt; pieces.piece(), Err(Reason::Fields));
+    assert_same(rt, pieces.piece(), Err(Reason::Fields), "next piece");
 }
 
 #[test]
@@ -75,15 +76,20 @@ fn a_line_is_read_piece_by_piece(rt: HostRuntime) -> Result<(), Fail> {
     let Some((line, after)) = cut_at(b"0a0b 7 export \nend", b'\n') else {
         panic!(rt; "no line");
     };
-    assert_eq!(rt; after, b"end".as_slice());
+    assert_same(&rt, after, b"end".as_slice(), "after");
     let mut pool = Vec::new(rt.alloc());
     let mut pieces = Pieces::of(line);
     match pieces.bytes(&mut pool, 2) {
-        Ok(span) => assert_eq!(rt; span, Span { start: 0, len: 2 }),
+        Ok(span) => assert_same(&rt, span, Span { start: 0, len: 2 }, "span"),
         Err(_) => panic!(rt; "no bytes"),
     }
-    assert_eq!(rt; pool.as_slice(), b"\x0a\x0b".as_slice());
-    assert_eq!(rt; pieces.number(0, 9), Ok(7));
+    assert_same(&rt, pool.as_slice(), b"\x0a\x0b".as_slice(), "pool");
+    assert_same(
+        &rt,
+        pieces.number(0, 9),
+        Ok(7),
+        "a number of several digits",
+    );
     expect_rest(&rt, &mut pieces);
     Ok(())
 }

@@ -1,5 +1,6 @@
 //! Text that is printed through a buffer.
 
+use crate::expected::assert_same;
 use batch_io::MemorySink;
 use field_text::{Buffer, Printed};
 use std::test::Fail;
@@ -21,8 +22,13 @@ fn pieces_are_printed_one_after_another(rt: HostRuntime) -> Result<(), Fail> {
     out.put_hex(&mut sink, &[]);
     out.put_text(&mut sink, b" ");
     out.put_hex(&mut sink, &[0x01, 0x23, 0x45, 0x67, 0x89, 0xab, 0xcd, 0xef]);
-    assert_eq!(rt; out.finish(&mut sink), Printed::Whole);
-    assert_eq!(rt; sink.bytes(), TEXT.as_bytes());
+    assert_same(
+        &rt,
+        out.finish(&mut sink),
+        Printed::Whole,
+        "outcome of the print",
+    );
+    assert_same(&rt, sink.bytes(), TEXT.as_bytes(), "what is written");
     Ok(())
 }
 
@@ -37,8 +43,8 @@ fn a_long_text_is_printed_in_pieces(rt: HostRuntime) -> Result<(), Fail> {
         let mut sink = MemorySink::new(vec![in alloc; 0; 80_000]?, 80_000, failing);
         let mut out = Buffer::new();
         out.put_hex(&mut sink, &bytes);
-        assert_eq!(rt; out.finish(&mut sink), printed);
-        assert_eq!(rt; sink.bytes().len(), count);
+        assert_same(&rt, out.finish(&mut sink), printed, "outcome of the print");
+        assert_same(&rt, sink.bytes().len(), count, "bytes written");
         assert!(rt;
             sink.bytes()
                 .chunks(2)

@@ -1,5 +1,6 @@
 //! Replies that are printed, whole and cut short.
 
+use crate::expected::assert_same;
 use crate::printable::is_answered;
 use crate::sinks::sink_of;
 use batch_plans::{
@@ -149,44 +150,32 @@ fn answers(alloc: Global, case: &Case) -> Result<Answers, AllocError> {
     })
 }
 
-fn expect_whole(
-    rt: &impl Abort,
-    alloc: Global,
-    plan: &Plan,
-    answers: &Answers,
-    case: &Case,
-) -> Result<(), AllocError> {
+fn expect_whole(rt: &impl Abort, alloc: Global, plan: &Plan, answers: &Answers, case: &Case) {
     let source = case.source;
     assert!(rt; is_answered(plan, answers), "{source}");
-    let mut sink = sink_of(alloc, 1_000, 0)?;
-    assert_eq!(rt;
+    let mut sink = sink_of(rt, alloc, 1_000, 0);
+    assert_same(
+        rt,
         print_live(plan, answers, &mut sink),
         Printed::Whole,
-        "{source}"
+        source,
     );
-    assert_eq!(rt; sink.bytes(), case.text, "{source}");
-    Ok(())
+    assert_same(rt, sink.bytes(), case.text, source);
 }
 
 // The second call of the sink fails.
-fn expect_cut_short(
-    rt: &impl Abort,
-    alloc: Global,
-    plan: &Plan,
-    answers: &Answers,
-    case: &Case,
-) -> Result<(), AllocError> {
+fn expect_cut_short(rt: &impl Abort, alloc: Global, plan: &Plan, answers: &Answers, case: &Case) {
     let source = case.source;
     assert!(rt; is_answered(plan, answers), "{source}");
-    let mut sink = sink_of(alloc, 1_000, 2)?;
-    assert_eq!(rt;
+    let mut sink = sink_of(rt, alloc, 1_000, 2);
+    assert_same(
+        rt,
         print_live(plan, answers, &mut sink),
         Printed::Failed,
-        "{source}"
+        source,
     );
-    assert_eq!(rt; sink.bytes().len(), 100, "{source}");
+    assert_same(rt, sink.bytes().len(), 100, source);
     assert!(rt; case.text.starts_with(sink.bytes()), "{source}");
-    Ok(())
 }
 
 #[test]
@@ -197,8 +186,8 @@ fn a_reply_is_printed_whole_or_cut_short(rt: HostRuntime) -> Result<(), Fail> {
             panic!(rt; "not read");
         };
         let answers = answers(alloc, case)?;
-        expect_whole(&rt, alloc, &plan, &answers, case)?;
-        expect_cut_short(&rt, alloc, &plan, &answers, case)?;
+        expect_whole(&rt, alloc, &plan, &answers, case);
+        expect_cut_short(&rt, alloc, &plan, &answers, case);
     }
     Ok(())
 }

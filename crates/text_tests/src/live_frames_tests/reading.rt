@@ -1,5 +1,6 @@
 //! Texts that are read, and texts that are bad.
 
+use crate::expected::assert_same;
 use crate::live_frames_tests::bad_texts::{BAD, LONG};
 use batch_plans::{CallLine, ContextKind, ContextLine, Plan};
 use call_places::{Item, Span};
@@ -42,7 +43,7 @@ fn a_bad_text_has_its_first_bad_line_and_reason(rt: HostRuntime) -> Result<(), F
                 line: 1,
                 reason: Reason::Header,
             };
-            assert_eq!(rt; bad, want)
+            assert_same(&rt, bad, want, "bad")
         }
         _ => panic!(rt; "version 1"),
     }
@@ -63,7 +64,7 @@ fn item(aad: u32, text: u32) -> Item {
 // A lane has these calls.
 fn expect_calls(rt: &impl Abort, plan: &Plan, lane: usize, calls: &[CallLine]) {
     match plan.lanes.as_slice().get(lane) {
-        Some(found) => assert_eq!(rt; found.as_slice(), calls),
+        Some(found) => assert_same(rt, found.as_slice(), calls, "found.as_slice()"),
         None => panic!(rt; "no lane"),
     }
 }
@@ -76,8 +77,8 @@ fn a_context_is_added_called_and_retired(rt: HostRuntime) -> Result<(), Fail> {
     let Ok(plan) = read_live(rt.alloc(), text.as_slice()) else {
         panic!(rt; "not read");
     };
-    assert_eq!(rt; plan.version, 2);
-    assert_eq!(rt; plan.added, 1);
+    assert_same(&rt, plan.version, 2, "version");
+    assert_same(&rt, plan.added, 1, "contexts added");
     let context = ContextLine {
         kind: ContextKind::Share {
             role: Role::Sender,
@@ -92,7 +93,12 @@ fn a_context_is_added_called_and_retired(rt: HostRuntime) -> Result<(), Fail> {
         psk_id: span(5, 0),
         limit: 9,
     };
-    assert_eq!(rt; plan.contexts.as_slice(), [context].as_slice());
+    assert_same(
+        &rt,
+        plan.contexts.as_slice(),
+        [context].as_slice(),
+        "contexts",
+    );
     let calls = [
         CallLine::Seal {
             context: 65_536,
@@ -109,7 +115,7 @@ fn a_context_is_added_called_and_retired(rt: HostRuntime) -> Result<(), Fail> {
             item: item(8, 9),
         },
     ];
-    assert_eq!(rt; plan.lanes.as_slice().len(), 1);
+    assert_same(&rt, plan.lanes.as_slice().len(), 1, "how many lanes");
     expect_calls(&rt, &plan, 0, calls.as_slice());
     Ok(())
 }
@@ -122,8 +128,8 @@ fn contexts_are_named_over_all_lanes(rt: HostRuntime) -> Result<(), Fail> {
     let Ok(plan) = read_live(rt.alloc(), text.as_slice()) else {
         panic!(rt; "not read");
     };
-    assert_eq!(rt; plan.added, 2);
-    assert_eq!(rt; plan.contexts.as_slice().len(), 3);
+    assert_same(&rt, plan.added, 2, "contexts added");
+    assert_same(&rt, plan.contexts.as_slice().len(), 3, "how many contexts");
     let first = [
         CallLine::Add { name: 0 },
         CallLine::UnsealAll {
@@ -149,7 +155,7 @@ fn contexts_are_named_over_all_lanes(rt: HostRuntime) -> Result<(), Fail> {
             item: last,
         },
     ];
-    assert_eq!(rt; plan.lanes.as_slice().len(), 2);
+    assert_same(&rt, plan.lanes.as_slice().len(), 2, "how many lanes");
     expect_calls(&rt, &plan, 0, first.as_slice());
     expect_calls(&rt, &plan, 1, second.as_slice());
     Ok(())

@@ -8,6 +8,7 @@ use request_frames::{
     KeyLine, KeyRefusal, KeyReply, LaneAnswers, LaneLines, PlainList, Plan, Reply,
 };
 use std::alloc::{AllocError, Global};
+use std::process::Abort;
 
 const NOTHING: Span = Span { start: 0, len: 0 };
 
@@ -43,20 +44,28 @@ pub const FORMS: [Reply; 15] = [
     Reply::Retired,
 ];
 
-pub fn list<T: Copy>(alloc: Global, items: &[T]) -> Result<PlainList<T>, AllocError> {
-    Ok(PlainList::from_vec(items.to_vec(alloc)?))
+pub fn list<T: Copy>(rt: &impl Abort, alloc: Global, items: &[T]) -> PlainList<T> {
+    PlainList::from_vec(items.to_vec(alloc).expect(rt, "memory"))
 }
 
-pub fn keys(alloc: Global) -> Result<PlainList<KeyReply>, AllocError> {
-    let keys = Vec::from_array(
+fn list_of<T: Drop, const N: usize>(rt: &impl Abort, alloc: Global, items: [T; N]) -> PlainList<T> {
+    match Vec::from_array(alloc, items) {
+        Ok(items) => PlainList::from_vec(items),
+        Err(_) => panic!(rt; "memory"),
+    }
+}
+
+pub fn keys(rt: &impl Abort, alloc: Global) -> PlainList<KeyReply> {
+    list_of(
+        rt,
         alloc,
         [
             KeyReply::Generated {
-                public: list(alloc, [1, 2].as_slice())?,
-                secret: list(alloc, [0xab].as_slice())?,
+                public: list(rt, alloc, [1, 2].as_slice()),
+                secret: list(rt, alloc, [0xab].as_slice()),
             },
             KeyReply::Secret {
-                public: list(alloc, [0xff].as_slice())?,
+                public: list(rt, alloc, [0xff].as_slice()),
             },
             KeyReply::Peer,
             KeyReply::Refused(KeyRefusal::Exhausted),
@@ -64,17 +73,17 @@ pub fn keys(alloc: Global) -> Result<PlainList<KeyReply>, AllocError> {
             KeyReply::Refused(KeyRefusal::Length),
             KeyReply::Refused(KeyRefusal::Form),
         ],
-    )?;
-    Ok(PlainList::from_vec(keys))
+    )
 }
 
-pub fn contexts(alloc: Global) -> Result<PlainList<ContextReply>, AllocError> {
-    let contexts = Vec::from_array(
+pub fn contexts(rt: &impl Abort, alloc: Global) -> PlainList<ContextReply> {
+    list_of(
+        rt,
         alloc,
         [
             ContextReply::Shared,
             ContextReply::Sender {
-                enc: list(alloc, [0, 0x7f].as_slice())?,
+                enc: list(rt, alloc, [0, 0x7f].as_slice()),
             },
             ContextReply::Recipient,
             ContextReply::Refused(ContextRefusal::NoKey),
@@ -85,18 +94,18 @@ pub fn contexts(alloc: Global) -> Result<PlainList<ContextReply>, AllocError> {
             ContextReply::Refused(ContextRefusal::PskExtra),
             ContextReply::Refused(ContextRefusal::PskMissing),
         ],
-    )?;
-    Ok(PlainList::from_vec(contexts))
+    )
 }
 
 // A batch of so many keys and contexts.
 pub fn plan_of(
+    rt: &impl Abort,
     alloc: Global,
     version: u8,
     keys: usize,
     contexts: usize,
     lanes: LaneLines,
-) -> Result<Plan, AllocError> {
+) -> Plan {
     let context = ContextLine {
         kind: ContextKind::Share {
             role: Role::Sender,
@@ -111,19 +120,21 @@ pub fn plan_of(
         psk_id: NOTHING,
         limit: 1,
     };
-    Ok(Plan {
+    let keys = vec![in alloc; KeyLine::Generate; keys].expect(rt, "memory");
+    let contexts = vec![in alloc; context; contexts].expect(rt, "memory");
+    Plan {
         version,
         seed: None,
         pool: PlainList::from_vec(Vec::new(alloc)),
-        keys: PlainList::from_vec(vec![in alloc; KeyLine::Generate; keys]?),
-        contexts: PlainList::from_vec(vec![in alloc; context; contexts]?),
+        keys: PlainList::from_vec(keys),
+        contexts: PlainList::from_vec(contexts),
         items: PlainList::from_vec(Vec::new(alloc)),
         lanes,
         added: 0,
-    })
+    }
 }
 
-pub fn plan(alloc: Global) -> Result<Plan, AllocError> {
+pub fn plan(rt: &impl Abort, alloc: Global) -> Plan {
     let seal = CallLine::Seal {
         context: 0,
         item: Item {
@@ -137,34 +148,28 @@ pub fn plan(alloc: Global) -> Result<Plan, AllocError> {
         count: 1,
     };
     let lanes = [
-        PlainList::from_vec(vec![in alloc; seal; 15]?),
-        list(alloc, [open].as_slice())?,
+        list(rt, alloc, [seal; 15].as_slice()),
+        list(rt, alloc, [open].as_slice()),
         PlainList::from_vec(Vec::new(alloc)),
     ];
-    plan_of(
-        alloc,
-        2,
-        7,
-        10,
-        PlainList::from_vec(Vec::from_array(alloc, lanes)?),
-    )
+    plan_of(rt, alloc, 2, 7, 10, list_of(rt, alloc, lanes))
 }
 
-fn lanes(alloc: Global) -> Result<PlainList<LaneAnswers>, AllocError> {
+fn lanes(rt: &impl Abort, alloc: Global) -> PlainList<LaneAnswers> {
     let guess = Batch {
         guess: u64::MAX,
         missed: u32::MAX,
     };
     let lanes = [
         LaneAnswers {
-            pool: list(alloc, POOL.as_slice())?,
-            replies: list(alloc, FORMS.as_slice())?,
+            pool: list(rt, alloc, POOL.as_slice()),
+            replies: list(rt, alloc, FORMS.as_slice()),
             batches: PlainList::from_vec(Vec::new(alloc)),
         },
         LaneAnswers {
             pool: PlainList::from_vec(Vec::new(alloc)),
-            replies: list(alloc, [Reply::Limit].as_slice())?,
-            batches: list(alloc, [guess].as_slice())?,
+            replies: list(rt, alloc, [Reply::Limit].as_slice()),
+            batches: list(rt, alloc, [guess].as_slice()),
         },
         LaneAnswers {
             pool: PlainList::from_vec(Vec::new(alloc)),
@@ -172,10 +177,22 @@ fn lanes(alloc: Global) -> Result<PlainList<LaneAnswers>, AllocError> {
             batches: PlainList::from_vec(Vec::new(alloc)),
         },
     ];
-    Ok(PlainList::from_vec(Vec::from_array(alloc, lanes)?))
+    list_of(rt, alloc, lanes)
 }
 
-fn journals(alloc: Global) -> Result<PlainList<PlainList<Mark>>, AllocError> {
+fn with_nine_empty(
+    alloc: Global,
+    first: PlainList<Mark>,
+) -> Result<Vec<PlainList<Mark>>, AllocError> {
+    let mut journals = Vec::new(alloc);
+    journals.push(first)?;
+    for _context in 1..10 {
+        journals.push(PlainList::from_vec(Vec::new(alloc)))?;
+    }
+    Ok(journals)
+}
+
+fn journals(rt: &impl Abort, alloc: Global) -> PlainList<PlainList<Mark>> {
     let first = Place {
         lane: 0,
         call: 0,
@@ -196,20 +213,16 @@ fn journals(alloc: Global) -> Result<PlainList<PlainList<Mark>>, AllocError> {
             stamp: u64::MAX,
         },
     ];
-    let mut journals = Vec::new(alloc);
-    journals.push(list(alloc, marks.as_slice())?)?;
-    for _context in 1..10 {
-        journals.push(PlainList::from_vec(Vec::new(alloc)))?;
-    }
-    Ok(PlainList::from_vec(journals))
+    let first = list(rt, alloc, marks.as_slice());
+    PlainList::from_vec(with_nine_empty(alloc, first).expect(rt, "memory"))
 }
 
-pub fn answers(alloc: Global) -> Result<Answers, AllocError> {
-    Ok(Answers {
-        keys: keys(alloc)?,
-        contexts: contexts(alloc)?,
-        lanes: lanes(alloc)?,
-        journals: journals(alloc)?,
+pub fn answers(rt: &impl Abort, alloc: Global) -> Answers {
+    Answers {
+        keys: keys(rt, alloc),
+        contexts: contexts(rt, alloc),
+        lanes: lanes(rt, alloc),
+        journals: journals(rt, alloc),
         notes: PlainList::from_vec(Vec::new(alloc)),
-    })
+    }
 }

@@ -1,9 +1,10 @@
 //! Answers that are printed, against the text that is due.
 
+use crate::expected::assert_same;
 use crate::printable::is_answered;
 use crate::sinks::sink_of;
 use request_frames::{Answers, Plan, Printed, print_answers};
-use std::alloc::{AllocError, Global};
+use std::alloc::Global;
 use std::process::Abort;
 
 // The answers to the plan are printed as this text.
@@ -14,16 +15,12 @@ pub fn expect_whole(
     answers: &Answers,
     text: &[u8],
     source: &str,
-) -> Result<(), AllocError> {
+) {
     assert!(rt; is_answered(plan, answers), "{source}");
-    let mut sink = sink_of(alloc, 2_000, 0)?;
-    assert_eq!(rt;
-        print_answers(plan, answers, &mut sink),
-        Printed::Whole,
-        "{source}"
-    );
-    assert_eq!(rt; sink.bytes(), text, "{source}");
-    Ok(())
+    let mut sink = sink_of(rt, alloc, 2_000, 0);
+    let printed = print_answers(plan, answers, &mut sink);
+    assert_same(rt, printed, Printed::Whole, source);
+    assert_same(rt, sink.bytes(), text, source);
 }
 
 // Where the third call of the sink fails, they are printed as the first 200 bytes of it.
@@ -33,11 +30,11 @@ pub fn expect_cut_short(
     plan: &Plan,
     answers: &Answers,
     text: &[u8],
-) -> Result<(), AllocError> {
+) {
     assert!(rt; is_answered(plan, answers));
-    let mut sink = sink_of(alloc, 2_000, 3)?;
-    assert_eq!(rt; print_answers(plan, answers, &mut sink), Printed::Failed);
-    assert_eq!(rt; sink.bytes().len(), 200);
+    let mut sink = sink_of(rt, alloc, 2_000, 3);
+    let printed = print_answers(plan, answers, &mut sink);
+    assert_same(rt, printed, Printed::Failed, "printed");
+    assert_same(rt, sink.bytes().len(), 200, "bytes before the failure");
     assert!(rt; text.starts_with(sink.bytes()));
-    Ok(())
 }

@@ -1,11 +1,12 @@
 //! Each form of a reply's lines once, and replies that are cut short.
 
+use crate::expected::assert_same;
 use crate::printable::is_in_range;
 use crate::request_frames_tests::answers::{FORMS, POOL, answers, contexts, keys, plan};
 use crate::request_frames_tests::expected::{expect_cut_short, expect_whole};
 use crate::sinks::sink_of;
 use request_frames::{BadBatch, Printed, Reason, Reply, print_bad, print_reply, print_setup};
-use std::alloc::{AllocError, Global};
+use std::alloc::Global;
 use std::process::Abort;
 use std::test::Fail;
 
@@ -85,62 +86,63 @@ const BAD: [(u32, Reason, &str); 11] = [
 #[test]
 fn each_form_is_printed_as_its_line(rt: HostRuntime) -> Result<(), Fail> {
     let alloc = rt.alloc();
-    let plan = plan(alloc)?;
-    let answers = answers(alloc)?;
+    let plan = plan(&rt, alloc);
+    let answers = answers(&rt, alloc);
     let text = format!(in alloc; "hpkebatch 2\n{SETUP}lane 0\n{REPLIES}{REST}")?;
-    expect_whole(&rt, alloc, &plan, &answers, text.as_bytes(), "each form")?;
-    expect_cut_short(&rt, alloc, &plan, &answers, text.as_bytes())?;
+    expect_whole(&rt, alloc, &plan, &answers, text.as_bytes(), "each form");
+    expect_cut_short(&rt, alloc, &plan, &answers, text.as_bytes());
     Ok(())
 }
 
-fn expect_set_up(rt: &impl Abort, alloc: Global) -> Result<(), AllocError> {
-    let keys = keys(alloc)?;
-    let contexts = contexts(alloc)?;
-    let mut sink = sink_of(alloc, 1_000, 0)?;
+fn expect_set_up(rt: &impl Abort, alloc: Global) {
+    let keys = keys(rt, alloc);
+    let contexts = contexts(rt, alloc);
+    let mut sink = sink_of(rt, alloc, 1_000, 0);
     let printed = print_setup(keys.as_slice(), contexts.as_slice(), &mut sink);
-    assert_eq!(rt; printed, Printed::Whole);
-    assert_eq!(rt; sink.bytes(), SETUP.as_bytes());
-    Ok(())
+    assert_same(rt, printed, Printed::Whole, "printed");
+    assert_same(rt, sink.bytes(), SETUP.as_bytes(), "what is written");
 }
 
-fn expect_replies(rt: &impl Abort, alloc: Global) -> Result<(), AllocError> {
-    let mut sink = sink_of(alloc, 1_000, 0)?;
+fn expect_replies(rt: &impl Abort, alloc: Global) {
+    let mut sink = sink_of(rt, alloc, 1_000, 0);
     for reply in &FORMS {
         assert!(rt; *reply != Reply::Blank);
         assert!(rt; is_in_range(POOL.as_slice(), reply));
         let printed = print_reply(reply, POOL.as_slice(), &mut sink);
-        assert_eq!(rt; printed, Printed::Whole);
+        assert_same(rt, printed, Printed::Whole, "printed");
     }
-    assert_eq!(rt; sink.bytes(), REPLIES.as_bytes());
-    Ok(())
+    assert_same(rt, sink.bytes(), REPLIES.as_bytes(), "what is written");
 }
 
 #[test]
-fn a_set_up_and_replies_are_printed_by_themselves(rt: HostRuntime) -> Result<(), Fail> {
+fn a_set_up_and_replies_are_printed_by_themselves(rt: HostRuntime) {
     let alloc = rt.alloc();
-    expect_set_up(&rt, alloc)?;
-    expect_replies(&rt, alloc)?;
-    let mut failing = sink_of(alloc, 40, 1)?;
+    expect_set_up(&rt, alloc);
+    expect_replies(&rt, alloc);
+    let mut failing = sink_of(&rt, alloc, 40, 1);
     let printed = print_reply(&Reply::Limit, POOL.as_slice(), &mut failing);
-    assert_eq!(rt; printed, Printed::Failed);
-    assert_eq!(rt; failing.bytes().len(), 0);
-    Ok(())
+    assert_same(&rt, printed, Printed::Failed, "printed");
+    assert_same(&rt, failing.bytes().len(), 0, "bytes before the failure");
 }
 
 #[test]
-fn each_bad_batch_is_printed_as_its_line(rt: HostRuntime) -> Result<(), Fail> {
+fn each_bad_batch_is_printed_as_its_line(rt: HostRuntime) {
     let alloc = rt.alloc();
     for (line, reason, text) in &BAD {
         let bad = BadBatch {
             line: *line,
             reason: *reason,
         };
-        let mut sink = sink_of(alloc, 40, 0)?;
-        assert_eq!(rt; print_bad(&bad, &mut sink), Printed::Whole);
-        assert_eq!(rt; sink.bytes(), text.as_bytes());
-        let mut failing = sink_of(alloc, 40, 1)?;
-        assert_eq!(rt; print_bad(&bad, &mut failing), Printed::Failed);
-        assert_eq!(rt; failing.bytes().len(), 0);
+        let mut sink = sink_of(&rt, alloc, 40, 0);
+        assert_same(&rt, print_bad(&bad, &mut sink), Printed::Whole, "printed");
+        assert_same(&rt, sink.bytes(), text.as_bytes(), "what is written");
+        let mut failing = sink_of(&rt, alloc, 40, 1);
+        assert_same(
+            &rt,
+            print_bad(&bad, &mut failing),
+            Printed::Failed,
+            "a print that fails",
+        );
+        assert_same(&rt, failing.bytes().len(), 0, "bytes before the failure");
     }
-    Ok(())
 }

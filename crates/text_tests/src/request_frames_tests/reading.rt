@@ -3,6 +3,7 @@
 ghost use Rattle.std.specs.Prelude.{◌+◌, ◌<◌, ◌≤◌, ◌^◌, vec_len};
 
 use crate::bad_case::BadCase;
+use crate::expected::assert_same;
 use crate::request_frames_tests::bad_set_ups::BAD_SET_UPS;
 use crate::request_frames_tests::bad_texts::BAD;
 use crate::request_frames_tests::long_texts::{CIPHERTEXTS, LONG, LongCase, PLAINTEXTS};
@@ -96,25 +97,42 @@ fn front_of(alloc: Global, text: &[u8]) -> Result<(u8, usize), Option<BadBatch>>
 #[test]
 fn a_batch_ends_before_what_follows_it(rt: HostRuntime) -> Result<(), Fail> {
     let alloc = rt.alloc();
-    assert_eq!(rt; front_of(alloc, b"hpkebatch 2\nlane\nend\n"), Ok((2, 21)));
-    assert_eq!(rt;
+    assert_same(
+        &rt,
+        front_of(alloc, b"hpkebatch 2\nlane\nend\n"),
+        Ok((2, 21)),
+        "a lane",
+    );
+    assert_same(
+        &rt,
         front_of(alloc, b"hpkebatch 1\nend\nhpkebatch 1\nend\n"),
-        Ok((1, 16))
+        Ok((1, 16)),
+        "two batches",
     );
     let bad = BadBatch {
         line: 2,
         reason: Reason::NoEnd,
     };
-    assert_eq!(rt; front_of(alloc, b"hpkebatch 1\nend"), Err(Some(bad)));
+    assert_same(
+        &rt,
+        front_of(alloc, b"hpkebatch 1\nend"),
+        Err(Some(bad)),
+        "no last line feed",
+    );
     Ok(())
 }
 
 #[test]
 fn a_number_field_has_a_value_or_a_reason(rt: HostRuntime) -> Result<(), Fail> {
-    assert_eq!(rt; read_number(b"65535", 0, 65_535), Ok(65_535));
-    assert_eq!(rt; read_number(b"65536", 0, 65_535), Err(Reason::Range));
-    assert_eq!(rt; read_number(b"0", 1, 9), Err(Reason::Range));
-    assert_eq!(rt; read_number(b"00", 0, 9), Err(Reason::Number));
+    assert_same(&rt, read_number(b"65535", 0, 65_535), Ok(65_535), "65535");
+    assert_same(
+        &rt,
+        read_number(b"65536", 0, 65_535),
+        Err(Reason::Range),
+        "65536",
+    );
+    assert_same(&rt, read_number(b"0", 1, 9), Err(Reason::Range), "0");
+    assert_same(&rt, read_number(b"00", 0, 9), Err(Reason::Number), "00");
     Ok(())
 }
 
@@ -134,24 +152,37 @@ fn span_of(alloc: Global, pool: &mut Vec<u8>, field: &[u8]) -> Result<Span, Opti
 fn a_bytes_field_has_a_span_or_a_reason(rt: HostRuntime) -> Result<(), Fail> {
     let alloc = rt.alloc();
     let mut pool = Vec::from_slice(alloc, b"\x07".as_slice())?;
-    assert_eq!(rt;
+    assert_same(
+        &rt,
         span_of(alloc, &mut pool, b"-"),
-        Ok(Span { start: 1, len: 0 })
+        Ok(Span { start: 1, len: 0 }),
+        "-",
     );
-    assert_eq!(rt;
+    assert_same(
+        &rt,
         span_of(alloc, &mut pool, b"08ff"),
-        Ok(Span { start: 1, len: 2 })
+        Ok(Span { start: 1, len: 2 }),
+        "08ff",
     );
-    assert_eq!(rt; span_of(alloc, &mut pool, b"00000"), Err(Some(Reason::Hex)));
-    assert_eq!(rt;
+    assert_same(
+        &rt,
+        span_of(alloc, &mut pool, b"00000"),
+        Err(Some(Reason::Hex)),
+        "00000",
+    );
+    assert_same(
+        &rt,
         span_of(alloc, &mut pool, b"00000A"),
-        Err(Some(Reason::Hex))
+        Err(Some(Reason::Hex)),
+        "00000A",
     );
-    assert_eq!(rt;
+    assert_same(
+        &rt,
         span_of(alloc, &mut pool, b"00000a"),
-        Err(Some(Reason::Size))
+        Err(Some(Reason::Size)),
+        "00000a",
     );
-    assert_eq!(rt; pool.as_slice(), b"\x07\x08\xff".as_slice());
+    assert_same(&rt, pool.as_slice(), b"\x07\x08\xff".as_slice(), "pool");
     Ok(())
 }
 
@@ -159,7 +190,7 @@ fn a_bytes_field_has_a_span_or_a_reason(rt: HostRuntime) -> Result<(), Fail> {
 fn a_list_keeps_what_is_written_in_it(rt: HostRuntime) -> Result<(), Fail> {
     let mut list = PlainList::from_vec(Vec::from_slice(rt.alloc(), b"lane".as_slice())?);
     list.as_mut_slice()[0] = b'c';
-    assert_eq!(rt; list.as_slice(), b"cane".as_slice());
-    assert_eq!(rt; list.into_vec().as_slice(), b"cane".as_slice());
+    assert_same(&rt, list.as_slice(), b"cane".as_slice(), "list");
+    assert_same(&rt, list.into_vec().as_slice(), b"cane".as_slice(), "list");
     Ok(())
 }

@@ -2,6 +2,7 @@
 
 ghost use Rattle.batch_plans.specs.Limits.{IsWithinLimits};
 
+use crate::expected::assert_same;
 use call_places::Span;
 use request_frames::{
     Answers, Batch, CallRefusal, ContextReply, LaneAnswers, LaneProgress, PlainList, Plan, Reply,
@@ -130,7 +131,7 @@ fn expect_refusals(rt: &impl Abort, plan: &Plan, case: &RoomCase) {
     };
     for (call, want) in calls.as_slice().iter().zip(case.refusals) {
         let refusal = call_refusal(plan.contexts.as_slice(), case.export_limits, call);
-        assert_eq!(rt; refusal, *want, "{source}");
+        assert_same(rt, refusal, *want, source);
     }
 }
 
@@ -140,9 +141,9 @@ fn expect_room(rt: &impl Abort, answers: &Answers, case: &RoomCase) {
     let [lane] = answers.lanes.as_slice() else {
         panic!(rt; "{source}");
     };
-    assert_eq!(rt; lane.pool.as_slice().len(), case.bytes, "{source}");
-    assert_eq!(rt; lane.replies.as_slice().len(), case.replies, "{source}");
-    assert_eq!(rt; lane.batches.as_slice().len(), case.batches, "{source}");
+    assert_same(rt, lane.pool.as_slice().len(), case.bytes, source);
+    assert_same(rt, lane.replies.as_slice().len(), case.replies, source);
+    assert_same(rt, lane.batches.as_slice().len(), case.batches, source);
 }
 
 #[test]
@@ -156,7 +157,7 @@ fn each_call_has_its_room_or_its_refusal(rt: HostRuntime) -> Result<(), Fail> {
         expect_refusals(&rt, &plan, case);
         expect_room(&rt, &answers, case);
         let places = places_of(alloc, &answers)?;
-        assert_eq!(rt; places.as_slice(), case.places, "{}", case.source);
+        assert_same(&rt, places.as_slice(), case.places, case.source);
     }
     Ok(())
 }
@@ -186,7 +187,7 @@ fn a_lane_takes_its_replies_in_order(rt: HostRuntime) -> Result<(), Fail> {
     lane.pool()[2..].copy_from_slice(b"cde".as_slice());
     lane.put(Reply::Exported { text });
     let answers = lane.finish();
-    assert_eq!(rt; answers.pool.as_slice(), b"abcde".as_slice());
+    assert_same(&rt, answers.pool.as_slice(), b"abcde".as_slice(), "pool");
     let want = [
         Reply::Opened {
             number: 7,
@@ -197,7 +198,12 @@ fn a_lane_takes_its_replies_in_order(rt: HostRuntime) -> Result<(), Fail> {
             text: Span { start: 2, len: 3 },
         },
     ];
-    assert_eq!(rt; answers.replies.as_slice(), want.as_slice());
-    assert_eq!(rt; answers.batches.as_slice(), [guess].as_slice());
+    assert_same(&rt, answers.replies.as_slice(), want.as_slice(), "replies");
+    assert_same(
+        &rt,
+        answers.batches.as_slice(),
+        [guess].as_slice(),
+        "guesses",
+    );
     Ok(())
 }

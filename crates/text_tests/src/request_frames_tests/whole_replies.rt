@@ -6,12 +6,12 @@ use crate::request_frames_tests::reply_rows::{LaneCase, POOL, REPLIES, ReplyCase
 use call_places::{Mark, Place};
 use request_frames::{Answers, ContextReply, LaneAnswers, LaneLines, PlainList};
 use std::alloc::{AllocError, Global};
-use std::test::Fail;
+use std::process::Abort;
 
-fn lanes_of(alloc: Global, cases: &[LaneCase]) -> Result<LaneLines, AllocError> {
+fn lanes_of(rt: &impl Abort, alloc: Global, cases: &[LaneCase]) -> Result<LaneLines, AllocError> {
     let mut lanes = Vec::new(alloc);
     for case in cases {
-        lanes.push(list(alloc, case.calls)?)?;
+        lanes.push(list(rt, alloc, case.calls))?;
     }
     Ok(PlainList::from_vec(lanes))
 }
@@ -35,49 +35,65 @@ fn journal_of(
     Ok(PlainList::from_vec(journal))
 }
 
-fn answers_of(alloc: Global, case: &ReplyCase) -> Result<Answers, AllocError> {
+fn contexts_of(alloc: Global, count: usize) -> Result<PlainList<ContextReply>, AllocError> {
     let mut contexts = Vec::new(alloc);
-    for _context in 0..case.contexts {
+    for _context in 0..count {
         contexts.push(ContextReply::Shared)?;
     }
+    Ok(PlainList::from_vec(contexts))
+}
+
+fn lane_answers_of(
+    rt: &impl Abort,
+    alloc: Global,
+    cases: &[LaneCase],
+) -> Result<PlainList<LaneAnswers>, AllocError> {
     let mut lanes = Vec::new(alloc);
-    for lane in case.lanes {
-        let pool = list(alloc, POOL.as_slice())?;
-        let replies = list(alloc, lane.replies)?;
-        let batches = list(alloc, lane.batches)?;
+    for lane in cases {
         lanes.push(LaneAnswers {
-            pool,
-            replies,
-            batches,
+            pool: list(rt, alloc, POOL.as_slice()),
+            replies: list(rt, alloc, lane.replies),
+            batches: list(rt, alloc, lane.batches),
         })?;
     }
+    Ok(PlainList::from_vec(lanes))
+}
+
+fn journals_of(
+    alloc: Global,
+    cases: &[&[(u32, u32, u32, u64)]],
+) -> Result<PlainList<PlainList<Mark>>, AllocError> {
     let mut journals = Vec::new(alloc);
-    for marks in case.journals {
+    for marks in cases {
         journals.push(journal_of(alloc, marks)?)?;
     }
-    Ok(Answers {
+    Ok(PlainList::from_vec(journals))
+}
+
+fn answers_of(rt: &impl Abort, alloc: Global, case: &ReplyCase) -> Answers {
+    Answers {
         keys: PlainList::from_vec(Vec::new(alloc)),
-        contexts: PlainList::from_vec(contexts),
-        lanes: PlainList::from_vec(lanes),
-        journals: PlainList::from_vec(journals),
+        contexts: contexts_of(alloc, case.contexts).expect(rt, "memory"),
+        lanes: lane_answers_of(rt, alloc, case.lanes).expect(rt, "memory"),
+        journals: journals_of(alloc, case.journals).expect(rt, "memory"),
         notes: PlainList::from_vec(Vec::new(alloc)),
-    })
+    }
 }
 
 #[test]
-fn each_call_has_its_lines(rt: HostRuntime) -> Result<(), Fail> {
+fn each_call_has_its_lines(rt: HostRuntime) {
     let alloc = rt.alloc();
     for case in &REPLIES {
-        let source = case.source;
-        let plan = plan_of(
+        let lanes = lanes_of(&rt, alloc, case.lanes).expect(&rt, "memory");
+        let plan = plan_of(&rt, alloc, case.version, 0, case.contexts, lanes);
+        let answers = answers_of(&rt, alloc, case);
+        expect_whole(
+            &rt,
             alloc,
-            case.version,
-            0,
-            case.contexts,
-            lanes_of(alloc, case.lanes)?,
-        )?;
-        let answers = answers_of(alloc, case)?;
-        expect_whole(&rt, alloc, &plan, &answers, case.text.as_bytes(), source)?;
+            &plan,
+            &answers,
+            case.text.as_bytes(),
+            case.source,
+        );
     }
-    Ok(())
 }

@@ -10,18 +10,17 @@ use Rattle.core_tests.proofs.SmallPlans.{plain_plan, small_plan}
 use Rattle.core_tests.proofs.rehearsals.plans.plan_of.Goals as goal
 
 pub returns-clause-within : goal.returns-clause-within
-returns-clause-within c =
+returns-clause-within g c =
     let limit = c.args.limit in
-    let items = c.from_vec-items.result in
-    let lanes = c.in_ok-lanes.lanes in
-    let pool = c.in_ok-pool.pool in
-    let items_are = c.from_vec-items.ensures.items ∙ c.in_ok-from_slice.ensures.items in
+    let items = c.items.result in
+    let lanes = c.lanes.result in
+    let pool = c.pool.result in
     let keys_are = c.from_vec.ensures.items ∙ c.new.ensures.items in
     let most : limit < 2 ^ 64 = omega arith in
     let named = subst (λ (ls : List (List CallLine)). are_small ITEMS ls ≡ true)
-    (sym c.in_ok-lanes.ensures) c.requires.small in
-    let passed = subst (λ (xs : List Item). are_small xs lanes ≡ true) (sym items_are) named in
-    let within = small_plan pool limit items lanes c.in_ok-pool.ensures c.requires.limit most passed in
+    (sym c.lanes.ensures) c.requires.small in
+    let passed = subst (λ (xs : List Item). are_small xs lanes ≡ true) (sym c.items.ensures) named in
+    let within = small_plan pool limit items lanes c.pool.ensures c.requires.limit most passed in
     subst (λ (lines : List ContextLine). IsWithinLimits (record {
       version = 2;
       seed = None;
@@ -31,7 +30,7 @@ returns-clause-within c =
       items = items;
       lanes = lanes;
       added = 0;
-    })) (sym c.in_ok-contexts.ensures)
+    })) (sym c.contexts.ensures)
     (subst (λ (keys : List KeyLine). IsWithinLimits (record {
       version = 2;
       seed = None;
@@ -44,15 +43,14 @@ returns-clause-within c =
     })) (sym keys_are) within)
 
 pub returns-clause-plain : goal.returns-clause-plain
-returns-clause-plain c =
+returns-clause-plain g c =
     let limit = c.args.limit in
-    let items = c.from_vec-items.result in
-    let lanes = c.in_ok-lanes.lanes in
-    let items_are = c.from_vec-items.ensures.items ∙ c.in_ok-from_slice.ensures.items in
+    let items = c.items.result in
+    let lanes = c.lanes.result in
     let most : limit < 2 ^ 64 = omega arith in
     let named = subst (λ (ls : List (List CallLine)). are_small ITEMS ls ≡ true)
-    (sym c.in_ok-lanes.ensures) c.requires.small in
-    let passed = subst (λ (xs : List Item). are_small xs lanes ≡ true) (sym items_are) named in
-    let plain = plain_plan c.in_ok-pool.pool limit items lanes c.in_ok-pool.ensures
+    (sym c.lanes.ensures) c.requires.small in
+    let passed = subst (λ (xs : List Item). are_small xs lanes ≡ true) (sym c.items.ensures) named in
+    let plain = plain_plan c.pool.result limit items lanes c.pool.ensures
     c.requires.limit most passed in
     record { added = refl; calls = plain.calls }

@@ -1,0 +1,10 @@
+//! What tests expect. A comparison stands in a function of its own, since each `assert_eq!` makes the
+//! proof of the function that it stands in seconds longer.
+
+use std::fmt::Debug;
+use std::process::Abort;
+
+/// Both are the same; a failure prints both, and what they are.
+pub fn assert_same<T: Copy + Debug + PartialEq>(rt: &impl Abort, got: T, want: T, what: &str) {
+    assert_eq!(rt; got, want, "{what}");
+}
