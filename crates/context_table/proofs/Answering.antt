@@ -1,6 +1,6 @@
 -- What the calls of the KEM ensure, as the definitions say it.
 use Rattle.std.proofs.Common.{◌≡◌, ◌≢◌, ℕ, List, length, Option, Some, Result, Ok, Err, sym, ap, subst, ◌∙◌, inl, inr}
-use Rattle.std.specs.Prelude.{slice_get}
+use Rattle.std.specs.Prelude.{slice_get, IfOk}
 use Rattle.std.proofs.lemmas.Bool.{cases_eq}
 use Rattle.ring_core.specs.Sets.{Set}
 use Rattle.sntrup_core.specs.Keys.{FindsG, FindsNoInverse}
@@ -8,16 +8,13 @@ use Rattle.sntrup_kem.specs.declared.keys.KeyBytesFault.{KeyBytesFault}
 use Rattle.sntrup_kem.specs.Sizes.{secret_size}
 use Rattle.sntrup_kem.specs.Kem.{IsGenerated, public_part, HasMalformedPart}
 use Rattle.batch_plans.specs.declared.plan.Plan.{Plan}
-use Rattle.batch_plans.specs.declared.plan.ContextKind.{ContextKind}
-use Rattle.batch_plans.specs.declared.plan.ContextKind.TheVariants.{Send}
 use Rattle.batch_plans.specs.declared.replies.KeyReply.{KeyReply}
 use Rattle.batch_plans.specs.declared.replies.KeyReply.TheVariants.{Generated, Secret}
-use Rattle.batch_plans.specs.declared.replies.ContextReply.{ContextReply}
 use Rattle.context_table.specs.declared.keys.Key.{Key}
 use Rattle.context_table.specs.declared.exchanges.Exchange.{Exchange}
 use Rattle.context_table.specs.Streams.{context_words}
-use Rattle.context_table.specs.Keys.{IsPairReply, IsSecretReply}
-use Rattle.context_table.specs.Contexts.{sender_exchange, exchange}
+use Rattle.context_table.specs.Keys.{Kem, KeyView, IsPairReply, IsSecretReply, key_by, key_at}
+use Rattle.context_table.specs.Contexts.{sender_exchange}
 use Rattle.context_table.specs.Slots.{view_of, held_in, HoldKeys}
 
 pub pair_reply : (set : Set) (word : ℕ → ℕ) (place j : ℕ) (pk sk : List ℕ) → place ≡ 0
@@ -48,14 +45,20 @@ secret_reply set size bytes secret size_is same long form reply is =
     subst Q (sym is)
     (long_is ∙ size_is, (λ bad. form (long_is, bad)), ap (public_part set) same)
 
-pub sends : (plan : Plan) (keys : List KeyReply) (slots : List (Option Key))
-    (earlier : List ContextReply) (kind : ContextKind) (k : ℕ) (key : Key) (word : ℕ → ℕ)
-    (e : Exchange)
-    → HoldKeys plan keys slots → kind ≡ Send k → Some (view_of key) ≡ held_in (slice_get slots k)
-    → word ≡ context_words plan (length earlier) → sender_exchange word (Some (view_of key)) ≡ Ok e
-    → Ok e ≡ exchange plan keys earlier (length earlier) kind
-sends plan keys slots earlier kind k key word e held is found words made =
+pub sends : (plan : Plan) (keys : List KeyReply) (slots : List (Option Key)) (number k : ℕ)
+    (key : Key) (word : ℕ → ℕ) (e : Exchange)
+    → HoldKeys plan keys slots → Some (view_of key) ≡ held_in (slice_get slots k)
+    → word ≡ context_words plan number → sender_exchange word (Some (view_of key)) ≡ Ok e
+    → Ok e ≡ sender_exchange (context_words plan number) (key_at plan keys k)
+sends plan keys slots number k key word e held found words made =
     sym made
     ∙ ap (λ (w : ℕ → ℕ). sender_exchange w (Some (view_of key))) words
-    ∙ ap (sender_exchange (context_words plan (length earlier))) (found ∙ held k)
-    ∙ ap (exchange plan keys earlier (length earlier)) (sym is)
+    ∙ ap (sender_exchange (context_words plan number)) (found ∙ held k)
+
+-- the key of a line that got this reply
+pub key_of_reply : {A E : Type 0} (result : Result A E) (replied : A → KeyReply)
+    (held : A → Option KeyView) (kem : Kem) (bytes : List ℕ) (reply : KeyReply)
+    → IfOk result (λ a. replied a ≡ reply) → IfOk result (λ a. held a ≡ key_by kem bytes reply)
+    → IfOk result (λ a. held a ≡ key_by kem bytes (replied a))
+key_of_reply (Ok a) replied held kem bytes reply is key = key ∙ sym (ap (key_by kem bytes) is)
+key_of_reply (Err e) replied held kem bytes reply is key = tt

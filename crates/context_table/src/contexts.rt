@@ -1,9 +1,12 @@
 //! The contexts of a plan.
 
-ghost use Rattle.std.specs.Prelude.{◌≡◌, ◌+◌, ◌<◌, ◌≤◌, ◌^◌, [], ◌∷◌, ◌++◌, length, IfOk, OnOk, option_copied};
+ghost use Rattle.std.specs.Prelude.{◌≡◌, ◌+◌, ◌<◌, ◌≤◌, ◌^◌, [], ◌∷◌, ◌++◌, length, IsSome, IfOk, OnOk, option_copied};
 ghost use Rattle.batch_plans.specs.Limits.{IsEncWithin, IsKindWithin, IsContextWithin, IsWithinLimits};
 ghost use Rattle.context_table.specs.Contexts.{enc_at, exchange, psk_refusal, suite_of, scheduled, outcome, reply_of, slot_of, AreOutcomes};
+ghost use Rattle.context_table.specs.Contexts.{sender_exchange};
+ghost use Rattle.context_table.specs.Keys.{key_at};
 ghost use Rattle.context_table.specs.Slots.{HoldKeys};
+ghost use Rattle.context_table.specs.Streams.{context_words};
 
 use crate::copies::copied;
 use crate::exchanges::Exchange;
@@ -38,6 +41,28 @@ fn enc_at<'a>(pool: &'a [u8], earlier: &'a [ContextReply], enc: EncField) -> Opt
     }
 }
 
+// What is exchanged by a line that sends to the key of this number.
+fn sending<M: Multiplier>(
+    alloc: Global,
+    plan: &Plan,
+    keys: &KeyTable,
+    earlier: &[ContextReply],
+    key: u32,
+    mult: &M,
+) -> Result<Result<Exchange, ContextRefusal>, OutOfMemory>
+    requires seed { IsSome plan.now.seed }
+    requires keys { HoldKeys plan.now keys.now.replies keys.now.slots }
+    requires number { length earlier.now < 2 ^ 32 }
+    ensures { IfOk result (λ e. e ≡ sender_exchange (context_words plan.now (length earlier.now))
+        (key_at plan.now keys.now.replies key)) }
+{
+    let Some(key) = keys.key(key) else {
+        return Ok(Err(ContextRefusal::NoKey));
+    };
+    let mut words = context_stream(plan, earlier.len());
+    Ok(Ok(key.sender_exchange(alloc, &mut words, mult)?))
+}
+
 // What is exchanged by the line after those that got these replies.
 fn exchange<M: Multiplier>(
     alloc: Global,
@@ -60,13 +85,7 @@ fn exchange<M: Multiplier>(
             shared_secret: copied(alloc, secret.of(pool))?,
             reply: ContextReply::Shared,
         })),
-        ContextKind::Send { key } => match keys.key(key) {
-            None => Ok(Err(ContextRefusal::NoKey)),
-            Some(key) => {
-                let mut words = context_stream(plan, earlier.len());
-                Ok(Ok(key.sender_exchange(alloc, &mut words, mult)?))
-            }
-        },
+        ContextKind::Send { key } => sending(alloc, plan, keys, earlier, key, mult),
         ContextKind::Recv { key, enc } => match keys.key(key) {
             None => Ok(Err(ContextRefusal::NoKey)),
             Some(key) => key.recipient_exchange(alloc, enc_at(pool, earlier, enc), mult),
@@ -182,6 +201,20 @@ fn push_slot(
     push(slots, slot(parts))
 }
 
+// Puts the reply to a line and its context behind those so far.
+fn keep(
+    replies: &mut Vec<ContextReply>,
+    slots: &mut Vec<Option<Context>>,
+    outcome: Result<Standing, ContextRefusal>,
+) -> Result<(), OutOfMemory>
+    ensures replies { OnOk result (replies.new.items ≡ replies.old.items ++ reply_of outcome ∷ []) }
+    ensures slots { OnOk result (slots.new.items ≡ slots.old.items ++ slot_of outcome ∷ []) }
+{
+    let (reply, slot) = parts(outcome);
+    replies.push(reply)?;
+    push_slot(slots, slot)
+}
+
 /// The replies to context lines, and the contexts that stand, each in the slot of its number.
 #[derive(Drop)]
 pub(crate) struct ContextTable {
@@ -207,9 +240,7 @@ pub(crate) fn context_table<M: Multiplier>(
     let mut slots = Vec::new(alloc);
     'contexts: for line in plan.contexts.as_slice() {
         let outcome = outcome(alloc, plan, keys, &replies, line, mult)?;
-        let (reply, slot) = parts(outcome);
-        replies.push(reply)?;
-        push_slot(&mut slots, slot)?;
+        keep(&mut replies, &mut slots, outcome)?;
     }
     Ok(ContextTable { replies, slots })
 }

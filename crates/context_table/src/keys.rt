@@ -1,6 +1,6 @@
 //! The keys of a plan.
 
-ghost use Rattle.std.specs.Prelude.{◌≡◌, ◌+◌, ◌*◌, ◌^◌, ◌<◌, ◌≤◌, length, IfOk, option_copied, slice_get};
+ghost use Rattle.std.specs.Prelude.{◌≡◌, ◌+◌, ◌*◌, ◌^◌, ◌<◌, ◌≤◌, [], ◌∷◌, ◌++◌, length, IfOk, OnOk, option_copied, slice_get};
 ghost use Rattle.batch_plans.specs.Limits.{IsKeyWithin, IsWithinLimits};
 ghost use Rattle.context_table.specs.Keys.{IsKeyReply, kem_of, given_bytes, key_by};
 ghost use Rattle.context_table.specs.Contexts.{sender_exchange, recipient_exchange};
@@ -84,6 +84,20 @@ fn of_857(answered: Answered<Sntrup857>) -> AnsweredKey
     }
 }
 
+// Puts an answer behind those so far.
+fn keep(
+    replies: &mut Vec<KeyReply>,
+    slots: &mut Vec<Option<Key>>,
+    answered: AnsweredKey,
+) -> Result<(), OutOfMemory>
+    ensures replies { OnOk result (replies.new.items ≡ replies.old.items ++ answered.reply ∷ []) }
+    ensures slots { OnOk result (slots.new.items ≡ slots.old.items ++ answered.key ∷ []) }
+{
+    replies.push(answered.reply)?;
+    slots.push(answered.key)?;
+    Ok(())
+}
+
 // Answers the key line of this number.
 fn answered_key<M: Multiplier>(
     alloc: Global,
@@ -99,14 +113,14 @@ fn answered_key<M: Multiplier>(
         ≡ key_by (kem_of line.now) (given_bytes plan.now.pool line.now) a.reply) }
 {
     let pool = plan.pool.as_slice();
-    Ok(match *line {
-        KeyLine::Generate => of_761(made_pair(alloc, &mut key_stream(plan, number), mult)?),
-        KeyLine::Secret(bytes) => of_761(given_secret(alloc, bytes.of(pool))?),
-        KeyLine::Peer(bytes) => of_761(given_public(alloc, bytes.of(pool))?),
-        KeyLine::Generate857 => of_857(made_pair(alloc, &mut key_stream(plan, number), mult)?),
-        KeyLine::Secret857(bytes) => of_857(given_secret(alloc, bytes.of(pool))?),
-        KeyLine::Peer857(bytes) => of_857(given_public(alloc, bytes.of(pool))?),
-    })
+    match *line {
+        KeyLine::Generate => made_pair(alloc, &mut key_stream(plan, number), mult).map(of_761),
+        KeyLine::Secret(bytes) => given_secret(alloc, bytes.of(pool)).map(of_761),
+        KeyLine::Peer(bytes) => given_public(alloc, bytes.of(pool)).map(of_761),
+        KeyLine::Generate857 => made_pair(alloc, &mut key_stream(plan, number), mult).map(of_857),
+        KeyLine::Secret857(bytes) => given_secret(alloc, bytes.of(pool)).map(of_857),
+        KeyLine::Peer857(bytes) => given_public(alloc, bytes.of(pool)).map(of_857),
+    }
 }
 
 /// The keys of a plan, each in the slot of its number; none where it was refused.
@@ -146,8 +160,7 @@ pub fn key_table<M: Multiplier>(
     let mut slots = Vec::new(alloc);
     'keys: for (number, line) in plan.keys.as_slice().iter().enumerate() {
         let answered = answered_key(alloc, plan, number, line, mult)?;
-        replies.push(answered.reply)?;
-        slots.push(answered.key)?;
+        keep(&mut replies, &mut slots, answered)?;
     }
     Ok(KeyTable {
         replies: PlainList::from_vec(replies),

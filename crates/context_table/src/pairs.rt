@@ -35,6 +35,38 @@ impl<S: KemParams> Model for KeyPair<S> {
     } };
 }
 
+// What the sender's end has of an exchange.
+fn sent(alloc: Global, kem: u16, enc: &[u8], key: &[u8]) -> Result<Exchange, OutOfMemory>
+    ensures { IfOk result (λ e. e ≡ record {
+      kem = kem;
+      shared_secret = key.now;
+      reply = ContextReply.Sender enc.now;
+    }) }
+{
+    Ok(Exchange {
+        kem,
+        shared_secret: copied(alloc, key)?,
+        reply: ContextReply::Sender {
+            enc: copied(alloc, enc)?,
+        },
+    })
+}
+
+// What the recipient's end has of it.
+fn received(alloc: Global, kem: u16, key: &[u8]) -> Result<Exchange, OutOfMemory>
+    ensures { IfOk result (λ e. e ≡ record {
+      kem = kem;
+      shared_secret = key.now;
+      reply = ContextReply.Recipient;
+    }) }
+{
+    Ok(Exchange {
+        kem,
+        shared_secret: copied(alloc, key)?,
+        reply: ContextReply::Recipient,
+    })
+}
+
 impl<S: KemParams> KeyPair<S> {
     /// The public key.
     pub fn public(&self) -> &PublicKey<S>
@@ -64,13 +96,7 @@ impl<S: KemParams> KeyPair<S> {
         ensures { IfOk result (λ e. sender_exchange (R.word words.old) (Some self.now) ≡ Ok e) }
     {
         let (enc, key) = encap(alloc, words, mult, &self.public)?;
-        Ok(Exchange {
-            kem: S::ID,
-            shared_secret: copied(alloc, &key)?,
-            reply: ContextReply::Sender {
-                enc: copied(alloc, enc.as_slice())?,
-            },
-        })
+        sent(alloc, S::ID, enc.as_slice(), &key)
     }
 
     /// A recipient's exchange, by Decap of an encapsulation with the secret key, where there are
@@ -94,11 +120,7 @@ impl<S: KemParams> KeyPair<S> {
             return Ok(Err(ContextRefusal::EncSize));
         }
         let key = decap(alloc, mult, enc, secret)?;
-        Ok(Ok(Exchange {
-            kem: S::ID,
-            shared_secret: copied(alloc, &key)?,
-            reply: ContextReply::Recipient,
-        }))
+        Ok(Ok(received(alloc, S::ID, &key)?))
     }
 }
 
@@ -120,6 +142,39 @@ fn refused<S: KemParams>(refusal: KeyRefusal) -> Answered<S>
     }
 }
 
+// There is a key.
+fn standing<S: KemParams>(
+    reply: KeyReply,
+    public: PublicKey<S>,
+    secret: Option<SecretKey<S>>,
+) -> Answered<S>
+    ensures reply { result.reply ≡ reply }
+    ensures pair { result.pair ≡ Some (record {
+      kem = record { id = S.ID; set = S.set };
+      public = public;
+      secret = secret;
+    }) }
+{
+    Answered {
+        reply,
+        pair: Some(KeyPair { public, secret }),
+    }
+}
+
+// The reply that gives a pair.
+fn pair_reply<S: KemParams>(
+    alloc: Global,
+    public: &PublicKey<S>,
+    secret: &SecretKey<S>,
+) -> Result<KeyReply, OutOfMemory>
+    ensures { IfOk result (λ reply. reply ≡ KeyReply.Generated public.now secret.now) }
+{
+    Ok(KeyReply::Generated {
+        public: copied(alloc, public.as_slice())?,
+        secret: copied(alloc, secret.as_slice())?,
+    })
+}
+
 // The pair stands.
 fn generated<S: KemParams>(
     alloc: Global,
@@ -133,15 +188,8 @@ fn generated<S: KemParams>(
       secret = Some secret;
     })) }
 {
-    let reply = KeyReply::Generated {
-        public: copied(alloc, public.as_slice())?,
-        secret: copied(alloc, secret.as_slice())?,
-    };
-    let secret = Some(secret);
-    Ok(Answered {
-        reply,
-        pair: Some(KeyPair { public, secret }),
-    })
+    let reply = pair_reply(alloc, &public, &secret)?;
+    Ok(standing(reply, public, Some(secret)))
 }
 
 /// Makes a pair from the words of a source that stands at its first.
@@ -176,11 +224,7 @@ fn held<S: KemParams>(alloc: Global, secret: SecretKey<S>) -> Result<Answered<S>
     let reply = KeyReply::Secret {
         public: copied(alloc, public.as_slice())?,
     };
-    let secret = Some(secret);
-    Ok(Answered {
-        reply,
-        pair: Some(KeyPair { public, secret }),
-    })
+    Ok(standing(reply, public, Some(secret)))
 }
 
 /// Takes the bytes of a secret key.
@@ -210,13 +254,7 @@ pub(crate) fn given_public<S: KemParams>(
         ≡ key_by (record { id = S.ID; set = S.set }) bytes.now a.reply) }
 {
     match PublicKey::<S>::from_bytes(alloc, bytes) {
-        Ok(public) => Ok(Answered {
-            reply: KeyReply::Peer,
-            pair: Some(KeyPair {
-                public,
-                secret: None,
-            }),
-        }),
+        Ok(public) => Ok(standing(KeyReply::Peer, public, None)),
         Err(KeyBytesFault::Length) => Ok(refused(KeyRefusal::Length)),
         Err(KeyBytesFault::Form) => unreachable!(),
         Err(KeyBytesFault::OutOfMemory) => Err(OutOfMemory),

@@ -4,4 +4,5 @@ pub mod Batch
 pub mod Added
 pub mod PlanText
 pub mod FieldFaults
+pub mod LineParts
 pub mod Drafts

@@ -2,8 +2,8 @@
 
 ghost use Rattle.std.specs.Prelude.{◌≡◌, ◌+◌, ◌<◌, ◌≤◌, ◌^◌, length, vec_len};
 ghost use Rattle.std.specs.Prelude.{sum_by, OnOk, true};
-ghost use Rattle.field_text.specs.Fields.{Gives, Reads};
-ghost use Rattle.batch_plans.specs.Limits.{most_input, items_of, size_of};
+ghost use Rattle.field_text.specs.Fields.{Gives};
+ghost use Rattle.batch_plans.specs.Limits.{most_input, items_of};
 ghost use Rattle.request_frames.specs.Batch.{counted as counted_of, with_rand as rand_of};
 ghost use Rattle.request_frames.specs.Batch.{with_key as key_of, with_context as context_of};
 ghost use Rattle.request_frames.specs.Batch.{with_lane as lane_of, with_several as several_of};
@@ -14,51 +14,23 @@ ghost use Rattle.request_frames.specs.Drafts.{plan_of, pool_size, IsKept};
 use crate::draft::BatchDraft;
 use crate::words::{CallWord, ContextWord, LineWord};
 use crate::{call_lines, contexts, names};
-use batch_plans::limits::{
-    MOST_CONTEXTS, MOST_EXPORTED, MOST_ITEMS, MOST_KEYS, MOST_LANES, MOST_OPENING,
-};
-use batch_plans::{CallLine, PlainList, items_of};
+use batch_plans::CallLine;
+use batch_plans::limits::{MOST_CONTEXTS, MOST_KEYS};
 use field_text::{Pieces, Reason, Stop};
 use key_frames::{KeyWord, read_key, read_rand};
-use std::mem;
-
-// The LEN of a call.
-fn size_of_call(call: &CallLine) -> u64
-    ensures { result ≡ size_of call.now }
-{
-    match *call {
-        CallLine::Export { size, .. } => size as u64,
-        _ => 0,
-    }
-}
 
 impl BatchDraft {
     // A call of the open lane, where the counts are within their limits with it.
-    #[tactic(auto, using(crate::proofs::Lanes::lane_facts), unfolding(crate::specs::Batch::counted))]
     fn counted(&mut self, call: CallLine) -> Result<(), Stop>
         requires kept { IsKept self.old }
-        requires open { self.old.in_lane ≡ true }
+        requires open { self.old.lanes.is_open ≡ true }
         ensures read { Gives (λ _. plan_of self.new) result (counted_of (plan_of self.old) call) }
         ensures kept { OnOk result (IsKept self.new) }
-        ensures added { OnOk result (self.new.item_count ≡ self.old.item_count + items_of call) }
+        ensures added { OnOk result
+            (self.new.lanes.item_count ≡ self.old.lanes.item_count + items_of call) }
         ensures pool { self.new.pool.items ≡ self.old.pool.items }
     {
-        let count = items_of(&call) as usize;
-        if count > MOST_OPENING {
-            return Err(Stop::Bad(Reason::Count));
-        }
-        let item_count = self.item_count + count;
-        if item_count > MOST_ITEMS {
-            return Err(Stop::Bad(Reason::Count));
-        }
-        let size_sum = self.size_sum + size_of_call(&call);
-        if size_sum > MOST_EXPORTED as u64 {
-            return Err(Stop::Bad(Reason::Count));
-        }
-        self.calls.push(call)?;
-        self.item_count = item_count;
-        self.size_sum = size_sum;
-        Ok(())
+        self.lanes.push(call)
     }
 
     // `rand ..`
@@ -125,16 +97,7 @@ impl BatchDraft {
         ensures pool { self.new.pool.items ≡ self.old.pool.items }
     {
         fields.exactly(0)?;
-        if !self.in_lane {
-            self.in_lane = true;
-            return Ok(());
-        }
-        if self.lanes.len() + 1 >= MOST_LANES {
-            return Err(Stop::Bad(Reason::Count));
-        }
-        let calls = mem::replace(&mut self.calls, Vec::new(self.alloc));
-        self.lanes.push(PlainList::from_vec(calls))?;
-        Ok(())
+        self.lanes.open(self.alloc)
     }
 
     // `unsealall ..`: its items go behind those of the plan once they are counted.
@@ -143,7 +106,7 @@ impl BatchDraft {
         requires room { vec_len self.old.pool + sum_by length fields.old ≤ most_input }
         requires few { length fields.old ≤ most_input }
         requires kept { IsKept self.old }
-        requires open { self.old.in_lane ≡ true }
+        requires open { self.old.lanes.is_open ≡ true }
         ensures read { Gives (λ _. plan_of self.new) result
             (several_of names (plan_of self.old) fields.old) }
         ensures kept { OnOk result (IsKept self.new) }
@@ -168,7 +131,7 @@ impl BatchDraft {
         requires room { vec_len self.old.pool + sum_by length fields.old ≤ most_input }
         requires few { length fields.old ≤ most_input }
         requires kept { IsKept self.old }
-        requires open { self.old.in_lane ≡ true }
+        requires open { self.old.lanes.is_open ≡ true }
         ensures read { Gives (λ _. plan_of self.new) result
             (call_of names (plan_of self.old) word fields.old) }
         ensures kept { OnOk result (IsKept self.new) }

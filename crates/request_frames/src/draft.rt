@@ -5,15 +5,15 @@ ghost use Rattle.request_frames.specs.Batch.{has_place as place_of, may_stand as
 ghost use Rattle.request_frames.specs.Batch.{empty_plan};
 ghost use Rattle.request_frames.specs.Drafts.{plan_of, IsKept};
 
+use crate::open_lanes::OpenLanes;
 use crate::words;
 use crate::words::LineWord;
-use batch_plans::{CallLine, ContextLine, KeyLine, PlainList, Plan, limits};
+use batch_plans::{ContextLine, KeyLine, PlainList, Plan, limits};
 use call_places::Item;
 use field_text::{Draft, Pieces, Reason, Stop};
 use std::alloc::{AllocError, Global};
 
-/// The lines so far. The lane that is open stands apart from those before it, and the counts of
-/// all lanes are kept.
+/// The lines so far, with the counts of all lanes.
 ///
 /// A grammar that has other lines besides those of a batch takes its lines over one of these, as
 /// [`read_batch`](crate::read_batch) does.
@@ -26,12 +26,8 @@ pub struct BatchDraft {
     pub(super) keys: Vec<KeyLine>,
     pub(super) contexts: Vec<ContextLine>,
     pub(super) items: Vec<Item>,
-    pub(super) lanes: Vec<PlainList<CallLine>>,
-    pub(super) calls: Vec<CallLine>,
-    pub(super) in_lane: bool,
+    pub(super) lanes: OpenLanes,
     pub(super) added: u32,
-    pub(super) item_count: usize,
-    pub(super) size_sum: u64,
 }
 
 impl BatchDraft {
@@ -48,12 +44,8 @@ impl BatchDraft {
             keys: Vec::new(alloc),
             contexts: Vec::new(alloc),
             items: Vec::new(alloc),
-            lanes: Vec::new(alloc),
-            calls: Vec::new(alloc),
-            in_lane: false,
+            lanes: OpenLanes::new(alloc),
             added: 0,
-            item_count: 0,
-            size_sum: 0,
         }
     }
 
@@ -61,20 +53,21 @@ impl BatchDraft {
     pub fn has_lane(&self) -> bool
         ensures { result ≡ nat_lt 0 (length (plan_of self.now).lanes) }
     {
-        self.in_lane
+        self.lanes.is_open()
     }
 
     // Whether a line of this word has its place here.
     fn has_place(&self, word: LineWord) -> bool
         ensures { result ≡ place_of word (plan_of self.now) }
     {
-        let takes_keys = self.contexts.is_empty() && !self.in_lane;
+        let has_lane = self.lanes.is_open();
+        let takes_keys = self.contexts.is_empty() && !has_lane;
         match word {
             LineWord::Rand => self.seed.is_none() && self.keys.is_empty() && takes_keys,
             LineWord::Key(_) => takes_keys,
-            LineWord::Context(_) => !self.in_lane,
+            LineWord::Context(_) => !has_lane,
             LineWord::Lane => true,
-            LineWord::Call(_) => self.in_lane,
+            LineWord::Call(_) => has_lane,
         }
     }
 
@@ -90,31 +83,16 @@ impl BatchDraft {
         requires kept { IsKept self }
         ensures plan { IfOk result (λ plan. plan ≡ plan_of self) }
     {
-        let BatchDraft {
-            version,
-            seed,
-            pool,
-            keys,
-            contexts,
-            items,
-            mut lanes,
-            calls,
-            in_lane,
-            added,
-            ..
-        } = self;
-        if in_lane {
-            lanes.push(PlainList::from_vec(calls))?;
-        }
+        let lanes = self.lanes.finish(self.alloc)?;
         Ok(Plan {
-            version,
-            seed,
-            pool: PlainList::from_vec(pool),
-            keys: PlainList::from_vec(keys),
-            contexts: PlainList::from_vec(contexts),
-            items: PlainList::from_vec(items),
+            version: self.version,
+            seed: self.seed,
+            pool: PlainList::from_vec(self.pool),
+            keys: PlainList::from_vec(self.keys),
+            contexts: PlainList::from_vec(self.contexts),
+            items: PlainList::from_vec(self.items),
             lanes: PlainList::from_vec(lanes),
-            added,
+            added: self.added,
         })
     }
 }

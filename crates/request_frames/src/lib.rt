@@ -27,6 +27,7 @@ mod draft;
 mod fields;
 mod lane_replies;
 mod names;
+mod open_lanes;
 mod printing;
 mod reading;
 mod reply_lines;

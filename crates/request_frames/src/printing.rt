@@ -13,7 +13,7 @@ ghost use Rattle.reply_texts.specs.ReplyText.{has_stamps, mark_line, journal_lin
 ghost use Rattle.reply_texts.specs.ReplyText.{answers_text, bad_text, IsAnswered};
 
 use crate::lane_replies::put_calls;
-use crate::reply_lines::{put_bad, put_context_line, put_mark, put_reply};
+use crate::reply_lines::{put_bad, put_context_line, put_mark, put_numbered, put_reply};
 use batch_io::Sink;
 use batch_plans::{Answers, CallLine, ContextReply, KeyReply, LaneAnswers, PlainList, Plan, Reply};
 use call_places::Mark;
@@ -121,9 +121,7 @@ fn put_answers<K: Sink>(out: &mut Buffer, sink: &mut K, plan: &Plan, answers: &A
 pub fn put_version<K: Sink>(out: &mut Buffer, sink: &mut K, version: u8)
     ensures { Puts K.written K.faults sink.old sink.new out.old out.new (version_line version) }
 {
-    out.put_text(sink, b"hpkebatch ");
-    out.put_number(sink, version as u64);
-    out.put_text(sink, b"\n")
+    put_numbered(out, sink, b"hpkebatch ", version as u64)
 }
 
 // Whether journals tell their stamps.
@@ -183,9 +181,7 @@ fn put_lane<K: Sink>(
     ensures { Puts K.written K.faults sink.old sink.new out.old out.new
         (concat (lane_lines number (answered_lines calls.now lane.now))) }
 {
-    out.put_text(sink, b"lane ");
-    out.put_number(sink, number);
-    out.put_text(sink, b"\n");
+    put_numbered(out, sink, b"lane ", number);
     put_calls(out, sink, calls, lane)
 }
 
@@ -209,9 +205,7 @@ fn put_journal<K: Sink>(out: &mut Buffer, sink: &mut K, stamps: bool, context: u
     ensures { Puts K.written K.faults sink.old sink.new out.old out.new
         (concat (journal_lines stamps context marks.now)) }
 {
-    out.put_text(sink, b"journal ");
-    out.put_number(sink, context);
-    out.put_text(sink, b"\n");
+    put_numbered(out, sink, b"journal ", context);
     put_marks(out, sink, stamps, marks)
 }
 

@@ -1,18 +1,47 @@
 //! The lines of the reply text, each put into a buffer.
 
-ghost use Rattle.std.specs.Prelude.{◌≡◌, length};
+ghost use Rattle.std.specs.Prelude.{◌≡◌, ◌++◌, length, codes, decimal};
 ghost use Rattle.batch_plans.specs.Replies.{IsInRange};
 ghost use Rattle.call_places.specs.Spans.{span_bytes};
 ghost use Rattle.field_text.specs.Printing.{Puts};
 ghost use Rattle.reply_texts.specs.Lines.{context_words, context_line};
-ghost use Rattle.reply_texts.specs.Lines.{served_line, reply_line};
+ghost use Rattle.reply_texts.specs.Lines.{served_line, exported_line, refused_line, reply_line};
 ghost use Rattle.reply_texts.specs.ReplyText.{guess_line, stamp_words, mark_line, bad_text};
 
 use crate::reply_words::{word_of_call_refusal, word_of_context_refusal, word_of_reason};
 use batch_io::Sink;
-use batch_plans::{Batch, ContextReply, Reply};
-use call_places::Mark;
+use batch_plans::{Batch, CallRefusal, ContextReply, Reply};
+use call_places::{Mark, Place};
 use field_text::{BadBatch, Buffer};
+
+/// Puts a line of a word and a number.
+pub(crate) fn put_numbered<K: Sink>(out: &mut Buffer, sink: &mut K, word: &[u8], number: u64)
+    ensures { Puts K.written K.faults sink.old sink.new out.old out.new
+        (word.now ++ decimal number ++ codes "\n") }
+{
+    out.put_text(sink, word);
+    out.put_number(sink, number);
+    out.put_text(sink, b"\n")
+}
+
+// Puts the word and the number that begin a line, and the space behind them.
+fn put_head<K: Sink>(out: &mut Buffer, sink: &mut K, word: &[u8], number: u64)
+    ensures { Puts K.written K.faults sink.old sink.new out.old out.new
+        (word.now ++ decimal number ++ codes " ") }
+{
+    out.put_text(sink, word);
+    out.put_number(sink, number);
+    out.put_text(sink, b" ")
+}
+
+// Puts `refused` and a word.
+fn put_refusal<K: Sink>(out: &mut Buffer, sink: &mut K, word: &[u8])
+    ensures { Puts K.written K.faults sink.old sink.new out.old out.new
+        (codes "refused " ++ word.now) }
+{
+    out.put_text(sink, b"refused ");
+    out.put_text(sink, word)
+}
 
 pub(crate) fn put_context_line<K: Sink>(
     out: &mut Buffer,
@@ -23,9 +52,7 @@ pub(crate) fn put_context_line<K: Sink>(
     ensures { Puts K.written K.faults sink.old sink.new out.old out.new
         (context_line context reply.now) }
 {
-    out.put_text(sink, b"context ");
-    out.put_number(sink, context);
-    out.put_text(sink, b" ");
+    put_head(out, sink, b"context ", context);
     put_context_words(out, sink, reply);
     out.put_text(sink, b"\n")
 }
@@ -41,8 +68,7 @@ fn put_context_words<K: Sink>(out: &mut Buffer, sink: &mut K, reply: &ContextRep
         }
         ContextReply::Recipient => out.put_text(sink, b"recipient"),
         ContextReply::Refused(refusal) => {
-            out.put_text(sink, b"refused ");
-            out.put_text(sink, word_of_context_refusal(*refusal))
+            put_refusal(out, sink, word_of_context_refusal(*refusal))
         }
     }
 }
@@ -60,22 +86,10 @@ pub(crate) fn put_reply<K: Sink>(out: &mut Buffer, sink: &mut K, pool: &[u8], re
         Reply::Opened { number, text } => {
             put_served(out, sink, b"opened ", number, text.of(pool))
         }
-        Reply::Failed { number } => {
-            out.put_text(sink, b"failed ");
-            out.put_number(sink, number);
-            out.put_text(sink, b"\n")
-        }
+        Reply::Failed { number } => put_numbered(out, sink, b"failed ", number),
         Reply::Limit => out.put_text(sink, b"limit\n"),
-        Reply::Exported { text } => {
-            out.put_text(sink, b"exported ");
-            out.put_hex(sink, text.of(pool));
-            out.put_text(sink, b"\n")
-        }
-        Reply::Refused(refusal) => {
-            out.put_text(sink, b"refused ");
-            out.put_text(sink, word_of_call_refusal(refusal));
-            out.put_text(sink, b"\n")
-        }
+        Reply::Exported { text } => put_exported(out, sink, text.of(pool)),
+        Reply::Refused(refusal) => put_refused(out, sink, refusal),
         Reply::Added => out.put_text(sink, b"added\n"),
         Reply::Retired => out.put_text(sink, b"retired\n"),
     }
@@ -85,19 +99,30 @@ fn put_served<K: Sink>(out: &mut Buffer, sink: &mut K, word: &[u8], number: u64,
     ensures { Puts K.written K.faults sink.old sink.new out.old out.new
         (served_line word.now number text.now) }
 {
-    out.put_text(sink, word);
-    out.put_number(sink, number);
-    out.put_text(sink, b" ");
+    put_head(out, sink, word, number);
     out.put_hex(sink, text);
+    out.put_text(sink, b"\n")
+}
+
+fn put_exported<K: Sink>(out: &mut Buffer, sink: &mut K, bytes: &[u8])
+    ensures { Puts K.written K.faults sink.old sink.new out.old out.new (exported_line bytes.now) }
+{
+    out.put_text(sink, b"exported ");
+    out.put_hex(sink, bytes);
+    out.put_text(sink, b"\n")
+}
+
+fn put_refused<K: Sink>(out: &mut Buffer, sink: &mut K, refusal: CallRefusal)
+    ensures { Puts K.written K.faults sink.old sink.new out.old out.new (refused_line refusal) }
+{
+    put_refusal(out, sink, word_of_call_refusal(refusal));
     out.put_text(sink, b"\n")
 }
 
 pub(crate) fn put_batch<K: Sink>(out: &mut Buffer, sink: &mut K, batch: &Batch)
     ensures { Puts K.written K.faults sink.old sink.new out.old out.new (guess_line batch.now) }
 {
-    out.put_text(sink, b"batch ");
-    out.put_number(sink, batch.guess);
-    out.put_text(sink, b" ");
+    put_head(out, sink, b"batch ", batch.guess);
     out.put_number(sink, batch.missed as u64);
     out.put_text(sink, b"\n")
 }
@@ -106,13 +131,20 @@ pub(crate) fn put_mark<K: Sink>(out: &mut Buffer, sink: &mut K, stamps: bool, ma
     ensures { Puts K.written K.faults sink.old sink.new out.old out.new
         (mark_line stamps mark.now) }
 {
-    out.put_number(sink, mark.place.lane as u64);
-    out.put_text(sink, b" ");
-    out.put_number(sink, mark.place.call as u64);
-    out.put_text(sink, b" ");
-    out.put_number(sink, mark.place.item as u64);
+    put_place(out, sink, mark.place);
     put_stamp(out, sink, stamps, mark.stamp);
     out.put_text(sink, b"\n")
+}
+
+fn put_place<K: Sink>(out: &mut Buffer, sink: &mut K, place: Place)
+    ensures { Puts K.written K.faults sink.old sink.new out.old out.new
+        (decimal place.lane ++ codes " " ++ decimal place.call ++ codes " " ++ decimal place.item) }
+{
+    out.put_number(sink, place.lane as u64);
+    out.put_text(sink, b" ");
+    out.put_number(sink, place.call as u64);
+    out.put_text(sink, b" ");
+    out.put_number(sink, place.item as u64)
 }
 
 fn put_stamp<K: Sink>(out: &mut Buffer, sink: &mut K, stamps: bool, stamp: u64)
@@ -129,9 +161,7 @@ fn put_stamp<K: Sink>(out: &mut Buffer, sink: &mut K, stamps: bool, stamp: u64)
 pub(crate) fn put_bad<K: Sink>(out: &mut Buffer, sink: &mut K, bad: &BadBatch)
     ensures { Puts K.written K.faults sink.old sink.new out.old out.new (bad_text bad.now) }
 {
-    out.put_text(sink, b"bad ");
-    out.put_number(sink, bad.line as u64);
-    out.put_text(sink, b" ");
+    put_head(out, sink, b"bad ", bad.line as u64);
     out.put_text(sink, word_of_reason(bad.reason));
     out.put_text(sink, b"\n")
 }

@@ -1,6 +1,7 @@
 //! The pieces of a line that are one of a few words or numbers.
 
 ghost use Rattle.std.specs.Prelude.{◌≡◌, ◌+◌, ◌++◌, ◌≤◌, length, sum_by, OnOk};
+ghost use Rattle.std.specs.Str.{bytes_eq};
 ghost use Rattle.field_text.specs.Fields.{Reads, next};
 ghost use Rattle.request_frames.specs.Words.{set_up_words, lane_words, word_among, draws};
 ghost use Rattle.request_frames.specs.Words.{line_word as line_word_of, role as role_of};
@@ -49,18 +50,24 @@ impl LineWord {
     }
 }
 
+fn is_word(piece: &[u8], word: &[u8]) -> bool
+    ensures { result ≡ bytes_eq piece.now word.now }
+{
+    piece == word
+}
+
 fn lane_word(piece: &[u8]) -> Result<LineWord, Reason>
     ensures { Reads (λ word. word) result (word_among lane_words piece.now) }
 {
-    if piece == b"lane".as_slice() {
+    if is_word(piece, b"lane") {
         Ok(LineWord::Lane)
-    } else if piece == b"seal".as_slice() {
+    } else if is_word(piece, b"seal") {
         Ok(LineWord::Call(CallWord::Seal))
-    } else if piece == b"unseal".as_slice() {
+    } else if is_word(piece, b"unseal") {
         Ok(LineWord::Call(CallWord::Unseal))
-    } else if piece == b"unsealall".as_slice() {
+    } else if is_word(piece, b"unsealall") {
         Ok(LineWord::Call(CallWord::UnsealAll))
-    } else if piece == b"export".as_slice() {
+    } else if is_word(piece, b"export") {
         Ok(LineWord::Call(CallWord::Export))
     } else {
         Err(Reason::Word)
@@ -71,19 +78,19 @@ fn lane_word(piece: &[u8]) -> Result<LineWord, Reason>
 fn common_word(piece: &[u8]) -> Result<LineWord, Reason>
     ensures { Reads (λ word. word) result (word_among (set_up_words ++ lane_words) piece.now) }
 {
-    if piece == b"rand".as_slice() {
+    if is_word(piece, b"rand") {
         Ok(LineWord::Rand)
-    } else if piece == b"keygen".as_slice() {
+    } else if is_word(piece, b"keygen") {
         Ok(LineWord::Key(KeyWord::Generate))
-    } else if piece == b"secret".as_slice() {
+    } else if is_word(piece, b"secret") {
         Ok(LineWord::Key(KeyWord::Secret))
-    } else if piece == b"peer".as_slice() {
+    } else if is_word(piece, b"peer") {
         Ok(LineWord::Key(KeyWord::Peer))
-    } else if piece == b"share".as_slice() {
+    } else if is_word(piece, b"share") {
         Ok(LineWord::Context(ContextWord::Share))
-    } else if piece == b"send".as_slice() {
+    } else if is_word(piece, b"send") {
         Ok(LineWord::Context(ContextWord::Send))
-    } else if piece == b"recv".as_slice() {
+    } else if is_word(piece, b"recv") {
         Ok(LineWord::Context(ContextWord::Recv))
     } else {
         lane_word(piece)
@@ -96,11 +103,11 @@ pub fn line_word(version: u8, piece: &[u8]) -> Result<LineWord, Reason>
 {
     if version != 2 {
         common_word(piece)
-    } else if piece == b"keygen857".as_slice() {
+    } else if is_word(piece, b"keygen857") {
         Ok(LineWord::Key(KeyWord::Generate857))
-    } else if piece == b"secret857".as_slice() {
+    } else if is_word(piece, b"secret857") {
         Ok(LineWord::Key(KeyWord::Secret857))
-    } else if piece == b"peer857".as_slice() {
+    } else if is_word(piece, b"peer857") {
         Ok(LineWord::Key(KeyWord::Peer857))
     } else {
         common_word(piece)
@@ -114,9 +121,9 @@ pub fn role(fields: &mut Pieces) -> Result<Role, Reason>
     ensures size { OnOk result (sum_by length fields.new ≤ sum_by length fields.old) }
 {
     let piece = fields.piece()?;
-    if piece == b"send".as_slice() {
+    if is_word(piece, b"send") {
         Ok(Role::Sender)
-    } else if piece == b"recv".as_slice() {
+    } else if is_word(piece, b"recv") {
         Ok(Role::Recipient)
     } else {
         Err(Reason::Word)
@@ -130,9 +137,9 @@ pub fn mode(fields: &mut Pieces) -> Result<Mode, Reason>
     ensures size { OnOk result (sum_by length fields.new ≤ sum_by length fields.old) }
 {
     let piece = fields.piece()?;
-    if piece == b"base".as_slice() {
+    if is_word(piece, b"base") {
         Ok(Mode::Base)
-    } else if piece == b"psk".as_slice() {
+    } else if is_word(piece, b"psk") {
         Ok(Mode::Psk)
     } else {
         Err(Reason::Word)

@@ -62,6 +62,16 @@ fn deal_marks(piles: &mut [Pile<Mark>], history: &[Spot]) -> Result<(), AllocErr
     Ok(())
 }
 
+// Deals the places of lists of spots, one list after another.
+fn deal_lists(piles: &mut [Pile<Place>], lists: &[Pile<Spot>]) -> Result<(), AllocError>
+    ensures { OnOk result (piles.new ≡ by_context piles.old (joined lists.now)) }
+{
+    'lists: for list in lists {
+        deal_places(piles, list.as_slice())?;
+    }
+    Ok(())
+}
+
 // The places of lists of spots on each of so many contexts, one list after another.
 fn on_contexts(
     alloc: Global,
@@ -72,9 +82,7 @@ fn on_contexts(
         piles.items ≡ by_context (replicate count []) (joined lists.now)) }
 {
     let mut piles = empty_piles(alloc, count)?;
-    'lists: for list in lists {
-        deal_places(&mut piles, list.as_slice())?;
-    }
+    deal_lists(&mut piles, lists)?;
     Ok(piles)
 }
 

@@ -19,6 +19,14 @@ impl<T> Model for Pile<T> {
 }
 
 impl<T> Pile<T> {
+    fn new(alloc: Global) -> Pile<T>
+        ensures { result ≡ [] }
+    {
+        Pile {
+            items: Vec::new(alloc),
+        }
+    }
+
     pub(crate) fn from_vec(items: Vec<T>) -> Pile<T>
         ensures { result ≡ items.items }
     {
@@ -47,7 +55,7 @@ pub(crate) fn empty_piles<T: Drop>(alloc: Global, count: usize) -> Result<Vec<Pi
 {
     let mut piles = Vec::new(alloc);
     'piles: for _pile in 0..count {
-        piles.push(Pile::from_vec(Vec::new(alloc)))?;
+        piles.push(Pile::new(alloc))?;
     }
     Ok(piles)
 }

@@ -3,7 +3,4 @@ use Rattle.request_frames.proofs.Chains.{◌⨾◌}
 use Rattle.request_frames.proofs.reply_lines.put_bad.Goals as goal
 
 pub returns : goal.returns
-returns g c =
-    c.put_text.ensures ⨾ c.put_number.ensures ⨾ c.put_text-2.ensures
-    ⨾ Puts-same c.word_of_reason.ensures c.put_text-3.ensures
-    ⨾ c.put_text-4.ensures
+returns g c = c.put_head.ensures ⨾ Puts-same c.word_of_reason.ensures c.put_text.ensures ⨾ c.put_text-2.ensures

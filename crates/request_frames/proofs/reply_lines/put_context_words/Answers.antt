@@ -1,4 +1,4 @@
-use Rattle.std.proofs.Common.{ap}
+use Rattle.std.proofs.Common.{ℕ, List, ◌++◌, codes, ap}
 use Rattle.field_text.specs.Printing.{hex_text}
 use Rattle.field_text.proofs.Held.{Puts-same}
 use Rattle.request_frames.proofs.Chains.{◌⨾◌}
@@ -11,5 +11,5 @@ returns-in-Sender g c =
 
 pub returns-in-Refused : goal.returns-in-Refused
 returns-in-Refused g c =
-    let word = Puts-same c.word_of_context_refusal.ensures c.put_text-in-Refused-2.ensures in
-    rw c.in-Refused.is (c.put_text-in-Refused.ensures ⨾ word)
+    let word = ap (λ (word : List ℕ). codes "refused " ++ word) c.word_of_context_refusal.ensures in
+    rw c.in-Refused.is (Puts-same word c.put_refusal.ensures)

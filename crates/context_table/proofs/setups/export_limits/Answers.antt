@@ -1,0 +1,14 @@
+use Rattle.std.proofs.Common.{[], ◌∷◌, ◌++◌, map, take, Option, ap, sym, ◌∙◌}
+use Rattle.std.proofs.lemmas.List.{map_more}
+use Rattle.hpke_context.specs.Contexts.{ContextView}
+use Rattle.due_replies.specs.Standing.{limit_of}
+use Rattle.context_table.proofs.setups.export_limits.Goals as goal
+
+pub contexts-preserved : goal.contexts-preserved
+contexts-preserved c =
+    let standing = c.args.standing.now in
+    let i = c.contexts.context-index in
+    let so_far = map limit_of (take i standing) in
+    rw (c.in_ok-push.ensures.items, c.contexts.invariant, c.export_limit.ensures)
+    (ap (λ (context : Option ContextView). so_far ++ limit_of context ∷ []) c.context-item.is
+    ∙ sym (map_more limit_of standing i c.context-item.result c.contexts-test.true))
