@@ -1,9 +1,12 @@
 -- What is read out of a list: a pass of a lane, the calls of a lane.
-use Rattle.std.proofs.Common.{◌≡◌, ◌<◌, ℕ, zero, suc, List, [], ◌∷◌, length, Option, Some, None, arith}
+use Rattle.std.proofs.Common.{◌≡◌, ◌<◌, ℕ, zero, suc, List, [], ◌∷◌, length, Option, Some, None, IsSome, is_some, ap, arith}
 use Rattle.batch_plans.specs.declared.plan.CallLine.{CallLine}
 use Rattle.std.specs.Prelude.{slice_index_or}
 use Rattle.turn_lock.specs.Passes.{PassView}
 use Rattle.stamp_counter.specs.Seats.{SeatView}
+
+pub is_there : {X : Type 0} {o : Option X} {x : X} → o ≡ Some x → IsSome o
+is_there is = ap is_some is
 
 pub one_pass : (p q : PassView) → Some p ≡ Some q → p ≡ q
 one_pass p q e = cc

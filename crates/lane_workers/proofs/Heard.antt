@@ -14,7 +14,7 @@ use Rattle.batch_plans.specs.declared.plan.CallLine.{CallLine}
 use Rattle.batch_plans.specs.declared.plan.CallLine.TheVariants as calls
 use Rattle.batch_plans.specs.declared.replies.Batch.{Batch}
 use Rattle.batch_plans.specs.declared.replies.Reply.{Reply}
-use Rattle.batch_plans.specs.Limits.{items_from}
+use Rattle.batch_plans.specs.Limits.{items_from, IsCallWithin}
 use Rattle.batch_plans.specs.Calls.{context_of}
 use Rattle.batch_plans.specs.Room.{opened_room}
 use Rattle.batch_plans.specs.Progress.{Progress, with_reply, with_batch}
@@ -198,6 +198,14 @@ spans_here plan other call bytes spans =
     (items_same plan other call bytes)
     (subst (λ (pool : List ℕ). All (ItemIsInPool (length pool)) (opening_items plan call)) bytes.pool
     spans)
+
+-- the call is one of the plan whose bytes are served
+pub call_here : (plan other : Plan) (call : CallLine) → HasBytesOf plan other
+    → IsCallWithin (length plan.items) (length plan.pool) call
+    → IsCallWithin (length other.items) (length other.pool) call
+call_here plan other call bytes within =
+    subst (λ (items : List Spans). IsCallWithin (length items) (length other.pool) call) bytes.items
+    (subst (λ (pool : List ℕ). IsCallWithin (length plan.items) (length pool) call) bytes.pool within)
 
 -- ---- an opening
 

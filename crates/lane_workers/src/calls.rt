@@ -111,13 +111,9 @@ impl<R: Threads + Wait + Sync, G: Gate> Service<'_, R, G> {
         ensures { Draws work.old work.new number call result }
     {
         let i = number as usize;
-        let (Some(counter), Some(pass), Some(seat)) = (
-            self.counter,
-            work.passes[i].take(),
-            work.seat.take(),
-        ) else {
-            unreachable!()
-        };
+        let counter = self.counter.unwrap();
+        let pass = work.passes[i].take().unwrap();
+        let seat = work.seat.take().unwrap();
         let (drawn, pass, seat) = shared.draw(self.rt, pass, counter, seat, call);
         work.passes[i] = Some(pass);
         work.seat = Some(seat);
@@ -131,9 +127,7 @@ impl<R: Threads + Wait + Sync, G: Gate> Service<'_, R, G> {
         ensures { Peeks work.old work.new number result }
     {
         let i = number as usize;
-        let Some(pass) = work.passes[i].take() else {
-            unreachable!()
-        };
+        let pass = work.passes[i].take().unwrap();
         let (guess, pass) = shared.peek(self.rt, pass);
         work.passes[i] = Some(pass);
         self.gate.reached(work.lane, call, Point::Guessed);
@@ -151,9 +145,8 @@ impl<R: Threads + Wait + Sync, G: Gate> Service<'_, R, G> {
         ensures same { work.new ≡ with_table work.old work.new.table }
     {
         let context = shared.context();
-        let (Some(key), Some(base_nonce)) = (context.cipher(), context.base_nonce()) else {
-            unreachable!()
-        };
+        let key = context.cipher().unwrap();
+        let base_nonce = context.base_nonce().unwrap();
         let pool = self.plan.pool.as_slice();
         work.table.fill(
             self.rt,
@@ -188,13 +181,9 @@ impl<R: Threads + Wait + Sync, G: Gate> Service<'_, R, G> {
             self.now.plan.now.pool items.now result.0 result.1 }
     {
         let i = number as usize;
-        let (Some(counter), Some(pass), Some(seat)) = (
-            self.counter,
-            work.passes[i].take(),
-            work.seat.take(),
-        ) else {
-            unreachable!()
-        };
+        let counter = self.counter.unwrap();
+        let pass = work.passes[i].take().unwrap();
+        let seat = work.seat.take().unwrap();
         let pool = self.plan.pool.as_slice();
         let (first, missed, pass, seat) = commit_front(
             self.rt,

@@ -55,13 +55,9 @@ impl<R: Threads + Wait + Sync, G: Gate> LiveService<'_, R, G> {
         ensures { IsToldLive (lives self.now.service.plan.now self.now.service.contexts.now
             self.now.table.now self.now.service.counter) call result lane.old lane.new }
     {
-        let (Some(counter), Some(pass), Some(seat)) = (
-            self.service.counter,
-            lane.pass.take(),
-            lane.work.seat.take(),
-        ) else {
-            unreachable!()
-        };
+        let counter = self.service.counter.unwrap();
+        let pass = lane.pass.take().unwrap();
+        let seat = lane.work.seat.take().unwrap();
         let (live, pass, seat) = self
             .table
             .note(self.service.rt, pass, counter, seat, call, name, act);

@@ -59,7 +59,7 @@ pub(crate) fn serve_by<R: Threads + Sync, L: Send, S: ServesLanes<L> + Sync>(
     lanes: &mut [L],
     workers: u32,
 )
-    requires workers { (0 < workers) × (workers ≤ 16) }
+    requires workers { 0 < workers }
     requires may { Each (S.may service.now) lanes.old }
     ensures { EachServed (S.served service.now) lanes.old lanes.new }
 {
@@ -67,43 +67,37 @@ pub(crate) fn serve_by<R: Threads + Sync, L: Send, S: ServesLanes<L> + Sync>(
         serve_group(service, lanes);
         return;
     }
-    let few = workers / 2;
-    let many = workers - few;
-    let size = lanes.len() / workers as usize;
-    let longer = lanes.len() % workers as usize;
-    let middle = (few as usize * size + longer.min(few as usize)).min(lanes.len());
-    let (front, back) = lanes.split_at_mut(middle);
-    serve_halves(rt, service, front, few, back, many);
+    let size = lanes.len().div_ceil(workers as usize).min(lanes.len());
+    let (group, others) = lanes.split_at_mut(size);
+    serve_beside(rt, service, group, others, workers - 1);
 }
 
-// The lanes of the front by so many workers, and those of the back by so many others.
+// A group of lanes by a worker of its own, and the others by so many.
 #[cycle(serving)]
-fn serve_halves<R: Threads + Sync, L: Send, S: ServesLanes<L> + Sync>(
+fn serve_beside<R: Threads + Sync, L: Send, S: ServesLanes<L> + Sync>(
     rt: &R,
     service: &S,
-    front: &mut [L],
-    few: u32,
-    back: &mut [L],
-    many: u32,
+    group: &mut [L],
+    others: &mut [L],
+    workers: u32,
 )
-    requires workers { (0 < few) × (few ≤ 16) × (0 < many) × (many ≤ 16) }
-    requires front { Each (S.may service.now) front.old }
-    requires back { Each (S.may service.now) back.old }
-    ensures front { EachServed (S.served service.now) front.old front.new }
-    ensures back { EachServed (S.served service.now) back.old back.new }
+    requires workers { 0 < workers }
+    requires group { Each (S.may service.now) group.old }
+    requires others { Each (S.may service.now) others.old }
+    ensures group { EachServed (S.served service.now) group.old group.new }
+    ensures others { EachServed (S.served service.now) others.old others.new }
 {
     join_mut(
         rt,
         &mut ||
-            requires { IsSync R.row × IsSync S.row × (0 < few) × (few ≤ 16)
-                × Each (S.may service.now) front.now }
-            ensures { EachServed (S.served service.entry.now) front.entry.now front.exit.now }
-        { serve_by(rt, service, front, few) },
+            requires { IsSync S.row × Each (S.may service.now) group.now }
+            ensures { EachServed (S.served service.entry.now) group.entry.now group.exit.now }
+        { serve_group(service, group) },
         &mut ||
-            requires { IsSync R.row × IsSync S.row × (0 < many) × (many ≤ 16)
-                × Each (S.may service.now) back.now }
-            ensures { EachServed (S.served service.entry.now) back.entry.now back.exit.now }
-        { serve_by(rt, service, back, many) },
+            requires { IsSync R.row × IsSync S.row × (0 < workers)
+                × Each (S.may service.now) others.now }
+            ensures { EachServed (S.served service.entry.now) others.entry.now others.exit.now }
+        { serve_by(rt, service, others, workers) },
     );
 }
 

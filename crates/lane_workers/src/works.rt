@@ -50,6 +50,16 @@ fn most_items(calls: &[CallLine]) -> usize
     most
 }
 
+// Room for an opening of so many items: for its guess, and for its steps.
+fn room_for(alloc: Global, most: usize) -> Result<(GuessTable, Vec<Step>), OutOfMemory>
+    ensures table { IfOk result (λ r. r.0.room ≡ most) }
+    ensures steps { IfOk result (λ r. length r.1.items ≡ most) }
+{
+    let table = GuessTable::with_room(alloc, most)?;
+    let steps = vec![in alloc; Step::Failed; most]?;
+    Ok((table, steps))
+}
+
 impl LaneWork {
     /// A lane before its first call, with room for its largest opening.
     ///
@@ -73,8 +83,7 @@ impl LaneWork {
         ensures prepared { IfOk result (IsPrepared plan.now lane passes seat answers) }
     {
         let most = most_items(plan.lanes.as_slice()[lane as usize].as_slice());
-        let table = GuessTable::with_room(alloc, most)?;
-        let steps = vec![in alloc; Step::Failed; most]?;
+        let (table, steps) = room_for(alloc, most)?;
         Ok(LaneWork {
             lane,
             passes: passes.into_vec(),

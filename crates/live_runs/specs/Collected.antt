@@ -1,5 +1,5 @@
 -- ---- for the proofs: what the lanes gave back.
-use Rattle.std.specs.Prelude.{ℕ, ◌≡◌, ◌<◌, List, [], length, map, slice_get, slice_index_or, Option, Some, None}
+use Rattle.std.specs.Prelude.{ℕ, ◌≡◌, ◌<◌, List, [], length, map, slice_get, slice_index_or, Option, Some}
 use Rattle.call_places.specs.declared.entries.Entry.{Entry}
 use Rattle.turn_lock.specs.Passes.{PassView, AllOf}
 use Rattle.batch_plans.specs.declared.replies.ContextReply.{ContextReply}

@@ -13,7 +13,7 @@ ghost use Rattle.lane_workers.specs.LiveGathered.{AreOfALiveRun};
 ghost use Rattle.lane_workers.specs.LiveLanes.{AddsAre, AddsOneOf, add_refusal};
 ghost use Rattle.lane_workers.specs.Turns.{views};
 ghost use Rattle.shared_runs.specs.Tables.{journal_rooms};
-ghost use Rattle.live_runs.specs.Contexts.{AreLive, HasGivenLive};
+ghost use Rattle.live_runs.specs.Contexts.{AddsStand, AreLive, HasGivenLive};
 
 use crate::contexts::LiveContexts;
 use crate::journals::cut_journals;
@@ -61,6 +61,38 @@ fn serve_lanes<R: Threads + Wait + Sync, G: Gate + Sync>(
     Ok((answers, notes))
 }
 
+// Serves the lanes of a plan on contexts that they share: their answers, the contexts' journals, and
+// the notes.
+fn serve_shared<R: Threads + Wait + Sync, G: Gate + Sync>(
+    rt: &R,
+    alloc: Global,
+    plan: &Plan,
+    contexts: &mut [Option<Context>],
+    rooms: Vec<LaneAnswers>,
+    journals: &mut [PlainList<Mark>],
+    workers: u32,
+    gate: &G,
+) -> Result<(Vec<LaneAnswers>, NoteList), OutOfMemory>
+    requires within { IsWithinLimits plan.now }
+    requires some { 0 < length plan.now.lanes }
+    requires named { All (All (AddsOneOf plan.now.added)) plan.now.lanes }
+    requires standing { AreOfLines plan.now.contexts contexts.old }
+    requires stands { AddsStand plan.now contexts.old }
+    requires rooms { rooms.items ≡ map (lane_room (all_live plan.now)
+        (export_limits contexts.old)) (all_live plan.now).lanes }
+    requires journals { journals.old ≡ journal_rooms (all_live plan.now) contexts.old }
+    requires workers { (0 < workers) × (workers ≤ 16) }
+    ensures run { IfOk result (λ r. (replies : List ContextReply) → AddsAre plan.now replies
+        → AreOfALiveRun plan.now replies contexts.old r.0.items journals.new r.1) }
+    ensures count { IfOk result (λ r. length r.0.items ≡ length plan.now.lanes) }
+    ensures printable { IfOk result (λ r. (replies : List ContextReply)
+        → AddsAre plan.now replies → All IsPrintable r.0.items) }
+{
+    let placed = plan.lanes_at_positions(alloc)?;
+    let live = LiveContexts::new(alloc, plan, &placed, contexts)?;
+    serve_lanes(rt, alloc, live, rooms, journals, workers, gate)
+}
+
 /// Serves the lanes of a plan, which may add and retire contexts, by so many workers, on contexts
 /// that they share, and fills the answers that were made for the plan and these contexts.
 ///
@@ -106,12 +138,11 @@ pub fn run_live<R: Threads + Wait + Sync, G: Gate + Sync>(
         mut journals,
         ..
     } = answers;
-    let placed = plan.lanes_at_positions(alloc)?;
-    let live = LiveContexts::new(alloc, plan, &placed, contexts.as_mut_slice())?;
-    let (lanes, notes) = serve_lanes(
+    let (lanes, notes) = serve_shared(
         rt,
         alloc,
-        live,
+        plan,
+        contexts.as_mut_slice(),
         lanes.into_vec(),
         journals.as_mut_slice(),
         workers,

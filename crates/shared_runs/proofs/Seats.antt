@@ -41,6 +41,23 @@ first_seats counter given all others seats left rest seat other is shares_are ta
     let next = both_parts other (fresh_seat counter others) rest _ (sym then ∙ first.1) in
     (first.0, next.0, next.1)
 
+no_cons : (x : SeatView) (xs : List SeatView) → [] ≡ x ∷ xs → ⊥
+no_cons x xs e = cc
+
+-- there is one for the share 0, and one for other lists
+pub some_first : (counter given : List ℕ) (all : List (List ℕ)) (others : ℕ) (seats : List SeatView)
+    → seats ≡ fresh_seats counter given → given ≡ shares all others → seats ≡ [] → ⊥
+some_first counter given all others seats is shares_are none =
+    no_cons (fresh_seat counter 0) _ (sym none ∙ is ∙ ap (fresh_seats counter) shares_are)
+
+pub some_next : (counter given : List ℕ) (all : List (List ℕ)) (others : ℕ)
+    (seats left : List SeatView) (seat : SeatView) → seats ≡ fresh_seats counter given
+    → given ≡ shares all others → seats ≡ seat ∷ left → left ≡ [] → ⊥
+some_next counter given all others seats left seat is shares_are taken none =
+    no_cons (fresh_seat counter others) _ (sym none
+    ∙ (both_parts seat (fresh_seat counter 0) left _
+    (sym taken ∙ is ∙ ap (fresh_seats counter) shares_are)).1)
+
 -- the first seat that is left is that of the next share
 pub next_seat : (counter : List ℕ) (all : List (List ℕ)) (k : ℕ) → k < length all
     → (seats left : List SeatView) (seat : SeatView)
@@ -67,6 +84,3 @@ some_seat counter all k low seats is none =
     ∷ fresh_seats counter (drop (k + 1) (map sum all)) =
     sym none ∙ is ∙ ap (fresh_seats counter) next in
     no_cons (fresh_seat counter (get_or (map sum all) k 0)) _ e
-  where
-    no_cons : (x : SeatView) (xs : List SeatView) → [] ≡ x ∷ xs → ⊥
-    no_cons x xs e = cc

@@ -56,6 +56,33 @@ fn serve_table<R: Threads + Wait + Sync, G: Gate + Sync>(
     Ok(lanes)
 }
 
+// Serves the lanes of a plan on contexts that they share: their answers, and the contexts' journals.
+fn serve_shared<R: Threads + Wait + Sync, G: Gate + Sync>(
+    rt: &R,
+    alloc: Global,
+    plan: &Plan,
+    contexts: &mut [Option<Context>],
+    rooms: Vec<LaneAnswers>,
+    journals: &mut [PlainList<Mark>],
+    workers: u32,
+    gate: &G,
+) -> Result<Vec<LaneAnswers>, OutOfMemory>
+    requires within { IsWithinLimits plan.now }
+    requires standing { AreOfLines plan.now.contexts contexts.old }
+    requires lanes { 0 < length plan.now.lanes }
+    requires rooms { rooms.items
+        ≡ map (lane_room plan.now (export_limits contexts.old)) plan.now.lanes }
+    requires journals { journals.old ≡ journal_rooms plan.now contexts.old }
+    requires workers { (0 < workers) × (workers ≤ 16) }
+    ensures run { IfOk result (λ lanes.
+        AreOfARun plan.now contexts.old lanes.items journals.new) }
+    ensures printable { IfOk result (λ lanes. (length lanes.items ≡ length plan.now.lanes)
+        × All IsPrintable lanes.items) }
+{
+    let (table, _) = Table::new(alloc, plan, &plan.lanes, contexts, 0)?;
+    serve_table(rt, alloc, table, rooms, journals, workers, gate)
+}
+
 /// Serves the lanes of a plan by so many workers, on contexts that they share, and fills the answers
 /// that were made for the plan and these contexts.
 ///
@@ -94,9 +121,16 @@ pub fn run_lanes<R: Threads + Wait + Sync, G: Gate + Sync>(
         mut journals,
         notes,
     } = answers;
-    let (table, _) = Table::new(alloc, plan, &plan.lanes, contexts.as_mut_slice(), 0)?;
-    let rooms = journals.as_mut_slice();
-    let lanes = serve_table(rt, alloc, table, lanes.into_vec(), rooms, workers, gate)?;
+    let lanes = serve_shared(
+        rt,
+        alloc,
+        plan,
+        contexts.as_mut_slice(),
+        lanes.into_vec(),
+        journals.as_mut_slice(),
+        workers,
+        gate,
+    )?;
     Ok(Answers {
         keys,
         contexts: replies,

@@ -1,4 +1,4 @@
-use Rattle.std.proofs.Common.{◌≡◌, ◌==◌, ◌<◌, true, false, List, [], ◌++◌, Option, length, map, take, drop, sym, refl, ap, ◌∙◌, subst, arith}
+use Rattle.std.proofs.Common.{◌≡◌, ◌==◌, List, [], Option, length, map, sym, refl, ap, ◌∙◌, subst, arith}
 use Rattle.std.specs.List.{All}
 use Rattle.std.proofs.lemmas.List.{length-map}
 use Rattle.std.proofs.lemmas.List.FromFn.{length-map-range_with_len}
@@ -13,7 +13,6 @@ use Rattle.batch_plans.specs.Replies.{IsPrintable}
 use Rattle.batch_plans.specs.Room.{lane_room, journal_room}
 use Rattle.due_replies.specs.Standing.{AreOfLines, export_limits}
 use Rattle.hpke_context.specs.Contexts.{ContextView}
-use Rattle.lane_workers.specs.LiveLanes.{AddsAre}
 use Rattle.lane_workers.specs.LiveGathered.{AreOfALiveRun}
 use Rattle.shared_runs.specs.Tables.{journal_rooms}
 use Rattle.shared_runs.proofs.Ends.{no_elements, some_elements}
@@ -23,35 +22,40 @@ use Rattle.live_runs.specs.Contexts.{AddsStand}
 use Rattle.live_runs.proofs.Ending.{none_served, nothing_closed}
 use Rattle.live_runs.proofs.runs.run_live.Goals as goal
 
-pub new-requires-clause-some : goal.new-requires-clause-some
-new-requires-clause-some g c =
+pub serve_shared-requires-clause-within : goal.serve_shared-requires-clause-within
+serve_shared-requires-clause-within g c κs within = c.requires.within
+
+pub serve_shared-requires-clause-some : goal.serve_shared-requires-clause-some
+serve_shared-requires-clause-some g c κs within =
     some_elements c.args.plan.now.lanes (c.if-is_empty.ensures
     ∙ ap (λ (ls : List (List CallLine)). length ls == 0) c.as_slice.ensures.items)
 
-pub new-requires-clause-standing : goal.new-requires-clause-standing
-new-requires-clause-standing g c =
+pub serve_shared-requires-clause-named : goal.serve_shared-requires-clause-named
+serve_shared-requires-clause-named g c κs within = c.requires.named
+
+pub serve_shared-requires-clause-standing : goal.serve_shared-requires-clause-standing
+serve_shared-requires-clause-standing g c κs within =
     subst (AreOfLines c.args.plan.now.contexts) (sym c.as_mut_slice.ensures.items) c.requires.standing
 
-pub new-requires-clause-stands : goal.new-requires-clause-stands
-new-requires-clause-stands g c =
+pub serve_shared-requires-clause-stands : goal.serve_shared-requires-clause-stands
+serve_shared-requires-clause-stands g c κs within =
     subst (AddsStand c.args.plan.now) (sym c.as_mut_slice.ensures.items) c.requires.stands
 
-pub serve_lanes-requires-clause-rooms : goal.serve_lanes-requires-clause-rooms
-serve_lanes-requires-clause-rooms g c κs within =
-    let plan = all_live c.in_ok-live.live.shared.plan.now in
+pub serve_shared-requires-clause-rooms : goal.serve_shared-requires-clause-rooms
+serve_shared-requires-clause-rooms g c κs within =
+    let plan = all_live c.args.plan.now in
     c.into_vec.ensures.items ∙ ap (λ (a : Answers). a.lanes) c.requires.room
-    ∙ ap (λ (p : Plan). map (lane_room (all_live p) (export_limits c.args.contexts)) (all_live p).lanes)
-    (sym c.in_ok-live.ensures.plan)
     ∙ ap (λ (xs : List (Option ContextView)). map (lane_room plan (export_limits xs)) plan.lanes)
-    (sym (c.in_ok-live.ensures.contexts ∙ c.as_mut_slice.ensures.items))
+    (sym c.as_mut_slice.ensures.items)
 
-pub serve_lanes-requires-clause-journals : goal.serve_lanes-requires-clause-journals
-serve_lanes-requires-clause-journals g c κs within =
+pub serve_shared-requires-clause-journals : goal.serve_shared-requires-clause-journals
+serve_shared-requires-clause-journals g c κs within =
     c.as_mut_slice-2.ensures.items ∙ ap (λ (a : Answers). a.journals) c.requires.room
-    ∙ ap (λ (p : Plan). journal_rooms (all_live p) c.args.contexts) (sym c.in_ok-live.ensures.plan)
-    ∙ ap (λ (xs : List (Option ContextView)).
-    journal_rooms (all_live c.in_ok-live.live.shared.plan.now) xs)
-    (sym (c.in_ok-live.ensures.contexts ∙ c.as_mut_slice.ensures.items))
+    ∙ ap (λ (xs : List (Option ContextView)). journal_rooms (all_live c.args.plan.now) xs)
+    (sym c.as_mut_slice.ensures.items)
+
+pub serve_shared-requires-clause-workers : goal.serve_shared-requires-clause-workers
+serve_shared-requires-clause-workers g c κs within = c.requires.workers
 
 pub returns-then-is_empty-clause-run : goal.returns-then-is_empty-clause-run
 returns-then-is_empty-clause-run g c =
@@ -97,24 +101,22 @@ returns-then-is_empty-clause-printable g c =
       printable = λ k d low. absurd (omega (arith, count, ap length empty));
     }
 
+pub returns-then-is_empty-clause-set_up : goal.returns-then-is_empty-clause-set_up
+returns-then-is_empty-clause-set_up g c = (refl, refl)
+
 pub returns-clause-run : goal.returns-clause-run
 returns-clause-run g c =
     let plan : Plan = c.args.plan.now in
     let contexts = c.args.contexts in
     let replies = c.args.answers.contexts in
-    let live = c.in_ok-live.live in
-    let r = c.in_ok-live.ensures in
     let old = c.args.answers.journals in
-    let journals = c.serve_lanes.new.journals in
-    let size : length journals ≡ length old = c.serve_lanes.auto.journals
+    let journals = c.serve_shared.new.journals in
+    let size : length journals ≡ length old = c.serve_shared.auto.journals
     ∙ ap length c.as_mut_slice-2.ensures.items in
     let lanes = c.in_ok-lanes.lanes.items in
     let notes = c.in_ok-lanes.notes in
-    let adds = subst (λ (p : Plan). AddsAre p replies) (sym r.plan) c.requires.adds in
-    let run = subst (λ (p : Plan). AreOfALiveRun p replies contexts lanes journals notes) r.plan
-    (subst (λ (cs : List (Option ContextView)). AreOfALiveRun live.shared.plan.now replies cs lanes
-    journals notes) (r.contexts ∙ c.as_mut_slice.ensures.items)
-    (c.in_ok-lanes.ensures.run replies adds)) in
+    let run = subst (λ (cs : List (Option ContextView)). AreOfALiveRun plan replies cs lanes journals
+    notes) c.as_mut_slice.ensures.items (c.in_ok-lanes.ensures.run replies c.requires.adds) in
     subst (λ (js : List (List Mark)). AreOfALiveRun plan replies contexts c.from_vec.result js
     c.from_vec-2.result) (sym (written_back (length old) old journals refl size))
     (subst (λ (es : List Entry). AreOfALiveRun plan replies contexts c.from_vec.result journals es)
@@ -122,27 +124,27 @@ returns-clause-run g c =
     (subst (λ (ls : List LaneAnswers). AreOfALiveRun plan replies contexts ls journals notes)
     (sym c.from_vec.ensures.items) run))
 
+pub returns-clause-set_up : goal.returns-clause-set_up
+returns-clause-set_up g c = (refl, refl)
+
 pub returns-clause-printable : goal.returns-clause-printable
 returns-clause-printable g c =
     let plan : Plan = c.args.plan.now in
     let contexts = c.args.contexts in
-    let replies = c.args.answers.contexts in
-    let r = c.in_ok-live.ensures in
     let old = c.args.answers.journals in
-    let journals = c.serve_lanes.new.journals in
-    let size : length journals ≡ length old = c.serve_lanes.auto.journals
+    let journals = c.serve_shared.new.journals in
+    let size : length journals ≡ length old = c.serve_shared.auto.journals
     ∙ ap length c.as_mut_slice-2.ensures.items in
-    let adds = subst (λ (p : Plan). AddsAre p replies) (sym r.plan) c.requires.adds in
     record {
       keys = c.requires.replies.0;
       contexts = c.requires.replies.1;
-      lanes = ap length c.from_vec.ensures.items ∙ c.in_ok-lanes.ensures.count
-          ∙ ap (λ (x : Plan). length x.lanes) r.plan;
+      lanes = ap length c.from_vec.ensures.items ∙ c.in_ok-lanes.ensures.count;
       journals = ap length (written_back (length old) old journals refl size) ∙ size
           ∙ ap length (ap (λ (a : Answers). a.journals) c.requires.room)
           ∙ length-map-range_with_len
           (journal_room plan.contexts (export_limits contexts) (all_live plan).lanes) 0
           (length plan.contexts);
       printable = subst (λ (xs : List LaneAnswers). All IsPrintable xs)
-          (sym c.from_vec.ensures.items) (c.in_ok-lanes.ensures.printable replies adds);
+          (sym c.from_vec.ensures.items)
+          (c.in_ok-lanes.ensures.printable c.args.answers.contexts c.requires.adds);
     }

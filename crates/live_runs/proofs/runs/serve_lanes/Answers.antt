@@ -14,6 +14,18 @@ use Rattle.live_runs.proofs.Shared.{still_live}
 use Rattle.live_runs.proofs.Ending.{all_served, printable, contexts_count, journal_each, has_room, journals_are}
 use Rattle.live_runs.proofs.runs.serve_lanes.Goals as goal
 
+pub serve_all-requires-clause-live : goal.serve_all-requires-clause-live
+serve_all-requires-clause-live g c κs within = c.requires.live
+
+pub serve_all-requires-clause-given : goal.serve_all-requires-clause-given
+serve_all-requires-clause-given g c κs within = c.requires.given
+
+pub serve_all-requires-clause-rooms : goal.serve_all-requires-clause-rooms
+serve_all-requires-clause-rooms g c κs within = c.requires.rooms
+
+pub serve_all-requires-clause-workers : goal.serve_all-requires-clause-workers
+serve_all-requires-clause-workers g c κs within = c.requires.workers
+
 pub close-notes-requires-clause-live : goal.close-notes-requires-clause-live
 close-notes-requires-clause-live g c =
     let same = c.in_ok-answers.ensures.same in
@@ -106,6 +118,10 @@ returns-clause-run g c = λ replies adds.
     subst (λ (x : LiveContexts). AreOfALiveRun x.shared.plan.now replies (views x.shared.contexts)
     answers journals notes) same
     (subst (λ js. AreOfALiveRun plan replies contexts answers js notes) are run)
+
+pub returns-clause-count : goal.returns-clause-count
+returns-clause-count g c = c.in_ok-answers.ensures.all
+    ∙ ap (λ (x : LiveContexts). length x.shared.plan.now.lanes) c.in_ok-answers.ensures.same
 
 pub returns-clause-printable : goal.returns-clause-printable
 returns-clause-printable g c = λ replies adds.

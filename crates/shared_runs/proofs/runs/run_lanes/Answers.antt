@@ -1,4 +1,4 @@
-use Rattle.std.proofs.Common.{◌≡◌, ◌==◌, ◌<◌, true, false, List, [], ◌++◌, Option, length, map, take, drop, sym, refl, ap, ◌∙◌, subst, arith}
+use Rattle.std.proofs.Common.{◌≡◌, ◌==◌, List, [], ◌++◌, Option, length, map, take, drop, sym, refl, ap, ◌∙◌, subst, arith}
 use Rattle.std.specs.List.{All}
 use Rattle.std.proofs.lemmas.List.{length-map}
 use Rattle.std.proofs.lemmas.List.FromFn.{length-map-range_with_len}
@@ -12,7 +12,6 @@ use Rattle.batch_plans.specs.Replies.{IsPrintable}
 use Rattle.batch_plans.specs.Room.{lane_room, journal_room}
 use Rattle.due_replies.specs.Standing.{AreOfLines, export_limits}
 use Rattle.lane_workers.specs.Gathered.{AreOfARun}
-use Rattle.lane_workers.specs.Turns.{views}
 use Rattle.shared_runs.specs.Tables.{journal_rooms}
 use Rattle.shared_runs.proofs.Ends.{no_elements, some_elements}
 use Rattle.shared_runs.proofs.Handed.{written_back}
@@ -28,43 +27,33 @@ same_run p q xs ys ls ms js ks plan contexts lanes journals run =
     (subst (λ x. AreOfARun p x ms ks) contexts
     (subst (λ x. AreOfARun p xs x ks) (sym lanes) (subst (AreOfARun p xs ls) (sym journals) run)))
 
-pub new-requires-clause-within : goal.new-requires-clause-within
-new-requires-clause-within g c = c.requires.within
+pub serve_shared-requires-clause-within : goal.serve_shared-requires-clause-within
+serve_shared-requires-clause-within g c κs within = c.requires.within
 
-pub new-requires-clause-standing : goal.new-requires-clause-standing
-new-requires-clause-standing g c =
+pub serve_shared-requires-clause-standing : goal.serve_shared-requires-clause-standing
+serve_shared-requires-clause-standing g c κs within =
     subst (AreOfLines c.args.plan.now.contexts) (sym c.as_mut_slice.ensures.items) c.requires.standing
 
-pub new-requires-clause-lanes : goal.new-requires-clause-lanes
-new-requires-clause-lanes g c =
+pub serve_shared-requires-clause-lanes : goal.serve_shared-requires-clause-lanes
+serve_shared-requires-clause-lanes g c κs within =
     some_elements c.args.plan.now.lanes (c.if-is_empty.ensures
     ∙ ap (λ (ls : List (List CallLine)). length ls == 0) c.as_slice.ensures.items)
 
-pub serve_table-requires-clause-own : goal.serve_table-requires-clause-own
-serve_table-requires-clause-own g c κs within =
-    c.in_ok-table.ensures.lanes ∙ ap (λ (p : Plan). p.lanes) (sym c.in_ok-table.ensures.plan)
-
-pub serve_table-requires-clause-lanes : goal.serve_table-requires-clause-lanes
-serve_table-requires-clause-lanes g c κs within =
-    subst (λ (p : Plan). 0 < length p.lanes) (sym c.in_ok-table.ensures.plan)
-    (some_elements c.args.plan.now.lanes (c.if-is_empty.ensures
-    ∙ ap (λ (ls : List (List CallLine)). length ls == 0) c.as_slice.ensures.items))
-
-pub serve_table-requires-clause-rooms : goal.serve_table-requires-clause-rooms
-serve_table-requires-clause-rooms g c κs within =
-    let plan = c.in_ok-table.table.plan.now in
+pub serve_shared-requires-clause-rooms : goal.serve_shared-requires-clause-rooms
+serve_shared-requires-clause-rooms g c κs within =
+    let plan = c.args.plan.now in
     c.into_vec.ensures.items ∙ ap (λ (a : Answers). a.lanes) c.requires.room
-    ∙ ap (λ (p : Plan). map (lane_room p (export_limits c.args.contexts)) p.lanes)
-    (sym c.in_ok-table.ensures.plan)
     ∙ ap (λ (xs : List (Option ContextView)). map (lane_room plan (export_limits xs)) plan.lanes)
-    (sym (c.in_ok-table.ensures.contexts ∙ c.as_mut_slice.ensures.items))
+    (sym c.as_mut_slice.ensures.items)
 
-pub serve_table-requires-clause-journals : goal.serve_table-requires-clause-journals
-serve_table-requires-clause-journals g c κs within =
-    c.as_mut_slice-rooms.ensures.items ∙ ap (λ (a : Answers). a.journals) c.requires.room
-    ∙ ap (λ (p : Plan). journal_rooms p c.args.contexts) (sym c.in_ok-table.ensures.plan)
-    ∙ ap (λ (xs : List (Option ContextView)). journal_rooms c.in_ok-table.table.plan.now xs)
-    (sym (c.in_ok-table.ensures.contexts ∙ c.as_mut_slice.ensures.items))
+pub serve_shared-requires-clause-journals : goal.serve_shared-requires-clause-journals
+serve_shared-requires-clause-journals g c κs within =
+    c.as_mut_slice-2.ensures.items ∙ ap (λ (a : Answers). a.journals) c.requires.room
+    ∙ ap (λ (xs : List (Option ContextView)). journal_rooms c.args.plan.now xs)
+    (sym c.as_mut_slice.ensures.items)
+
+pub serve_shared-requires-clause-workers : goal.serve_shared-requires-clause-workers
+serve_shared-requires-clause-workers g c κs within = c.requires.workers
 
 pub returns-then-is_empty-clause-run : goal.returns-then-is_empty-clause-run
 returns-then-is_empty-clause-run g c =
@@ -102,18 +91,22 @@ returns-then-is_empty-clause-printable g c =
       printable = λ k d low. absurd (omega (arith, count, ap length empty));
     }
 
+pub returns-then-is_empty-clause-set_up : goal.returns-then-is_empty-clause-set_up
+returns-then-is_empty-clause-set_up g c = (refl, refl)
+
 pub returns-clause-run : goal.returns-clause-run
 returns-clause-run g c =
-    let journals = c.serve_table.new.journals in
-    same_run c.in_ok-table.table.plan.now c.args.plan.now (views c.in_ok-table.table.contexts)
-    c.args.contexts c.in_ok-lanes.lanes.items c.from_vec.result journals
-    (take (length c.args.answers.journals)
-    (journals ++ drop (length journals) c.args.answers.journals))
-    c.in_ok-table.ensures.plan (c.in_ok-table.ensures.contexts ∙ c.as_mut_slice.ensures.items)
-    c.from_vec.ensures.items (written_back (length c.args.answers.journals)
-    c.args.answers.journals journals refl
-    (c.serve_table.auto.journals ∙ ap length c.as_mut_slice-rooms.ensures.items))
+    let plan = c.args.plan.now in
+    let old = c.args.answers.journals in
+    let journals = c.serve_shared.new.journals in
+    same_run plan plan c.as_mut_slice.result.now c.args.contexts c.in_ok-lanes.lanes.items
+    c.from_vec.result journals (take (length old) (journals ++ drop (length journals) old))
+    refl c.as_mut_slice.ensures.items c.from_vec.ensures.items (written_back (length old) old journals refl
+    (c.serve_shared.auto.journals ∙ ap length c.as_mut_slice-2.ensures.items))
     c.in_ok-lanes.ensures.run
+
+pub returns-clause-set_up : goal.returns-clause-set_up
+returns-clause-set_up g c = (refl, refl)
 
 pub returns-clause-printable : goal.returns-clause-printable
 returns-clause-printable g c =
@@ -121,15 +114,14 @@ returns-clause-printable g c =
     let contexts = c.args.contexts in
     let p = c.in_ok-lanes.ensures.printable in
     let old = c.args.answers.journals in
-    let journals = c.serve_table.new.journals in
-    let size : length journals ≡ length old = c.serve_table.auto.journals
-    ∙ ap length c.as_mut_slice-rooms.ensures.items in
+    let journals = c.serve_shared.new.journals in
+    let size : length journals ≡ length old = c.serve_shared.auto.journals
+    ∙ ap length c.as_mut_slice-2.ensures.items in
     let journals_is = written_back (length old) old journals refl size in
     record {
       keys = c.requires.replies.0;
       contexts = c.requires.replies.1;
-      lanes = ap length c.from_vec.ensures.items ∙ p.0
-          ∙ ap (λ (x : Plan). length x.lanes) c.in_ok-table.ensures.plan;
+      lanes = ap length c.from_vec.ensures.items ∙ p.0;
       journals = ap length journals_is ∙ size
           ∙ ap length (ap (λ (a : Answers). a.journals) c.requires.room)
           ∙ length-map-range_with_len

@@ -2,13 +2,19 @@ use Rattle.std.proofs.Common.{◌≡◌, refl, sym, ◌∙◌, subst, Some}
 use Rattle.std.proofs.lemmas.List.{set-set}
 use Rattle.turn_lock.specs.Passes.{PassView}
 use Rattle.shared_context.specs.Calls.{HasPeeked}
-use Rattle.lane_workers.proofs.Found.{one_pass, read_here}
+use Rattle.lane_workers.proofs.Found.{one_pass, read_here, is_there}
 use Rattle.lane_workers.proofs.calls.Service.guess.Goals as goal
+
+pub unwrap-pass-requires : goal.unwrap-pass-requires
+unwrap-pass-requires g c =
+    let t = c.requires.turn in
+    is_there (c.take.ensures.value ∙ c.index_mut.ensures.value
+    ∙ read_here c.args.work.now.passes.items c.args.number c.index_mut.result.now t.pass t.holds)
 
 pub returns : goal.returns
 returns g c =
     let t = c.requires.turn in
-    let found : Some c.in-Some.pass ≡ Some t.pass = sym c.in-Some.is ∙ c.take.ensures.value
+    let found : Some c.unwrap-pass.result ≡ Some t.pass = sym c.unwrap-pass.ensures ∙ c.take.ensures.value
     ∙ c.index_mut.ensures.value
     ∙ read_here c.args.work.now.passes.items c.args.number c.index_mut.result.now t.pass t.holds in
     record {
@@ -16,7 +22,7 @@ returns g c =
       was = t.holds;
       after = c.peek-guess.result.1;
       has_peeked = subst (λ (p : PassView). HasPeeked p c.peek-guess.result.1
-          c.peek-guess.result.0) (one_pass c.in-Some.pass t.pass found) c.peek-guess.ensures;
+          c.peek-guess.result.0) (one_pass c.unwrap-pass.result t.pass found) c.peek-guess.ensures;
       passes = set-set _ _ _ _;
       seat = refl;
       same = record { lane = refl; table = refl; progress = refl };

@@ -16,11 +16,19 @@ use Rattle.lane_replies.specs.LaneCalls.{opening_items}
 use Rattle.lane_workers.specs.Turns.{CanTurn, Peeks, Commits, with_table}
 use Rattle.lane_replies.specs.LaneCalls.{lane_calls}
 use Rattle.lane_workers.specs.Readings.{hears}
-use Rattle.lane_workers.proofs.Heard.{turn_of, tested_turn_of, peeks_heard, items_same, spans_here}
+use Rattle.lane_workers.proofs.Heard.{turn_of, tested_turn_of, peeks_heard, items_same, spans_here, call_here}
 use Rattle.lane_workers.proofs.Answering.{fits, finds_room}
-use Rattle.lane_workers.proofs.Ready.{look_turn, commit_turn}
+use Rattle.lane_workers.proofs.Ready.{can_open, look_turn, commit_turn}
 use Rattle.lane_replies.proofs.Within.{of_call, opening_count, opening_spans, opening_room}
 use Rattle.lane_workers.proofs.calls.Service.open.Goals as goal
+
+pub items_of_opening-items-requires : goal.items_of_opening-items-requires
+items_of_opening-items-requires g c =
+    let v = c.args.self.now in
+    let r = c.requires.may.0 in
+    let bytes = c.requires.may.1.bytes in
+    call_here r.plan v.plan.now c.args.line.now bytes (fits r.plan v.contexts.now v.counter c.args.call
+    c.args.line.now (hears r c.args.work.now) c.requires.may.1.may.may)
 
 pub guess-guess-requires-clause-turn : goal.guess-guess-requires-clause-turn
 guess-guess-requires-clause-turn g c κs within =
@@ -32,6 +40,13 @@ guess-guess-requires-clause-turn g c κs within =
     (turn_of r w s v.counter (context_of c.args.line.now) c.args.call 0
     (look_turn r.plan v.contexts.now v.counter c.args.call c.args.line.now s (hears r w)
     c.requires.may.1.may c.requires.opening))
+
+pub test-requires-clause-cipher : goal.test-requires-clause-cipher
+test-requires-clause-cipher g c κs within =
+    let v = c.args.self.now in
+    let r = c.requires.may.0 in
+    (can_open r.plan v.contexts.now v.counter c.args.call c.args.line.now c.args.shared.now
+    (hears r c.args.work.now) c.requires.may.1.may c.requires.opening).1
 
 pub test-requires-clause-room : goal.test-requires-clause-room
 test-requires-clause-room g c κs within =
@@ -84,6 +99,16 @@ commit-first-requires-clause-turn g c κs within =
     (context_of line) c.args.call (length xs))
     (items_same r.plan v.plan.now line c.requires.may.1.bytes ∙ sym c.items_of_opening-items.ensures) turn))
 
+pub commit-first-requires-clause-opens : goal.commit-first-requires-clause-opens
+commit-first-requires-clause-opens g c κs within =
+    let v = c.args.self.now in
+    let r = c.requires.may.0 in
+    can_open r.plan v.contexts.now v.counter c.args.call c.args.line.now c.args.shared.now
+    (hears r c.args.work.now) c.requires.may.1.may c.requires.opening
+
+pub commit-first-requires-clause-table : goal.commit-first-requires-clause-table
+commit-first-requires-clause-table g c κs within = c.test.ensures.table
+
 pub commit-first-requires-clause-spans : goal.commit-first-requires-clause-spans
 commit-first-requires-clause-spans g c κs within =
     let v = c.args.self.now in
@@ -111,6 +136,16 @@ commit-first-requires-clause-room g c κs within =
     let tested = ap (λ (x : LaneWork). length x.steps.items) c.test.ensures.same in
     let peeked = ap length c.guess-guess.ensures.steps in
     omega arith
+
+pub finish-requires-clause-cipher : goal.finish-requires-clause-cipher
+finish-requires-clause-cipher g c κs within =
+    let v = c.args.self.now in
+    let r = c.requires.may.0 in
+    (can_open r.plan v.contexts.now v.counter c.args.call c.args.line.now c.args.shared.now
+    (hears r c.args.work.now) c.requires.may.1.may c.requires.opening).1
+
+pub finish-requires-clause-steps : goal.finish-requires-clause-steps
+finish-requires-clause-steps g c κs within = c.commit-first.ensures.steps
 
 pub finish-requires-clause-spans : goal.finish-requires-clause-spans
 finish-requires-clause-spans g c κs within =

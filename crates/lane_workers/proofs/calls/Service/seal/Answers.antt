@@ -1,10 +1,11 @@
-use Rattle.std.proofs.Common.{◌≡◌, ◌≤◌, ◌+◌, ◌-◌, List, [], ◌∷◌, ℕ, length, refl, sym, ap, ◌∙◌, subst, arith}
+use Rattle.std.proofs.Common.{◌≡◌, ◌<◌, ◌≤◌, ◌+◌, ◌-◌, ◌^◌, List, [], ◌∷◌, ℕ, length, refl, sym, ap, ◌∙◌, subst, arith}
 use Rattle.call_places.specs.Spans.{IsInPool, span_bytes}
 use Rattle.hpke_context.specs.Answers.{Seal, answer}
-use Rattle.hpke_context.specs.Contexts.{ContextView, cipher_of}
+use Rattle.hpke_context.specs.Contexts.{ContextView, HasCipher, cipher_of}
 use Rattle.batch_plans.specs.declared.plan.CallLine.TheVariants as calls
 use Rattle.context_books.specs.declared.book.Draw.{Draw}
-use Rattle.batch_plans.specs.Limits.{items_of}
+use Rattle.context_books.specs.declared.book.Draw.TheVariants.{Number}
+use Rattle.batch_plans.specs.Limits.{items_of, most_plaintext, most_field}
 use Rattle.batch_plans.specs.Room.{served_room}
 use Rattle.batch_plans.specs.Progress.{Progress}
 use Rattle.due_replies.specs.Runs.{answer_line}
@@ -14,7 +15,7 @@ use Rattle.lane_workers.proofs.Heard.{turn_of, draws_heard, enough_left, puts_he
 use Rattle.lane_workers.proofs.Adding.{answers_words, adds_one}
 use Rattle.lane_workers.proofs.Later.{pass_of, draws_later}
 use Rattle.lane_workers.proofs.Answering.{fits, finds_room, sealed_on}
-use Rattle.lane_workers.proofs.Ready.{seal_turn, seal_context, stands_at}
+use Rattle.lane_workers.proofs.Ready.{can_seal, drawn_below, seal_turn, seal_context, stands_at}
 use Rattle.lane_replies.proofs.Within.{span_size}
 use Rattle.lane_workers.proofs.calls.Service.seal.Goals as goal
 
@@ -35,6 +36,13 @@ puts_same old now p x y aad aad' text text' drawn same view aads texts puts =
     (subst (λ bytes. PutsReplies old p (length bytes + 16) (answer_line
     (answer (cipher_of x) (due_at x.limit drawn) (Seal aad bytes)) ∷ [])) texts puts)))
 
+few_bytes : {size len found : ℕ} → size ≡ len → found ≡ size → len ≤ most_plaintext
+    → found ≤ 2 ^ 36 - 32
+few_bytes is here few = omega arith
+
+few_aad : {size len found : ℕ} → size ≡ len → found ≡ size → len ≤ most_field → found < 2 ^ 61
+few_aad is here few = omega arith
+
 pub draw-drawn-requires-clause-turn : goal.draw-drawn-requires-clause-turn
 draw-drawn-requires-clause-turn g c κs within =
     let v = c.args.self.now in
@@ -44,6 +52,13 @@ draw-drawn-requires-clause-turn g c κs within =
     (seal_turn r.plan v.contexts.now v.counter c.args.call
     (calls.Seal c.args.number c.args.item.now) c.args.shared.now (hears r w) c.requires.1.may
     c.args.number c.args.item.now refl)
+
+pub draw-drawn-requires-clause-seals : goal.draw-drawn-requires-clause-seals
+draw-drawn-requires-clause-seals g c κs within =
+    let v = c.args.self.now in
+    let r = c.requires.0 in
+    can_seal r.plan v.contexts.now v.counter c.args.call (calls.Seal c.args.number c.args.item.now)
+    c.args.shared.now (hears r c.args.work.now) c.requires.1.may c.args.number c.args.item.now refl
 
 pub of-aad-requires : goal.of-aad-requires
 of-aad-requires g c =
@@ -62,6 +77,50 @@ of-text-requires g c =
     c.requires.1.may.may in
     subst (λ i. IsInPool i c.args.item.now.text)
     (ap length (c.requires.1.bytes.pool ∙ sym c.as_slice-pool.ensures.items)) fit.1.text.in_pool
+
+pub finish_seal-requires-clause-cipher : goal.finish_seal-requires-clause-cipher
+finish_seal-requires-clause-cipher g c =
+    let v = c.args.self.now in
+    let r = c.requires.0 in
+    subst HasCipher (sym c.context.ensures.context) (can_seal r.plan v.contexts.now v.counter c.args.call
+    (calls.Seal c.args.number c.args.item.now) c.args.shared.now (hears r c.args.work.now)
+    c.requires.1.may c.args.number c.args.item.now refl).1
+
+pub finish_seal-requires-clause-drawn : goal.finish_seal-requires-clause-drawn
+finish_seal-requires-clause-drawn g c =
+    let v = c.args.self.now in
+    let r = c.requires.0 in
+    let w = c.args.work.now in
+    let mid = c.draw-drawn.new.work in
+    let drawn = c.draw-drawn.result in
+    subst (λ (x : ContextView). (i : ℕ) → drawn ≡ Number i → i < x.limit)
+    (sym c.context.ensures.context)
+    (drawn_below r.plan v.contexts.now v.counter c.args.call
+    (calls.Seal c.args.number c.args.item.now) c.args.shared.now (hears r w) c.requires.1.may
+    c.args.number c.args.item.now refl (hears r mid) drawn
+    (draws_heard r w mid c.args.number c.args.call drawn c.draw-drawn.ensures))
+
+pub finish_seal-requires-clause-text : goal.finish_seal-requires-clause-text
+finish_seal-requires-clause-text g c =
+    let fit = fits c.requires.0.plan c.args.self.now.contexts.now c.args.self.now.counter c.args.call
+    (calls.Seal c.args.number c.args.item.now) (hears c.requires.0 c.args.work.now)
+    c.requires.1.may.may in
+    let text = ap length (c.of-text.ensures
+    ∙ ap (λ pool. span_bytes pool c.args.item.now.text)
+    (c.as_slice-pool.ensures.items ∙ sym c.requires.1.bytes.pool)) in
+    few_bytes (span_size c.requires.0.plan.pool c.args.item.now.text fit.1.text.in_pool) text
+    fit.1.text.size
+
+pub finish_seal-requires-clause-aad : goal.finish_seal-requires-clause-aad
+finish_seal-requires-clause-aad g c =
+    let fit = fits c.requires.0.plan c.args.self.now.contexts.now c.args.self.now.counter c.args.call
+    (calls.Seal c.args.number c.args.item.now) (hears c.requires.0 c.args.work.now)
+    c.requires.1.may.may in
+    let aad = ap length (c.of-aad.ensures
+    ∙ ap (λ pool. span_bytes pool c.args.item.now.aad)
+    (c.as_slice-pool.ensures.items ∙ sym c.requires.1.bytes.pool)) in
+    few_aad (span_size c.requires.0.plan.pool c.args.item.now.aad fit.1.aad.in_pool) aad
+    fit.1.aad.size
 
 pub finish_seal-requires-clause-room : goal.finish_seal-requires-clause-room
 finish_seal-requires-clause-room g c =

@@ -21,6 +21,27 @@ use Rattle.lane_workers.proofs.Opened.{unsealed_on, opened_all_on}
 use Rattle.lane_workers.proofs.Ready.{open_context, stands_at}
 use Rattle.lane_workers.proofs.calls.Service.serve_call.Goals as goal
 
+pub seal-requires-after_bounds : goal.seal-requires-after_bounds
+seal-requires-after_bounds g c κs within =
+    let v = c.args.self.now in
+    let r = c.requires.0 in (
+      r,
+      subst (λ (x : CallLine). MayServeAs r v.plan.now v.contexts.now v.counter c.args.call x
+          c.args.shared.now c.args.work.now) c.in-Seal.is c.requires.1,
+    )
+
+pub open-requires-clause-may : goal.open-requires-clause-may
+open-requires-clause-may g c κs within = c.requires
+
+pub open-requires-clause-opening : goal.open-requires-clause-opening
+open-requires-clause-opening g c κs within = subst IsOpening (sym c.in-Unseal.is) tt
+
+pub open-batch-requires-clause-may : goal.open-batch-requires-clause-may
+open-batch-requires-clause-may g c κs within = c.requires
+
+pub open-batch-requires-clause-opening : goal.open-batch-requires-clause-opening
+open-batch-requires-clause-opening g c κs within = subst IsOpening (sym c.in-UnsealAll.is) tt
+
 pub put_batch-requires : goal.put_batch-requires
 put_batch-requires g c =
     let v = c.args.self.now in

@@ -6,6 +6,15 @@ use Rattle.lane_workers.proofs.LiveCalls.{named_here, told_nothing, told_left, t
 use Rattle.lane_workers.proofs.LiveNoting.{add_noted, add_unnoted}
 use Rattle.lane_workers.proofs.live_calls.LiveService.add.Goals as goal
 
+pub psk_refusal-requires-clause-within : goal.psk_refusal-requires-clause-within
+psk_refusal-requires-clause-within g c = c.requires.may.shared.within
+
+pub psk_refusal-requires-clause-name : goal.psk_refusal-requires-clause-name
+psk_refusal-requires-clause-name g c =
+    let a = c.args.self.now in
+    named_here (lives a.service.plan.now a.service.contexts.now a.table.now a.service.counter)
+    c.args.call c.args.name c.args.lane.now c.requires.may
+
 pub refuse-requires : goal.refuse-requires
 refuse-requires g c =
     let a = c.args.self.now in

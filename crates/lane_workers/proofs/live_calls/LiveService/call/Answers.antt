@@ -9,6 +9,12 @@ use Rattle.lane_workers.specs.Turns.{with_progress}
 use Rattle.lane_workers.proofs.LiveAnswering.{found_placed, lost_own, may_placed, has_left, answers_itself, answers_placed}
 use Rattle.lane_workers.proofs.live_calls.LiveService.call.Goals as goal
 
+pub finds-requires-clause-may : goal.finds-requires-clause-may
+finds-requires-clause-may g c κs within = c.requires.may
+
+pub finds-requires-clause-call : goal.finds-requires-clause-call
+finds-requires-clause-call g c κs within = c.requires.call
+
 pub reply-requires-after_bounds : goal.reply-requires-after_bounds
 reply-requires-after_bounds g c κs within =
     let s = c.args.self.now in

@@ -1,4 +1,4 @@
-use Rattle.std.proofs.Common.{◌≡◌, ◌<◌, ℕ, Some, List, length, sym, ap, ◌∙◌, subst, arith, get_or}
+use Rattle.std.proofs.Common.{◌≡◌, ◌+◌, ◌<◌, ℕ, Some, List, length, sym, ap, ◌∙◌, subst, arith, get_or}
 use Rattle.std.specs.Prelude.{slice_get}
 use Rattle.std.proofs.lemmas.Option.{slice_get-get_or}
 use Rattle.batch_plans.specs.declared.plan.CallLine.{CallLine}
@@ -47,3 +47,35 @@ answer-requires-clause-may g c κs within =
     next_call v lane c.calls.call _ c.calls.lane c.requires.shared c.requires.fresh.there
     (ap (λ (ls : List CallLine). slice_get ls c.calls.call) (sym same)
     ∙ slice_get-get_or lines c.calls.call _ c.calls-test.true) c.calls.invariant
+
+pub bounds-as_slice-lane : goal.bounds-as_slice-lane
+bounds-as_slice-lane g c =
+    subst (λ (ls : List (List CallLine)). c.args.lane.now.work.lane < length ls)
+    (sym c.as_slice.ensures.items) c.requires.fresh.there
+
+pub calls-init : goal.calls-init
+calls-init g c = c.requires.fresh.is_at
+
+pub calls-preserved : goal.calls-preserved
+calls-preserved g c =
+    let s = c.args.self.now in
+    let v = lives s.service.plan.now s.service.contexts.now s.table.now s.service.counter in
+    subst (λ i. LiveLaneIsAt v i (c.calls.call + 1) (c.calls.call + 1) c.answer.new.lane)
+    c.calls.invariant.lane_is c.answer.ensures.is_at
+
+pub returns : goal.returns
+returns g c =
+    let s = c.args.self.now in
+    let v = lives s.service.plan.now s.service.contexts.now s.table.now s.service.counter in
+    let lane = c.args.lane.now.work.lane in
+    let found = lane_here v.plan.lanes lane c.index-as_slice-lane.result c.requires.fresh.there
+    (c.index-as_slice-lane.is
+    ∙ ap (λ ls. get_or ls lane c.index-as_slice-lane.result) c.as_slice.ensures.items) in
+    let same = ap length (c.as_slice-lines.ensures.items ∙ found) in
+    let end : c.calls.call ≡ length (lane_calls v.plan lane) = omega arith in
+    record {
+      lane = c.calls.invariant.lane_is;
+      done = subst (λ i. LiveLaneIsAt v i (length (lane_calls v.plan i)) (length (lane_calls v.plan i))
+          c.calls.lane) (sym c.calls.invariant.lane_is)
+          (subst (λ n. LiveLaneIsAt v lane n n c.calls.lane) end c.calls.invariant);
+    }

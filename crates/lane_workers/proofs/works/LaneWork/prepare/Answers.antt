@@ -1,6 +1,5 @@
-use Rattle.std.proofs.Common.{◌≡◌, ◌≤◌, ◌∙◌, List, Option, All, refl, ap, get_or, sym, subst, arith}
+use Rattle.std.proofs.Common.{◌≡◌, ◌≤◌, ◌∙◌, List, Option, All, refl, ap, get_or, sym, subst}
 use Rattle.turn_lock.specs.Passes.{PassView}
-use Rattle.speculative_open.specs.Tables.{TableView}
 use Rattle.batch_plans.specs.Limits.{items_of}
 use Rattle.batch_plans.specs.declared.plan.CallLine.{CallLine}
 use Rattle.lane_workers.specs.declared.works.LaneWork.{LaneWork}
@@ -20,7 +19,7 @@ returns g c =
       passes = c.into_vec.result;
       seat = c.args.seat;
       table = c.in_ok-table.table;
-      steps = c.in_ok-steps.steps;
+      steps = c.in_ok-table.steps;
       checks = c.new.result;
       progress = c.new-2.result;
     } in
@@ -30,10 +29,7 @@ returns g c =
     let calls : c.as_slice-2.result.now ≡ lane_calls plan lane = c.as_slice-2.ensures.items ∙ found in
     let most = subst (λ (cs : List CallLine). All (λ call. items_of call ≤ c.most_items-most.result) cs)
     calls c.most_items-most.ensures in
-    let room : c.in_ok-table.table.room ≡ c.most_items-most.result =
-    ap (λ (x : TableView). x.room) c.in_ok-table.ensures in
-    let size = c.in_ok-steps.ensures.len in
-    let whole = c.in_ok-steps.steps.ok in
+    let room : c.in_ok-table.table.room ≡ c.most_items-most.result = c.in_ok-table.ensures.table in
     let prepared : IsPrepared plan lane c.args.passes c.args.seat c.args.answers w = record {
       lane_is = refl;
       passes_are = c.into_vec.ensures.items;
@@ -41,7 +37,7 @@ returns g c =
       progress = c.new-2.ensures;
       rows = subst (λ i. All (λ call. items_of call ≤ i) (lane_calls plan lane)) (sym room) most;
       steps = subst (λ i. All (λ call. items_of call ≤ i) (lane_calls plan lane))
-          (omega (arith, size, whole)) most;
+          (sym c.in_ok-table.ensures.steps) most;
       checks = c.new.ensures;
     } in
     record {

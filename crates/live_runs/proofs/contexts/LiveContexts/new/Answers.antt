@@ -17,6 +17,12 @@ use Rattle.live_runs.specs.Contexts.{AddsStand}
 use Rattle.live_runs.proofs.Noted.{all_notes_few}
 use Rattle.live_runs.proofs.contexts.LiveContexts.new.Goals as goal
 
+pub note_quotas-requires-clause-within : goal.note_quotas-requires-clause-within
+note_quotas-requires-clause-within c = c.requires.within
+
+pub note_quotas-requires-clause-named : goal.note_quotas-requires-clause-named
+note_quotas-requires-clause-named c = c.requires.named
+
 pub total-total-requires : goal.total-total-requires
 total-total-requires c =
     subst (λ (quotas : List ℕ). sum quotas ≤ 65536)
@@ -28,6 +34,9 @@ new-requires-clause-within c =
     let plan = c.args.plan.now in
     subst (λ (lanes : List (List CallLine)). IsWithinLimits (record plan { lanes = lanes }))
     (sym c.requires.placed) (all_live_within plan c.requires.within)
+
+pub new-requires-clause-standing : goal.new-requires-clause-standing
+new-requires-clause-standing c = c.requires.standing
 
 pub new-requires-clause-others : goal.new-requires-clause-others
 new-requires-clause-others c =
@@ -44,6 +53,12 @@ new-requires-2-clause-sum c =
     subst (λ (quotas : List ℕ). sum quotas ≤ 65536)
     (sym (c.deref-2.ensures.value ∙ c.in_ok-quotas.ensures))
     (all_notes_few c.args.plan.now c.args.contexts.now c.requires.within)
+
+pub returns-clause-plan : goal.returns-clause-plan
+returns-clause-plan c = c.in_ok-shared.ensures.plan
+
+pub returns-clause-contexts : goal.returns-clause-contexts
+returns-clause-contexts c = c.in_ok-shared.ensures.contexts
 
 pub returns-clause-live : goal.returns-clause-live
 returns-clause-live c =

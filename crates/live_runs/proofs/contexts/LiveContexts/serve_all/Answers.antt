@@ -10,6 +10,18 @@ use Rattle.live_runs.specs.Contexts.{HasGivenLive, AreReadyLive, AreDoneLive}
 use Rattle.live_runs.proofs.Shared.{still_live, still_ready, other_passes}
 use Rattle.live_runs.proofs.contexts.LiveContexts.serve_all.Goals as goal
 
+pub prepare_all-requires-clause-live : goal.prepare_all-requires-clause-live
+prepare_all-requires-clause-live g c κs within = c.requires.live
+
+pub prepare_all-requires-clause-given : goal.prepare_all-requires-clause-given
+prepare_all-requires-clause-given g c κs within = c.requires.given
+
+pub prepare_all-requires-clause-room : goal.prepare_all-requires-clause-room
+prepare_all-requires-clause-room g c κs within = c.requires.rooms
+
+pub serve-requires-clause-workers : goal.serve-requires-clause-workers
+serve-requires-clause-workers g c κs within = c.requires.workers
+
 pub serve-requires-clause-live : goal.serve-requires-clause-live
 serve-requires-clause-live g c κs within =
     still_live c.args.self.now c.prepare_all.new.self c.in_ok-lanes.ensures.same c.requires.live

@@ -10,7 +10,7 @@ use Rattle.due_replies.specs.Standing.{AreOfLines}
 use Rattle.lane_workers.specs.Turns.{shared_at, views}
 use Rattle.shared_runs.specs.Sharing.{shares, quotas_on, all_quotas, IsSharedBy, SharesEach}
 use Rattle.shared_runs.specs.Tables.{AreLeft}
-use Rattle.shared_runs.proofs.Seats.{first_seats, sum_shares}
+use Rattle.shared_runs.proofs.Seats.{first_seats, some_first, some_next, sum_shares}
 use Rattle.shared_runs.proofs.Begun.{quotas_at, quotas_count, lanes_count, all_few, views_are, is_shared, all_left}
 use Rattle.shared_runs.proofs.tables.Table.new.Goals as goal
 
@@ -57,6 +57,26 @@ new-requires-clause-sum c =
     let few = all_few plan contexts c.requires.within in
     let most = c.requires.others in
     omega (arith, ap sum given, sum_shares (all_quotas plan contexts) c.args.others, few)
+
+pub unreachable-requires : goal.unreachable-requires
+unreachable-requires c =
+    let plan : Plan = record c.args.plan.now { lanes = c.args.lanes.now } in
+    let given = c.deref-2.ensures.value ∙ c.in_ok-shares.ensures
+    ∙ ap (λ (xs : List (List ℕ)). shares xs c.args.others) (◌∙◌ {A = List (List ℕ)}
+    c.deref.ensures.value (c.in_ok-all.ensures plan c.requires.standing refl)) in
+    some_first c.in_ok-counter.counter.id c.deref-2.result.now (all_quotas plan c.args.contexts.now)
+    c.args.others c.in_ok-counter.seats c.in_ok-counter.ensures.seats given
+    (c.in_default.ensures.none.0 refl)
+
+pub unreachable-requires-in_default-take : goal.unreachable-requires-in_default-take
+unreachable-requires-in_default-take c =
+    let plan : Plan = record c.args.plan.now { lanes = c.args.lanes.now } in
+    let given = c.deref-2.ensures.value ∙ c.in_ok-shares.ensures
+    ∙ ap (λ (xs : List (List ℕ)). shares xs c.args.others) (◌∙◌ {A = List (List ℕ)}
+    c.deref.ensures.value (c.in_ok-all.ensures plan c.requires.standing refl)) in
+    some_next c.in_ok-counter.counter.id c.deref-2.result.now (all_quotas plan c.args.contexts.now)
+    c.args.others c.in_ok-counter.seats c.take.new.self c.in-Some.seat c.in_ok-counter.ensures.seats
+    given c.in-Some.ensures.taken (c.in_default-take.ensures.none.0 refl)
 
 pub share_all-requires-clause-count : goal.share_all-requires-clause-count
 share_all-requires-clause-count c =
@@ -115,6 +135,12 @@ share_all-requires-clause-seats c =
     c.in_ok-counter.seats c.take.new.self c.take-2.new.self c.in-Some.seat c.in-Some-take.other
     c.in_ok-counter.ensures.seats given c.in-Some.ensures.taken c.in-Some-take.ensures.taken in
     (id, seats.2 ∙ ap (λ (xs : List (List ℕ)). fresh_seats id (map sum xs)) (sym quotas))
+
+pub returns-clause-plan : goal.returns-clause-plan
+returns-clause-plan c = refl
+
+pub returns-clause-lanes : goal.returns-clause-lanes
+returns-clause-lanes c = refl
 
 pub returns-clause-contexts : goal.returns-clause-contexts
 returns-clause-contexts c =

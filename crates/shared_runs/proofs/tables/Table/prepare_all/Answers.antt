@@ -6,7 +6,22 @@ use Rattle.shared_runs.specs.declared.tables.Table.{Table}
 use Rattle.shared_runs.specs.Tables.{HasGiven, IsReady}
 use Rattle.shared_runs.proofs.Ends.{pushed_at, below_count, made_of, all_made}
 use Rattle.shared_runs.proofs.Handed.{ready_same}
+use Rattle.shared_runs.proofs.Ending.{still_table, still_own}
 use Rattle.shared_runs.proofs.tables.Table.prepare_all.Goals as goal
+
+pub overflow_cast-lane : goal.overflow_cast-lane
+overflow_cast-lane g c =
+    let i = c.lanes.invariant in
+    let table = c.args.self.now in
+    let front = i.front ∙ ap (λ xs. c.lanes.yielded ++ xs) c.in-Some.ensures.steps.0 in
+    let low = below_count (lane_room table.plan.now (export_limits (views table.contexts)))
+    table.plan.now.lanes c.args.answers.items c.lanes.yielded c.next.new.self.rest.items
+    c.in-Some.answers front c.requires.room in
+    let number : c.len-lane.result ≡ length c.lanes.yielded =
+    c.len-lane.ensures ∙ c.lanes.works.ok.0 ∙ i.count in
+    let own = ap length c.requires.own in
+    let few = c.requires.table.within.lanes in
+    omega arith
 
 pub prepare-requires-clause-lane : goal.prepare-requires-clause-lane
 prepare-requires-clause-lane g c κs within =
@@ -21,6 +36,14 @@ prepare-requires-clause-lane g c κs within =
     let number : c.len-lane.result ≡ length c.lanes.yielded =
     c.len-lane.ensures ∙ c.lanes.works.ok.0 ∙ i.count in
     omega arith
+
+pub prepare-requires-clause-table : goal.prepare-requires-clause-table
+prepare-requires-clause-table g c κs within =
+    still_table c.args.self.now c.lanes.self c.lanes.invariant.same c.requires.table
+
+pub prepare-requires-clause-own : goal.prepare-requires-clause-own
+prepare-requires-clause-own g c κs within =
+    still_own c.args.self.now c.lanes.self c.lanes.invariant.same c.requires.own
 
 pub prepare-requires-clause-given : goal.prepare-requires-clause-given
 prepare-requires-clause-given g c κs within =

@@ -9,6 +9,21 @@ use Rattle.shared_runs.proofs.Ending.{still_table, still_own, still_ready, other
 use Rattle.shared_runs.proofs.Handed.{written_back}
 use Rattle.shared_runs.proofs.tables.Table.serve_all.Goals as goal
 
+pub prepare_all-requires-clause-table : goal.prepare_all-requires-clause-table
+prepare_all-requires-clause-table g c κs within = c.requires.table
+
+pub prepare_all-requires-clause-own : goal.prepare_all-requires-clause-own
+prepare_all-requires-clause-own g c κs within = c.requires.own
+
+pub prepare_all-requires-clause-given : goal.prepare_all-requires-clause-given
+prepare_all-requires-clause-given g c κs within = c.requires.given
+
+pub prepare_all-requires-clause-room : goal.prepare_all-requires-clause-room
+prepare_all-requires-clause-room g c κs within = c.requires.rooms
+
+pub serve-requires-clause-workers : goal.serve-requires-clause-workers
+serve-requires-clause-workers g c κs within = c.requires.workers
+
 pub serve-requires-clause-table : goal.serve-requires-clause-table
 serve-requires-clause-table g c κs within =
     still_table c.args.self.now c.prepare_all.new.self c.in_ok-works.ensures.same c.requires.table
