@@ -1,6 +1,6 @@
 -- Tables of verdicts: whether each of several ciphertexts opens at the sequence numbers that a guess
 -- makes likely. A byte string is a list of numbers below 256.
-use Rattle.std.specs.Prelude.{ℕ, ◌≡◌, ◌+◌, ◌-◌, ◌≤◌, ◌↔◌, min, Bool, false, IsTrue, List, [], length, map, slice_get, slice_index_or, Some}
+use Rattle.std.specs.Prelude.{ℕ, ◌≡◌, ◌+◌, ◌-◌, ◌≤◌, ◌↔◌, min, Bool, false, IsTrue, List, [], length, slice_get, slice_index_or, Some}
 use Rattle.aes_gcm.specs.Gcm.{Holds}
 use Rattle.key_schedule.specs.Nonces.{compute_nonce}
 use Rattle.call_places.specs.Messages.{SealedMessage}

@@ -1,4 +1,4 @@
-use Rattle.std.proofs.Common.{◌≡◌, ◌<◌, arith}
+use Rattle.std.proofs.Common.{arith}
 use Rattle.turn_lock.proofs.lock.TurnLock.wait.Goals as goal
 
 pub peek-turn-requires : goal.peek-turn-requires

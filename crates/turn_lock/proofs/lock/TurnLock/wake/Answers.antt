@@ -1,4 +1,4 @@
-use Rattle.std.proofs.Common.{◌≡◌, ◌<◌, arith}
+use Rattle.std.proofs.Common.{arith}
 use Rattle.turn_lock.proofs.lock.TurnLock.wake.Goals as goal
 
 pub peek-requires : goal.peek-requires
