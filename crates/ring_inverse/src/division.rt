@@ -106,11 +106,54 @@ fn turned_modulus<F: Field>(
     Ok(list)
 }
 
+// `number` times x^2p, in the first places of zeros.
+fn cofactor<F: Field>(
+    alloc: Global,
+    field: &F,
+    p: usize,
+    number: i8,
+) -> Result<Vec<F::Number>, OutOfMemory>
+    requires { p ≤ 1023 }
+    ensures { IfOk result (λ v. vec_len v ≡ 2 * p + SPARE) }
+{
+    let mut list = vec![in alloc; field.number(0); 2 * p + SPARE]?;
+    list[2 * p] = field.number(number);
+    Ok(list)
+}
+
 // What is left of f, and its cofactor.
 #[derive(Drop)]
 pub(crate) struct Quotient<T> {
     pub(crate) number: T,
     pub(crate) cofactor: Vec<T>,
+}
+
+// All the steps on two polynomials, turned round.
+fn all_steps<F: Field>(
+    alloc: Global,
+    field: &F,
+    p: usize,
+    f: &mut [F::Number],
+    g: &mut [F::Number],
+) -> Result<Quotient<F::Number>, OutOfMemory>
+    requires few { p ≤ 1023 }
+    requires same { length f.old ≡ length g.old }
+    requires some { 0 < length f.old }
+    ensures { IfOk result (λ d. vec_len d.cofactor ≡ 2 * p + SPARE) }
+{
+    let mut v = cofactor(alloc, field, p, 0)?;
+    let mut r = cofactor(alloc, field, p, 1)?;
+    if divide(field, f, g, &mut v, &mut r) {
+        Ok(Quotient {
+            number: g[0],
+            cofactor: r,
+        })
+    } else {
+        Ok(Quotient {
+            number: f[0],
+            cofactor: v,
+        })
+    }
 }
 
 // All the steps on an element.
@@ -123,21 +166,7 @@ pub(crate) fn divided<F: Field>(
     requires few { length small.now ≤ 1023 }
     ensures { IfOk result (λ d. vec_len d.cofactor ≡ 2 * length small.now + SPARE) }
 {
-    let p = small.len();
-    let mut f = turned_modulus(alloc, field, p)?;
+    let mut f = turned_modulus(alloc, field, small.len())?;
     let mut g = turned(alloc, field, small)?;
-    let mut v = vec![in alloc; field.number(0); 2 * p + SPARE]?;
-    let mut r = vec![in alloc; field.number(0); 2 * p + SPARE]?;
-    r[2 * p] = field.number(1);
-    if divide(field, &mut f, &mut g, &mut v, &mut r) {
-        Ok(Quotient {
-            number: g[0],
-            cofactor: r,
-        })
-    } else {
-        Ok(Quotient {
-            number: f[0],
-            cofactor: v,
-        })
-    }
+    all_steps(alloc, field, small.len(), &mut f, &mut g)
 }

@@ -28,6 +28,20 @@ fn is_one(list: &[i16]) -> bool
     true
 }
 
+// Whether v a = 1 in R/3.
+fn inverts_3<S: Params, M: Multiplier>(
+    alloc: Global,
+    mult: &M,
+    v: &Small<S>,
+    a: &Small<S>,
+) -> Result<bool, OutOfMemory>
+    ensures { IfOk result (λ yes. yes ≡ true → IsInverse 3 S.set.p a.now v.now) }
+{
+    let product = mult.mul_3(alloc, v, a)?;
+    let list = small_to_16(alloc, product.as_slice())?;
+    Ok(is_one(&list))
+}
+
 /// 1/a in R/3 (NTRU Prime round 3, KeyGen), where the division steps find it.
 pub fn quick_3<S: Params, M: Multiplier>(
     alloc: Global,
@@ -37,9 +51,8 @@ pub fn quick_3<S: Params, M: Multiplier>(
     ensures { IfOk result (λ o. IfSome o (IsInverse 3 S.set.p a.now)) }
 {
     let v = Small::from_vec(candidate_3(alloc, a.as_slice())?);
-    let product = mult.mul_3(alloc, &v, a)?;
-    let list = small_to_16(alloc, product.as_slice())?;
-    Ok(if is_one(&list) { Some(v) } else { None })
+    let found = inverts_3(alloc, mult, &v, a)?;
+    Ok(if found { Some(v) } else { None })
 }
 
 /// 3 f c in R/q (NTRU Prime round 3, Decrypt).
@@ -56,6 +69,20 @@ pub fn times_3f<S: Params, M: Multiplier>(
     Rq::from_coefficients(alloc, &numbers)
 }
 
+// Whether v 3 f = 1 in R/q.
+fn inverts_3f<S: Params, M: Multiplier>(
+    alloc: Global,
+    mult: &M,
+    v: &Rq<S>,
+    f: &Small<S>,
+) -> Result<bool, OutOfMemory>
+    ensures { IfOk result (λ yes. yes ≡ true
+        → IsInverse S.set.q S.set.p (triple f.now) v.now) }
+{
+    let product = times_3f(alloc, mult, v, f)?;
+    Ok(is_one(product.as_slice()))
+}
+
 /// 1/(3 f) in R/q (NTRU Prime round 3, KeyGen), where the division steps find it.
 pub fn quick_3f<S: Params, M: Multiplier>(
     alloc: Global,
@@ -67,10 +94,6 @@ pub fn quick_3f<S: Params, M: Multiplier>(
 {
     let numbers = candidate_3f(alloc, f.as_slice(), modulus::<S>())?;
     let v = Rq::from_coefficients(alloc, &numbers)?;
-    let product = times_3f(alloc, mult, &v, f)?;
-    Ok(if is_one(product.as_slice()) {
-        Some(v)
-    } else {
-        None
-    })
+    let found = inverts_3f(alloc, mult, &v, f)?;
+    Ok(if found { Some(v) } else { None })
 }

@@ -21,11 +21,11 @@ pub enum Reciprocal<T> {
 }
 
 // The element of R/3 with these coefficients.
-fn small<S: Params>(alloc: Global, list: &[i16]) -> Result<Small<S>, OutOfMemory>
-    requires { IsCentred 3 S.set.p list.now }
-    ensures { IfOk result (λ r. r ≡ list.now) }
+fn small<S: Params>(alloc: Global, list: Vec<i16>) -> Result<Small<S>, OutOfMemory>
+    requires { IsCentred 3 S.set.p list.items }
+    ensures { IfOk result (λ r. r ≡ list.items) }
 {
-    Ok(Small::from_vec(narrowed(alloc, list)?))
+    Ok(Small::from_vec(narrowed(alloc, &list)?))
 }
 
 // q.
@@ -43,8 +43,8 @@ fn eliminated_3<S: Params>(alloc: Global, a: &Small<S>) -> Result<Reciprocal<Sma
 {
     let list = small_to_16(alloc, a.as_slice())?;
     match eliminate(alloc, &list, 3)? {
-        Reciprocal::Inverse(v) => Ok(Reciprocal::Inverse(small(alloc, &v)?)),
-        Reciprocal::Annihilator(u) => Ok(Reciprocal::Annihilator(small(alloc, &u)?)),
+        Reciprocal::Inverse(v) => Ok(Reciprocal::Inverse(small(alloc, v)?)),
+        Reciprocal::Annihilator(u) => Ok(Reciprocal::Annihilator(small(alloc, u)?)),
     }
 }
 

@@ -1,5 +1,6 @@
-use Rattle.std.proofs.Common.{◌≡◌, ◌<◌, ℤ, pos, List, map, ap, subst, arith, ◌∙◌, IfOk}
+use Rattle.std.proofs.Common.{◌≡◌, ◌<◌, ℤ, pos, List, length, map, ap, subst, arith, ◌∙◌, IfOk}
 use Rattle.std.specs.Prelude.{◌*ℤ◌}
+use Rattle.std.proofs.lemmas.List.{length-map}
 use Rattle.ring_core.specs.Product.{centred, product}
 use Rattle.ring_inverse.specs.Reciprocals.{triple}
 use Rattle.ring_inverse.proofs.TripleLaws.{triple_product}
@@ -17,3 +18,10 @@ returns g c =
     in
     let P : List ℤ → Type 0 = λ t. IfOk c.from_coefficients.result (λ r. r ≡ t) in
     subst P whole c.from_coefficients.ensures
+
+pub from_coefficients-requires : goal.from_coefficients-requires
+from_coefficients-requires g c =
+    ap length (c.deref.ensures.value ∙ c.in_ok-numbers.ensures)
+    ∙ length-map c.as_slice.result.now (λ z. pos 3 *ℤ z)
+    ∙ ap length c.as_slice.ensures.list
+    ∙ c.as_slice.ensures.centred.0

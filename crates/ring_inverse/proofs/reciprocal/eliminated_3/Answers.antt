@@ -23,14 +23,14 @@ small-requires g c =
     let list : c.deref.result.now ≡ c.args.a.now = c.deref.ensures.value ∙ c.in_ok-list.ensures ∙ c.as_slice.ensures.list in
     let long : length c.deref.result.now ≡ g.S.Params.set.p = ap length list ∙ c.as_slice.ensures.centred.0 in
     let answer = rw c.in-Inverse.is at c.in_ok-v.ensures.inverse in
-    rw c.deref-in-Inverse.ensures.value (rw (long) at answer.0)
+    rw (long) at answer.0
 
 pub small-requires-in-Annihilator : goal.small-requires-in-Annihilator
 small-requires-in-Annihilator g c =
     let list : c.deref.result.now ≡ c.args.a.now = c.deref.ensures.value ∙ c.in_ok-list.ensures ∙ c.as_slice.ensures.list in
     let long : length c.deref.result.now ≡ g.S.Params.set.p = ap length list ∙ c.as_slice.ensures.centred.0 in
     let answer = rw c.in-Annihilator.is at c.in_ok-v.ensures.annihilator in
-    rw c.deref-in-Annihilator.ensures.value (rw (long) at answer.0)
+    rw (long) at answer.0
 
 pub returns-in-Inverse-clause-exactly : goal.returns-in-Inverse-clause-exactly
 returns-in-Inverse-clause-exactly g c =
