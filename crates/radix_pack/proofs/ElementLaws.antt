@@ -2,7 +2,7 @@
 use Rattle.std.proofs.Common.{◌≡◌, ℕ, suc, ◌+◌, ◌-◌, ◌*◌, ◌/◌, ◌%◌, ◌<◌, ◌≤◌, ℤ, pos, List, [], ◌∷◌, ◌++◌, length, map, take, replicate, get_or, arith, ap, sym, ◌∙◌, refl, inl, inr}
 use Rattle.std.specs.Prelude.{◌-ℤ◌, unsigned_abs}
 use Rattle.std.proofs.lemmas.Bool.{cases_lt}
-use Rattle.std.proofs.lemmas.List.{get_or_past, get_or-map, get_or-replicate, length-map, length-replicate, map_more}
+use Rattle.std.proofs.lemmas.List.{get_or_past, get_or-map, get_or-replicate, length-map, length-replicate, map_more, take_all}
 use Rattle.ring_core.specs.Bounds.{IsWithin}
 use Rattle.ring_core.specs.Product.{coefficients, centred, IsCentred}
 use Rattle.ring_core.specs.Sets.{Set}
@@ -167,6 +167,16 @@ more_mapped f xs digits i x l e h =
     ∙ sym (map_more f digits i 0 l)
 
 -- ---- the digits of the code
+
+-- one more digit
+pub more_digits : (f : ℤ → Digit) (xs : List Digit) (a : List ℤ) (i : ℕ) (x : Digit) → i < length a → x ≡ f (coefficients a i) → xs ≡ map f (take i a) → xs ++ x ∷ [] ≡ map f (take (i + 1) a)
+more_digits f xs a i x l e h =
+    ap (λ ys. ys ++ x ∷ []) h
+    ∙ ap (λ y. map f (take i a) ++ y ∷ []) e
+    ∙ sym (map_more f a i (pos 0) l)
+
+pub all_digits : (f : ℤ → Digit) (xs : List Digit) (a : List ℤ) (i : ℕ) → length a ≤ i → xs ≡ map f (take i a) → xs ≡ map f a
+all_digits f xs a i l h = h ∙ ap (λ t. map f t) (take_all i a l)
 
 pub AreDigits-rq : (q p : ℕ) (a : List ℤ) → q % 2 ≡ 1 → q < 16384 → IsCentred q p a → AreDigits (map (rq_digit q) a)
 AreDigits-rq q p a odd l c =

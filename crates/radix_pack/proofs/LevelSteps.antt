@@ -2,7 +2,7 @@
 use Rattle.std.proofs.Common.{◌≡◌, ℕ, zero, suc, ◌+◌, ◌*◌, ◌<◌, ◌≤◌, List, [], ◌∷◌, ◌++◌, length, take, drop, set, get_or, arith, ap, subst, sym, ◌∙◌, refl, append_assoc}
 use Rattle.std.proofs.lemmas.List.{append-nil, drop_more, drop_all, take_more_set, drop-set-lt}
 use Rattle.radix_pack.specs.declared.levels.Digit.{Digit}
-use Rattle.radix_pack.specs.Radix.{bytes_in, last_bytes, low_bytes, pair_written, pair_digit, level_bytes, next_digits, encode_in, AreDigits}
+use Rattle.radix_pack.specs.Radix.{bytes_in, last_bytes, low_bytes, pair_written, pair_digit, level_bytes, next_digits, with_radices, encode_in, AreDigits}
 use Rattle.radix_pack.proofs.RoundTrip.{length-next_digits}
 
 pub drop_two : {X : Type 0} (xs : List X) (i : ℕ) (d : X) → 2 * i + 1 < length xs → drop (2 * i) xs ≡ get_or xs (2 * i) d ∷ get_or xs (2 * i + 1) d ∷ drop (2 * (i + 1)) xs
@@ -83,3 +83,23 @@ encode_rest before between after xs ys two n b a (suc levels) h =
     ∙ ap (λ t. t ++ encode_in levels (next_digits xs)) b
     ∙ append_assoc before (level_bytes xs) (encode_in levels (next_digits xs))
     ∙ ap (λ t. before ++ t) (sym (encode_more levels xs two))
+
+-- ---- the digits of the first level
+
+pub digit_is : (d : Digit) (value radix : ℕ) → d.value ≡ value → d.radix ≡ radix → d ≡ record { value = value; radix = radix }
+digit_is d value radix e f = λ i. record { value = e i; radix = f i }
+
+-- one more value with its radix
+pub with_radices_more : (out : List Digit) (vs ms : List ℕ) (i : ℕ) (d : Digit) → i < length vs → i < length ms → d.value ≡ get_or vs i 0 → d.radix ≡ get_or ms i 0 → (out ++ d ∷ []) ++ with_radices (drop (i + 1) vs) (drop (i + 1) ms) ≡ out ++ with_radices (drop i vs) (drop i ms)
+with_radices_more out vs ms i d lv lm ev em =
+    let x : Digit = record { value = get_or vs i 0; radix = get_or ms i 0 } in
+    let later = with_radices (drop (i + 1) vs) (drop (i + 1) ms) in
+    let is : d ≡ x = digit_is d (get_or vs i 0) (get_or ms i 0) ev em in
+    let opened : with_radices (drop i vs) (drop i ms) ≡ x ∷ later =
+    ap (λ t. with_radices t (drop i ms)) (drop_more vs i 0 lv)
+    ∙ ap (λ t. with_radices (get_or vs i 0 ∷ drop (i + 1) vs) t) (drop_more ms i 0 lm)
+    in
+    append_assoc out (d ∷ []) later ∙ ap (λ t. out ++ t ∷ later) is ∙ ap (λ t. out ++ t) (sym opened)
+
+pub with_radices_all : (out : List Digit) (vs ms : List ℕ) (i : ℕ) → length vs ≤ i → out ++ with_radices (drop i vs) (drop i ms) ≡ out
+with_radices_all out vs ms i h = ap (λ t. out ++ with_radices t (drop i ms)) (drop_all i vs h) ∙ append-nil out

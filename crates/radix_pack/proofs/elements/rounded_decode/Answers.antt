@@ -6,7 +6,7 @@ use Rattle.ring_core.specs.Product.{centred}
 use Rattle.radix_pack.specs.Radix.{encoded_length, length_in, decode, decode_in}
 use Rattle.radix_pack.specs.Codings.{rounded_radix, rounded_length, AreMultiplesOf3}
 use Rattle.radix_pack.proofs.PartSteps.{length_decode_in}
-use Rattle.radix_pack.proofs.ElementLaws.{rounded_decode_is, AreMultiplesOf3-decode}
+use Rattle.radix_pack.proofs.ElementLaws.{AreRadices-replicate, rounded_decode_is, AreMultiplesOf3-decode}
 use Rattle.radix_pack.proofs.elements.rounded_decode.Goals as goal
 
 pub decoded-requires-clause-count : goal.decoded-requires-clause-count
@@ -69,3 +69,27 @@ returns-clause-rounded g c =
     IfOk-weaker c.from_coefficients.result _ _
     (λ a e. subst AreMultiplesOf3 (sym e) (AreMultiplesOf3-decode g.S.Params.set c.args.bytes.now g.S.Params.half_thirds))
     (returns-clause-element g c)
+
+pub decoded-requires-clause-some : goal.decoded-requires-clause-some
+decoded-requires-clause-some g c =
+    let laws = g.S.Params in
+    let q = laws.set.q in
+    let p = laws.set.p in
+    let radices : c.deref.result.now ≡ replicate p (rounded_radix q) =
+    c.deref.ensures.value
+    ∙ c.in_ok-radices.ensures
+    ∙ ap (λ m. replicate p (rounded_radix m)) c.modulus-modulus.ensures.modulus
+    in
+    omega (arith, ap length radices, length-replicate p (rounded_radix q), laws.degree_least)
+
+pub decoded-requires-clause-radices : goal.decoded-requires-clause-radices
+decoded-requires-clause-radices g c =
+    let laws = g.S.Params in
+    let q = laws.set.q in
+    let p = laws.set.p in
+    let radices : c.deref.result.now ≡ replicate p (rounded_radix q) =
+    c.deref.ensures.value
+    ∙ c.in_ok-radices.ensures
+    ∙ ap (λ m. replicate p (rounded_radix m)) c.modulus-modulus.ensures.modulus
+    in
+    rw radices (AreRadices-replicate p (rounded_radix q) (omega (arith, laws.modulus_least)) (omega (arith, laws.modulus_most)))

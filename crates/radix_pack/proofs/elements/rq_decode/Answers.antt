@@ -6,7 +6,7 @@ use Rattle.ring_core.specs.Product.{centred}
 use Rattle.radix_pack.specs.Radix.{encoded_length, length_in, decode, decode_in}
 use Rattle.radix_pack.specs.Codings.{rq_length}
 use Rattle.radix_pack.proofs.PartSteps.{length_decode_in}
-use Rattle.radix_pack.proofs.ElementLaws.{rq_decode_is}
+use Rattle.radix_pack.proofs.ElementLaws.{AreRadices-replicate, rq_decode_is}
 use Rattle.radix_pack.proofs.elements.rq_decode.Goals as goal
 
 pub decoded-requires-clause-count : goal.decoded-requires-clause-count
@@ -63,3 +63,27 @@ returns g c =
     IfOk-weaker c.from_coefficients.result _ _
     (λ a e. e ∙ ap (λ xs. map (λ z. centred q z) xs) coefficients ∙ rq_decode_is laws.set bytes laws.modulus_odd (omega (arith, laws.modulus_most)))
     c.from_coefficients.ensures
+
+pub decoded-requires-clause-some : goal.decoded-requires-clause-some
+decoded-requires-clause-some g c =
+    let laws = g.S.Params in
+    let q = laws.set.q in
+    let p = laws.set.p in
+    let radices : c.deref.result.now ≡ replicate p q =
+    c.deref.ensures.value
+    ∙ c.in_ok-radices.ensures
+    ∙ ap (λ m. replicate p m) c.modulus-modulus.ensures.modulus
+    in
+    omega (arith, ap length radices, length-replicate p q, laws.degree_least)
+
+pub decoded-requires-clause-radices : goal.decoded-requires-clause-radices
+decoded-requires-clause-radices g c =
+    let laws = g.S.Params in
+    let q = laws.set.q in
+    let p = laws.set.p in
+    let radices : c.deref.result.now ≡ replicate p q =
+    c.deref.ensures.value
+    ∙ c.in_ok-radices.ensures
+    ∙ ap (λ m. replicate p m) c.modulus-modulus.ensures.modulus
+    in
+    rw radices (AreRadices-replicate p q (omega (arith, laws.modulus_least)) (omega (arith, laws.modulus_most)))

@@ -1,8 +1,9 @@
 use Rattle.std.proofs.Common.{◌≡◌, ◌∙◌, ap, length, map, subst, sym, arith}
+use Rattle.std.proofs.lemmas.List.{length-map}
 use Rattle.std.proofs.lemmas.Result.{IfOk-weaker}
 use Rattle.radix_pack.specs.Radix.{AreDigits}
 use Rattle.radix_pack.specs.Codings.{rq_digit}
-use Rattle.radix_pack.proofs.ElementLaws.{AreDigits-rq, rq_encode_is, length-rq_encode}
+use Rattle.radix_pack.proofs.ElementLaws.{IsCentred-half, AreDigits-rq, rq_encode_is, length-rq_encode}
 use Rattle.radix_pack.proofs.elements.rq_encode.Goals as goal
 
 pub encoded-requires-clause-digits : goal.encoded-requires-clause-digits
@@ -37,3 +38,26 @@ returns g c =
           (λ b e. ap length (e ∙ rq_encode_is set a digits count same) ∙ length-rq_encode set a count)
           c.encoded.ensures;
     }
+
+pub rq_digits-requires-clause-odd : goal.rq_digits-requires-clause-odd
+rq_digits-requires-clause-odd g c = rw c.modulus.ensures.modulus g.S.Params.modulus_odd
+
+pub rq_digits-requires-clause-within : goal.rq_digits-requires-clause-within
+rq_digits-requires-clause-within g c =
+    let laws = g.S.Params in
+    rw (c.modulus.ensures.modulus, c.as_slice.ensures.list) (IsCentred-half laws.set.q laws.set.p c.args.a.now laws.modulus_odd c.as_slice.ensures.centred)
+
+pub encoded-requires-clause-some : goal.encoded-requires-clause-some
+encoded-requires-clause-some g c =
+    let set = g.S.Params.set in
+    let count : length c.args.a.now ≡ set.p = c.as_slice.ensures.centred.0 in
+    let digits : c.deref_mut.result.now ≡ map (rq_digit c.modulus.result) c.as_slice.result.now =
+    c.deref_mut.ensures.value ∙ c.in_ok-digits.ensures
+    in
+    omega (
+      arith,
+      ap length digits,
+      length-map c.as_slice.result.now (rq_digit c.modulus.result),
+      ap length c.as_slice.ensures.list,
+      g.S.Params.degree_least,
+    )

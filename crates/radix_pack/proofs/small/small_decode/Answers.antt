@@ -1,4 +1,4 @@
-use Rattle.std.proofs.Common.{◌≡◌, ◌∙◌, ap, length, subst, sym}
+use Rattle.std.proofs.Common.{◌≡◌, ◌∙◌, ap, arith, length, subst, sym}
 use Rattle.ring_core.specs.Bounds.{IsWithin}
 use Rattle.radix_pack.specs.Codings.{small_decode, IsMalformed}
 use Rattle.radix_pack.proofs.SmallLaws.{length-small_decode, small_within}
@@ -18,3 +18,17 @@ from_coefficients-requires-clause-small g c =
     let formed : IsMalformed c.P.result bytes → ⊥ = λ m. let t = c.if-is_malformed.ensures.1 m in cc in
     let small : IsWithin 1 (small_decode c.P-2.result bytes) = small_within c.P-2.result bytes (subst (λ p. IsMalformed p bytes → ⊥) same formed) in
     subst (IsWithin 1) (sym (c.deref.ensures.value ∙ c.in_ok-coefficients.ensures)) small
+
+pub is_malformed-requires : goal.is_malformed-requires
+is_malformed-requires g c = omega (arith, c.requires, g.S.Params.degree_most)
+
+pub small_coefficients-requires : goal.small_coefficients-requires
+small_coefficients-requires g c =
+    omega (arith, c.requires, c.P-2.ensures, g.S.Params.degree_is)
+
+pub returns-clause-some : goal.returns-clause-some
+returns-clause-some g c =
+    c.in_ok-from_coefficients.ensures
+    ∙ c.deref.ensures.value
+    ∙ c.in_ok-coefficients.ensures
+    ∙ ap (λ p. small_decode p c.args.bytes.now) (c.P-2.ensures ∙ g.S.Params.degree_is)
