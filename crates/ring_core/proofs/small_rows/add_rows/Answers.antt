@@ -18,3 +18,11 @@ loop-i-preserved c =
 pub returns-clause-sums : goal.returns-clause-sums
 returns-clause-sums c =
     λ k l. Convolved-all _ _ _ _ c.loop-i.i k (omega arith) c.loop-i.invariant l
+
+pub add_multiple-requires-clause-factor_small : goal.add_multiple-requires-clause-factor_small
+add_multiple-requires-clause-factor_small c =
+    let fits : FitsSigned w8 (coefficients c.args.small.now c.loop-i.i) = search rules in
+    simp to_z-of_z (c.requires.small_small c.loop-i.i)
+
+pub returns-clause-bound : goal.returns-clause-bound
+returns-clause-bound c = λ k. omega (arith, c.loop-i.invariant.bound k)

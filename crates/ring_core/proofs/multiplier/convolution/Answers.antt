@@ -1,0 +1,47 @@
+use Rattle.std.proofs.Common.{arith, rules, ◌≡◌, ◌∙◌, ◌*◌, ◌++◌, ap, sym, pos, length, take, drop, replicate}
+use Rattle.std.proofs.lemmas.List.{length-replicate, take_at}
+use Rattle.ring_core.proofs.ProductLaws.{replicate_zero}
+use Rattle.ring_core.proofs.multiplier.convolution.Goals as goal
+
+pub add_rows-requires-clause-same : goal.add_rows-requires-clause-same
+add_rows-requires-clause-same c =
+    c.requires.same ∙ sym (ap length (c.deref.ensures.value ∙ c.in_ok-row.ensures))
+
+pub add_rows-requires-clause-few : goal.add_rows-requires-clause-few
+add_rows-requires-clause-few c =
+    omega (arith, ap length (c.deref.ensures.value ∙ c.in_ok-row.ensures), c.requires.few)
+
+pub add_rows-requires-clause-double : goal.add_rows-requires-clause-double
+add_rows-requires-clause-double c =
+    let count = 2 * length c.args.long.now in
+    let zeros : c.in_ok-sums.sums.items ≡ replicate count (pos 0) = search rules in
+    omega (
+      arith,
+      ap length (c.deref_mut.ensures.value ∙ zeros),
+      length-replicate count (pos 0),
+      ap length (c.deref.ensures.value ∙ c.in_ok-row.ensures),
+    )
+
+pub add_rows-requires-clause-zeros : goal.add_rows-requires-clause-zeros
+add_rows-requires-clause-zeros c =
+    let count = 2 * length c.args.long.now in
+    let zeros : c.in_ok-sums.sums.items ≡ replicate count (pos 0) = search rules in
+    rw (c.deref_mut.ensures.value, zeros) (replicate_zero count)
+
+pub add_rows-requires-clause-long_small : goal.add_rows-requires-clause-long_small
+add_rows-requires-clause-long_small c =
+    rw (c.deref.ensures.value, c.in_ok-row.ensures) c.requires.long_small
+
+pub returns-clause-bound : goal.returns-clause-bound
+returns-clause-bound c =
+    let new = c.add_rows.new.sums in
+    let rest = drop (length new) c.in_ok-sums.sums.items in
+    let whole : take c.in_ok-sums.sums.len (new ++ rest) ≡ new = take_at new rest c.in_ok-sums.sums.len (omega arith) in
+    rw whole c.add_rows.ensures.bound
+
+pub returns-clause-sums : goal.returns-clause-sums
+returns-clause-sums c =
+    let new = c.add_rows.new.sums in
+    let rest = drop (length new) c.in_ok-sums.sums.items in
+    let whole : take c.in_ok-sums.sums.len (new ++ rest) ≡ new = take_at new rest c.in_ok-sums.sums.len (omega arith) in
+    rw whole (rw (c.deref.ensures.value, c.in_ok-row.ensures) at c.add_rows.ensures.sums)
