@@ -1,7 +1,7 @@
 -- Sums of rooms, one more call at a time.
 use Rattle.std.proofs.Common.{◌≡◌, ◌≤◌, ◌<◌, ◌+◌, ◌*◌, ◌^◌, ℕ, List, [], ◌∷◌, length, take, get_or, Option, Some, None, refl, arith}
 use Rattle.std.specs.List.{sum_by, All}
-use Rattle.std.proofs.lemmas.List.Sums.{sum_by-cons, sum_by_more, sum_by_more_le, sum_by-le-sum_by, get_or-le-sum_by}
+use Rattle.std.proofs.lemmas.List.Sums.{sum_by-cons, sum_by_more_le, sum_by-le-sum_by, get_or-le-sum_by}
 use Rattle.std.proofs.lemmas.List.Elements.{All-head, All-tail}
 use Rattle.call_places.specs.declared.spans.Item.{Item}
 use Rattle.batch_plans.specs.declared.plan.Plan.{Plan}
@@ -132,8 +132,6 @@ batches_fit plan limits calls i d lt within =
     let small = (are_small plan limits calls within).batches in
     let most = most_room plan.items in
     omega (arith, within.small, sum_fits (call_batches plan limits) most calls i d lt small)
-
-pub ruleset needs_facts = (sum_by_more, room_fits, replies_fit, batches_fit)
 
 -- ---- the lanes of a plan
 

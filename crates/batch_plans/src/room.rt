@@ -100,7 +100,6 @@ fn call_needs(plan: &Plan, export_limits: &[u32], call: &CallLine) -> Needs
     }
 }
 
-#[tactic(auto, using(crate::proofs::Rooms::needs_facts))]
 fn lane_needs(plan: &Plan, export_limits: &[u32], calls: &[CallLine]) -> Needs
     requires { IsLaneWithin plan.now calls.now }
     ensures room { result.room ≡ sum_by (call_room plan.now export_limits.now) calls.now }

@@ -1,11 +1,17 @@
-use Rattle.std.proofs.Common.{◌≡◌, ℕ, length, map, take, ap, ◌∙◌}
+use Rattle.std.proofs.Common.{◌≡◌, ℕ, length, map, take, sym, ap, ◌∙◌}
 use Rattle.std.specs.Prelude.{replicate}
 use Rattle.std.specs.List.{range_with_len}
-use Rattle.std.proofs.lemmas.List.{take_all}
+use Rattle.std.proofs.lemmas.List.{take_all, map_more}
 use Rattle.std.proofs.lemmas.Simd.{map-map}
 use Rattle.batch_plans.specs.Calls.{all_items_on}
 use Rattle.batch_plans.specs.Room.{blank_mark}
 use Rattle.batch_plans.proofs.journals.journals_room.Goals as goal
+
+pub counts-preserved : goal.counts-preserved
+counts-preserved c =
+    let journal = λ (count : ℕ). replicate count blank_mark in
+    rw (c.in_ok-push.ensures.items, c.in_ok-journal.ensures, c.counts.invariant)
+    (sym (map_more journal c.deref-count-items.result.now c.counts.count-index _ c.counts-test.true))
 
 pub returns : goal.returns
 returns c =
