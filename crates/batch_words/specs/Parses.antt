@@ -8,6 +8,8 @@ use Rattle.clap.specs.Matches.{first_value, found_of}
 use Rattle.clap.specs.Simple.{App, matches_of, new_app, new_rule, on_top}
 use Rattle.clap.specs.Walk.{Rule, rows_of}
 use Rattle.batch_words.specs.Words.{is_among}
+use Rattle.batch_words.specs.declared.parsing.Form.{Form}
+use Rattle.batch_words.specs.declared.parsing.Form.TheVariants.{Options, Operands}
 use Rattle.clap.specs.declared.builder.action.ArgAction.TheVariants.{Set}
 use Rattle.clap.specs.declared.parser.matches.ArgMatches.{ArgMatches}
 
@@ -30,11 +32,20 @@ option_rule name = record (new_rule name) { long = Some name; action = Some Set 
 abbrev pub operand_rule : List ℕ → Rule
 operand_rule name = record (new_rule name) { required = true; action = Some Set }
 
+-- of one name
+abbrev pub rule_under : Form → List ℕ → Rule
+rule_under Options = option_rule
+rule_under Operands = operand_rule
+
+-- of names that are all options, or all words that have to stand
+abbrev pub app_under : Form → List (List ℕ) → App
+app_under form names = app_with (map (rule_under form) names)
+
 abbrev pub option_app : List (List ℕ) → App
-option_app names = app_with (map option_rule names)
+option_app names = app_under Options names
 
 abbrev pub operand_app : List (List ℕ) → App
-operand_app names = app_with (map operand_rule names)
+operand_app names = app_under Operands names
 
 -- ---- parses
 

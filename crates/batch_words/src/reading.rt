@@ -1,7 +1,8 @@
 //! From the words to the command.
 
-ghost use Rattle.std.specs.Prelude.{◌≡◌, IfOk, IfSome, map};
+ghost use Rattle.std.specs.Prelude.{◌≡◌, [], ◌∷◌, IfOk, IfSome, codes, map, true};
 ghost use Rattle.std.specs.String.{string_bytes};
+ghost use Rattle.batch_words.specs.Parses.{has_each, word_under};
 ghost use Rattle.batch_words.specs.Words.{IsWithin, capsules, check, command_of, demo, live, numbers};
 ghost use Rattle.batch_words.specs.Words.{only_mult, rehearse, run};
 
@@ -9,6 +10,7 @@ use crate::commands::{Command, Mult};
 use crate::options::read_options;
 use crate::parsing::parse_operands;
 use crate::schedules::read_schedule;
+use clap::ArgMatches;
 use decimal_text::decimal_from_to;
 use std::alloc::{AllocError as OutOfMemory, Global};
 
@@ -78,15 +80,24 @@ fn read_live(alloc: Global, words: &[String]) -> Result<Option<Command>, OutOfMe
     }))
 }
 
+// The schedule of a rehearsal, from the word under its name.
+fn read_steps(alloc: Global, words: &ArgMatches) -> Result<Option<Command>, OutOfMemory>
+    requires { has_each words.now (codes "schedule" ∷ []) ≡ true }
+    ensures { IfOk result (λ command.
+        command ≡ rehearse (word_under words.now (codes "schedule") ∷ [])) }
+{
+    let schedule = read_schedule(alloc, words.get_str("schedule").unwrap())?;
+    Ok(schedule.map(|schedule| Command::Rehearse { schedule }))
+}
+
 // The words after `rehearse`.
 fn read_rehearse(alloc: Global, words: &[String]) -> Result<Option<Command>, OutOfMemory>
     ensures { IfOk result (λ command. command ≡ rehearse (map string_bytes words.now)) }
 {
-    let Some(matches) = parse_operands(alloc, &["schedule"], words)? else {
-        return Ok(None);
-    };
-    let schedule = read_schedule(alloc, matches.get_str("schedule").unwrap())?;
-    Ok(schedule.map(|schedule| Command::Rehearse { schedule }))
+    match parse_operands(alloc, &["schedule"], words)? {
+        Some(matches) => read_steps(alloc, &matches),
+        None => Ok(None),
+    }
 }
 
 // SEED, MESSAGES and LANES, or none.
@@ -103,17 +114,26 @@ fn numbers(seed: &str, messages: &str, lanes: &str) -> Option<Command>
     })
 }
 
+// The numbers of a demonstration, from the words under their names.
+fn read_numbers(words: &ArgMatches) -> Option<Command>
+    requires { has_each words.now (codes "seed" ∷ codes "messages" ∷ codes "lanes" ∷ []) ≡ true }
+    ensures { result ≡ numbers (word_under words.now (codes "seed"))
+        (word_under words.now (codes "messages")) (word_under words.now (codes "lanes")) }
+{
+    let seed = words.get_str("seed").unwrap();
+    let messages = words.get_str("messages").unwrap();
+    let lanes = words.get_str("lanes").unwrap();
+    numbers(seed, messages, lanes)
+}
+
 // The words after `demo`.
 fn read_demo(alloc: Global, words: &[String]) -> Result<Option<Command>, OutOfMemory>
     ensures { IfOk result (λ command. command ≡ demo (map string_bytes words.now)) }
 {
-    let Some(matches) = parse_operands(alloc, &["seed", "messages", "lanes"], words)? else {
-        return Ok(None);
-    };
-    let seed = matches.get_str("seed").unwrap();
-    let messages = matches.get_str("messages").unwrap();
-    let lanes = matches.get_str("lanes").unwrap();
-    Ok(numbers(seed, messages, lanes))
+    match parse_operands(alloc, &["seed", "messages", "lanes"], words)? {
+        Some(matches) => Ok(read_numbers(&matches)),
+        None => Ok(None),
+    }
 }
 
 // M of a command that has no other option.

@@ -1,6 +1,7 @@
 //! Schedules: which lane takes each step of a rehearsal.
 
-ghost use Rattle.std.specs.Prelude.{◌≡◌, IfOk};
+ghost use Rattle.std.specs.Prelude.{◌≡◌, [], false, codes, IfOk, Some, None, if◌then◌else◌};
+ghost use Rattle.std.specs.Str.{bytes_eq};
 ghost use Rattle.batch_words.specs.Words.{schedule};
 
 use decimal_text::decimal_from_to;
@@ -36,6 +37,26 @@ impl Schedule {
     }
 }
 
+// Adds the lanes that the text writes with a comma between each two, and tells whether there are not
+// too many, and all of them are lanes.
+fn push_lanes(lanes: &mut Vec<u8>, text: &str) -> Result<bool, AllocError>
+    requires none { lanes.old.items ≡ [] }
+    requires steps { bytes_eq text.now (codes "-") ≡ false }
+    ensures { IfOk result (λ whole.
+        (if whole then Some lanes.new.items else None) ≡ schedule text.now) }
+{
+    for part in text.split(',') {
+        if lanes.len() == MOST_STEPS {
+            return Ok(false);
+        }
+        match decimal_from_to(part.as_bytes(), 0, LAST_LANE) {
+            Some(lane) => lanes.push(lane as u8)?,
+            None => return Ok(false),
+        }
+    }
+    Ok(true)
+}
+
 /// The schedule that the text spells, or none.
 pub(crate) fn read_schedule(alloc: Global, text: &str) -> Result<Option<Schedule>, AllocError>
     ensures { IfOk result (λ lanes. lanes ≡ schedule text.now) }
@@ -44,14 +65,9 @@ pub(crate) fn read_schedule(alloc: Global, text: &str) -> Result<Option<Schedule
     if text == "-" {
         return Ok(Some(Schedule { lanes }));
     }
-    for part in text.split(',') {
-        if lanes.len() == MOST_STEPS {
-            return Ok(None);
-        }
-        match decimal_from_to(part.as_bytes(), 0, LAST_LANE) {
-            Some(lane) => lanes.push(lane as u8)?,
-            None => return Ok(None),
-        }
+    if push_lanes(&mut lanes, text)? {
+        Ok(Some(Schedule { lanes }))
+    } else {
+        Ok(None)
     }
-    Ok(Some(Schedule { lanes }))
 }

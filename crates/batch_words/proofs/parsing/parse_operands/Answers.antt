@@ -1,8 +1,7 @@
-use Rattle.std.proofs.Common.{◌≡◌, ◌∙◌, ◌<◌, ◌^◌, IfOk, Option, None, Some, ap, arith, false, true, length, map, subst}
+use Rattle.std.proofs.Common.{◌≡◌, ◌<◌, ◌^◌, Option, None, Some, arith, false, true, length, map}
 use Rattle.std.specs.Prelude.{IfNone, IfSome}
 use Rattle.std.specs.String.{string_bytes}
 use Rattle.std.proofs.lemmas.List.{length-map}
-use Rattle.clap.specs.Faults.{is_simple_and_free}
 use Rattle.clap.specs.Walk.{texts}
 use Rattle.clap.specs.declared.parser.matches.ArgMatches.{ArgMatches}
 use Rattle.batch_words.specs.Parses.{IsParse, are_operands, has_each, operand_app, word_under}
@@ -14,14 +13,11 @@ use Rattle.batch_words.proofs.parsing.parse_operands.Goals as goal
 few : (c : goal.After-parse) → length (texts c.args.names.now) < 2 ^ 32
 few c = omega (arith, length-map c.args.names.now (λ s. s.now), c.requires.few)
 
-parsed : (c : goal.After-parse) → IfOk c.parse.result (IsParse (operand_app (texts c.args.names.now)) (map string_bytes c.args.words.now))
-parsed c = subst (λ app. IfOk c.parse.result (IsParse app (map string_bytes c.args.words.now))) c.in_ok-operand_parser.ensures c.parse.ensures
-
 pub parse-requires : goal.parse-requires
 parse-requires c =
     let names = texts c.args.names.now in
     let few : length names < 2 ^ 32 = omega (arith, length-map c.args.names.now (λ s. s.now)) in
-    ap is_simple_and_free c.in_ok-operand_parser.ensures ∙ operands_free names few
+    operands_free names few
 
 pub returns-clause-none : goal.returns-clause-none
 returns-clause-none c =
@@ -32,7 +28,7 @@ returns-clause-none c =
       | None ↦ λ parse. operands-refused names c.requires.distinct (few c) words parse
       | Some m ↦ λ parse. tt
     ] in
-    if_ok _ _ _ each (parsed c)
+    if_ok _ _ _ each c.parse.ensures
 
 pub returns-clause-words : goal.returns-clause-words
 returns-clause-words c =
@@ -43,7 +39,7 @@ returns-clause-words c =
       | None ↦ λ parse. tt
       | Some m ↦ λ parse. (operands-words names c.requires.distinct (few c) words m parse).0
     ] in
-    if_ok _ _ _ each (parsed c)
+    if_ok _ _ _ each c.parse.ensures
 
 pub returns-clause-each : goal.returns-clause-each
 returns-clause-each c =
@@ -54,4 +50,4 @@ returns-clause-each c =
       | None ↦ λ parse. tt
       | Some m ↦ λ parse. (operands-words names c.requires.distinct (few c) words m parse).1
     ] in
-    if_ok _ _ _ each (parsed c)
+    if_ok _ _ _ each c.parse.ensures

@@ -6,14 +6,14 @@ use Rattle.std.proofs.lemmas.Iterator.Splits.{YieldsList-from_str_split}
 use Rattle.decimal_text.specs.Decimals.{decimal_from_to}
 use Rattle.batch_words.specs.Words.{is_comma, lanes}
 use Rattle.batch_words.proofs.Steps.{lanes-more, lanes-none, schedule-of, schedule-no_lane, schedule-too_long}
-use Rattle.batch_words.proofs.schedules.read_schedule.Goals as goal
+use Rattle.batch_words.proofs.schedules.push_lanes.Goals as goal
 
 pub returns-then-len-eq-MOST_STEPS : goal.returns-then-len-eq-MOST_STEPS
 returns-then-len-eq-MOST_STEPS c =
     let split = c.split-part-items.ensures in
     let road = YieldsList-at c.into_iter-part-iterator.ensures.into_iter_gives (YieldsList-from_str_split 44 c.args.text.now (lit< tt) split.text split.has_more split.pattern) in
     let turn = YieldsList-turn road c.loop-part.yielded _ c.loop-part.yielded_by _ _ c.in-Some.part c.in-Some.is c.next.ensures.steps in
-    schedule-too_long c.args.text.now (sym c.eq.ensures ∙ c.if-eq.false) (omega (arith, turn.0))
+    schedule-too_long c.args.text.now c.requires.steps (omega (arith, turn.0))
 
 pub loop-part-preserved : goal.loop-part-preserved
 loop-part-preserved c =
@@ -37,7 +37,7 @@ returns-in-None-decimal_from_to c =
     let turn = YieldsList-turn road c.loop-part.yielded _ c.loop-part.yielded_by _ _ c.in-Some.part c.in-Some.is c.next.ensures.steps in
     let parts = slice_split is_comma c.args.text.now in
     let here : c.as_bytes.result.now ≡ get_or parts (length c.loop-part.yielded) c.in-Some.part.now = c.as_bytes.ensures.value ∙ turn.1 in
-    schedule-no_lane c.args.text.now (sym c.eq.ensures ∙ c.if-eq.false)
+    schedule-no_lane c.args.text.now c.requires.steps
     (lanes-none parts (length c.loop-part.yielded) c.in-Some.part.now turn.0 (ap (decimal_from_to 0 15) (sym here) ∙ sym c.in-None-decimal_from_to.ensures))
 
 pub returns : goal.returns
@@ -45,5 +45,5 @@ returns c =
     let split = c.split-part-items.ensures in
     let road = YieldsList-at c.into_iter-part-iterator.ensures.into_iter_gives (YieldsList-from_str_split 44 c.args.text.now (lit< tt) split.text split.has_more split.pattern) in
     let end = YieldsList-end road c.loop-part.yielded _ c.loop-part.yielded_by _ _ c.in-None.is c.next.ensures.steps in
-    schedule-of c.args.text.now (sym c.eq.ensures ∙ c.if-eq.false) c.loop-part.lanes.items
+    schedule-of c.args.text.now c.requires.steps c.loop-part.lanes.items
     (ap lanes (sym end.0) ∙ c.loop-part.invariant.read) (omega (arith, end.1))

@@ -1,8 +1,0 @@
-use Rattle.std.proofs.Common.{◌≡◌, take}
-use Rattle.clap.specs.Simple.{app_of}
-use Rattle.clap.specs.Walk.{texts}
-use Rattle.batch_words.specs.Parses.{operand_app}
-use Rattle.batch_words.proofs.parsing.operand_parser.Given as goal
-
-abbrev pub invariant-loop-name : goal.invariant-loop-name
-invariant-loop-name l = app_of l.parser ≡ operand_app (texts (take l.name-index l.names))
