@@ -1,6 +1,6 @@
 //! Lines as they are printed.
 
-ghost use Rattle.std.specs.Prelude.{◌≡◌, ◌++◌, codes, decimal, IfOk, OnOk};
+ghost use Rattle.std.specs.Prelude.{◌≡◌, ◌++◌, ◌∷◌, [], codes, decimal, IfOk, OnOk};
 ghost use Rattle.field_text.specs.Printing.{hex_text};
 ghost use Rattle.reply_texts.specs.Lines.{key_line as key_line_of, context_line as context_line_of};
 ghost use Rattle.reply_texts.specs.Lines.{key_words, context_words};
@@ -28,13 +28,18 @@ pub fn push_number(alloc: Global, out: &mut Vec<u8>, number: u64) -> Result<(), 
     out.extend_from_slice(text.as_bytes())
 }
 
-/// A word, a number and a line feed.
-pub(crate) fn numbered_line(alloc: Global, word: &[u8], number: u64) -> Result<Vec<u8>, AllocError>
-    ensures { IfOk result (λ line. line.items ≡ word.now ++ decimal number ++ codes "\n") }
+/// A word, a number and a byte that ends it.
+pub(crate) fn numbered(
+    alloc: Global,
+    word: &[u8],
+    number: u64,
+    end: u8,
+) -> Result<Vec<u8>, AllocError>
+    ensures { IfOk result (λ line. line.items ≡ word.now ++ decimal number ++ end ∷ []) }
 {
     let mut line = word.to_vec(alloc)?;
     push_number(alloc, &mut line, number)?;
-    line.push(b'\n')?;
+    line.push(end)?;
     Ok(line)
 }
 
@@ -63,26 +68,34 @@ fn context_refusal_word(refusal: ContextRefusal) -> &'static [u8]
     }
 }
 
+// A word and bytes.
+fn push_bytes(alloc: Global, out: &mut Vec<u8>, word: &[u8], bytes: &[u8]) -> Result<(), AllocError>
+    ensures { OnOk result (out.new.items ≡ out.old.items ++ (word.now ++ hex_text bytes.now)) }
+{
+    out.extend_from_slice(word)?;
+    push_hex(alloc, out, bytes)
+}
+
+// Why there is none.
+fn push_refusal(out: &mut Vec<u8>, word: &[u8]) -> Result<(), AllocError>
+    ensures { OnOk result (out.new.items ≡ out.old.items ++ (codes "refused " ++ word.now)) }
+{
+    out.extend_from_slice(b"refused ")?;
+    out.extend_from_slice(word)
+}
+
 // What follows the number of a key.
 fn push_key_words(alloc: Global, out: &mut Vec<u8>, reply: &KeyReply) -> Result<(), AllocError>
     ensures { OnOk result (out.new.items ≡ out.old.items ++ key_words reply.now) }
 {
     match reply {
         KeyReply::Generated { public, secret } => {
-            out.extend_from_slice(b"generated ")?;
-            push_hex(alloc, out, public.as_slice())?;
-            out.extend_from_slice(b" ")?;
-            push_hex(alloc, out, secret.as_slice())
+            push_bytes(alloc, out, b"generated ", public.as_slice())?;
+            push_bytes(alloc, out, b" ", secret.as_slice())
         }
-        KeyReply::Secret { public } => {
-            out.extend_from_slice(b"secret ")?;
-            push_hex(alloc, out, public.as_slice())
-        }
+        KeyReply::Secret { public } => push_bytes(alloc, out, b"secret ", public.as_slice()),
         KeyReply::Peer => out.extend_from_slice(b"peer"),
-        KeyReply::Refused(refusal) => {
-            out.extend_from_slice(b"refused ")?;
-            out.extend_from_slice(key_refusal_word(*refusal))
-        }
+        KeyReply::Refused(refusal) => push_refusal(out, key_refusal_word(*refusal)),
     }
 }
 
@@ -96,15 +109,9 @@ fn push_context_words(
 {
     match reply {
         ContextReply::Shared => out.extend_from_slice(b"shared"),
-        ContextReply::Sender { enc } => {
-            out.extend_from_slice(b"sender ")?;
-            push_hex(alloc, out, enc.as_slice())
-        }
+        ContextReply::Sender { enc } => push_bytes(alloc, out, b"sender ", enc.as_slice()),
         ContextReply::Recipient => out.extend_from_slice(b"recipient"),
-        ContextReply::Refused(refusal) => {
-            out.extend_from_slice(b"refused ")?;
-            out.extend_from_slice(context_refusal_word(*refusal))
-        }
+        ContextReply::Refused(refusal) => push_refusal(out, context_refusal_word(*refusal)),
     }
 }
 
@@ -112,9 +119,7 @@ fn push_context_words(
 pub(crate) fn key_line(alloc: Global, number: u64, reply: &KeyReply) -> Result<Vec<u8>, AllocError>
     ensures { IfOk result (λ line. line.items ≡ key_line_of number reply.now) }
 {
-    let mut line = b"key ".to_vec(alloc)?;
-    push_number(alloc, &mut line, number)?;
-    line.push(b' ')?;
+    let mut line = numbered(alloc, b"key ", number, b' ')?;
     push_key_words(alloc, &mut line, reply)?;
     line.push(b'\n')?;
     Ok(line)
@@ -128,9 +133,7 @@ pub(crate) fn context_line(
 ) -> Result<Vec<u8>, AllocError>
     ensures { IfOk result (λ line. line.items ≡ context_line_of number reply.now) }
 {
-    let mut line = b"context ".to_vec(alloc)?;
-    push_number(alloc, &mut line, number)?;
-    line.push(b' ')?;
+    let mut line = numbered(alloc, b"context ", number, b' ')?;
     push_context_words(alloc, &mut line, reply)?;
     line.push(b'\n')?;
     Ok(line)

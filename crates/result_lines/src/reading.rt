@@ -1,12 +1,12 @@
 //! A whole result.
 
-ghost use Rattle.std.specs.Prelude.{◌≤◌, length};
+ghost use Rattle.std.specs.Prelude.{◌≡◌, ◌≤◌, ℕ, List, length};
 ghost use Rattle.batch_plans.specs.Limits.{most_input};
 ghost use Rattle.reply_texts.specs.ReplyText.{numbered};
 ghost use Rattle.reply_texts.specs.Lines.{key_line as key_line_of, context_line as context_line_of};
 ghost use Rattle.result_lines.specs.Places.{Tells};
 ghost use Rattle.result_lines.specs.Told.{with_lines, with_setup, with_lanes, with_journals};
-ghost use Rattle.result_lines.specs.Told.{told_by};
+ghost use Rattle.result_lines.specs.Told.{nothing_yet, told_by};
 
 use crate::due_lines::{context_line, key_line};
 use crate::stop::Stop;
@@ -84,12 +84,30 @@ fn read_journals(
     Ok(())
 }
 
+// All lines of a text of which nothing is read yet.
+#[tactic(auto, unfolding(crate::specs::Told::told_by))]
+fn read_lines(
+    told: &mut Told,
+    alloc: Global,
+    plan: &Plan,
+    keys: &[KeyReply],
+    replies: &[ContextReply],
+    contexts: &[Option<Context>],
+) -> Result<(), Stop>
+    ensures { (text : List ℕ) → told.old ≡ nothing_yet text → Tells (λ _. told.new) result
+        (told_by plan.now keys.now replies.now contexts.now text) }
+{
+    read_setup(told, alloc, plan.version, keys, replies)?;
+    read_lanes(told, alloc, contexts, plan.lanes.as_slice())?;
+    read_journals(told, alloc, plan.version == 2, plan.contexts.as_slice())?;
+    told.end()
+}
+
 /// What a text tells as a result of the plan, where these are the replies to its key lines and its
 /// context lines, and the contexts that stand.
 ///
 /// The text is read once. [`Stop::Wrong`] has the number of the first line that is missing, has no
 /// line feed or another form, or stands behind the line `end`.
-#[tactic(auto, unfolding(crate::specs::Told::told_by))]
 pub fn read_result<'a>(
     alloc: Global,
     plan: &Plan,
@@ -103,14 +121,6 @@ pub fn read_result<'a>(
         (told_by plan.now keys.now replies.now contexts.now text.now) }
 {
     let mut told = Told::nothing_yet(alloc, text);
-    read_setup(&mut told, alloc, plan.version, keys, replies)?;
-    read_lanes(&mut told, alloc, contexts, plan.lanes.as_slice())?;
-    read_journals(
-        &mut told,
-        alloc,
-        plan.version == 2,
-        plan.contexts.as_slice(),
-    )?;
-    told.end()?;
+    read_lines(&mut told, alloc, plan, keys, replies, contexts)?;
     Ok(told)
 }

@@ -1,13 +1,14 @@
 //! What a result tells.
 
-ghost use Rattle.std.specs.Prelude.{◌≡◌, ◌≤◌, ◌++◌, codes, decimal, length};
+ghost use Rattle.std.specs.Prelude.{◌≡◌, ◌≤◌, ◌++◌, ◌∷◌, [], codes, decimal, length, OnOk, IfErr};
+ghost use Rattle.result_lines.specs.declared.stop.Stop.TheVariants.{OutOfMemory};
 ghost use Rattle.result_lines.specs.Places.{Tells};
 ghost use Rattle.result_lines.specs.Told.{nothing_yet, with_line, with_reply, with_replies};
 ghost use Rattle.result_lines.specs.Told.{with_guess, with_served, with_call, with_calls};
 ghost use Rattle.result_lines.specs.Told.{lane_ended, with_lane, with_journal, with_end};
 ghost use Rattle.batch_plans.specs.Limits.{most_input};
 
-use crate::due_lines::numbered_line;
+use crate::due_lines::numbered;
 use crate::lines::Lines;
 use crate::replies::Replies;
 use crate::stop::Stop;
@@ -65,6 +66,14 @@ impl<'a> Model for Told<'a> {
     } };
 }
 
+// Puts one more behind others.
+fn push<T: Drop>(list: &mut Vec<T>, last: T) -> Result<(), Stop>
+    ensures pushed { OnOk result (list.new.items ≡ list.old.items ++ last ∷ []) }
+    ensures stop { IfErr result (λ stop. stop ≡ OutOfMemory) }
+{
+    Ok(list.push(last)?)
+}
+
 impl<'a> Told<'a> {
     /// Nothing is read of a text.
     pub fn nothing_yet(alloc: Global, text: &'a [u8]) -> Told<'a>
@@ -114,7 +123,7 @@ impl<'a> Told<'a> {
         ensures { Tells (λ _. self.new) result
             (with_line (word.now ++ decimal number ++ codes "\n") self.old) }
     {
-        let line = numbered_line(alloc, word, number)?;
+        let line = numbered(alloc, word, number, b'\n')?;
         self.expect(&line)
     }
 
@@ -125,8 +134,7 @@ impl<'a> Told<'a> {
     {
         let number = self.lines.number();
         let line = self.lines.line()?;
-        self.replies.push(ReplyLine { number, line })?;
-        Ok(())
+        push(&mut self.replies, ReplyLine { number, line })
     }
 
     // So many replies.
@@ -146,8 +154,7 @@ impl<'a> Told<'a> {
     {
         let number = self.lines.number();
         let guess = self.lines.guess()?;
-        self.guesses.push(GuessLine { number, guess })?;
-        Ok(())
+        push(&mut self.guesses, GuessLine { number, guess })
     }
 
     // The lines of a call that is served.
@@ -192,8 +199,7 @@ impl<'a> Told<'a> {
         ensures { Tells (λ _. self.new) result (lane_ended self.old) }
     {
         let guesses = mem::replace(&mut self.guesses, Vec::new(alloc));
-        self.lanes.push(PlainList::from_vec(guesses))?;
-        Ok(())
+        push(&mut self.lanes, PlainList::from_vec(guesses))
     }
 
     /// `lane L`, and the lines of its calls.
@@ -219,8 +225,7 @@ impl<'a> Told<'a> {
     {
         self.expect_numbered(alloc, b"journal ", number)?;
         let marks = self.lines.marks(alloc, stamps)?;
-        self.journals.push(PlainList::from_vec(marks))?;
-        Ok(())
+        push(&mut self.journals, PlainList::from_vec(marks))
     }
 
     /// The line `end`, and nothing behind it.
