@@ -1,8 +1,9 @@
 //! The plan of the lines so far.
 
-ghost use Rattle.std.specs.Prelude.{◌≡◌, ◌+◌, ◌≤◌, length, vec_len, sum_by, OnOk};
+ghost use Rattle.std.specs.Prelude.{◌≡◌, ◌+◌, ◌≤◌, ◌++◌, ◌∷◌, [], length, vec_len, sum_by, OnOk};
 ghost use Rattle.field_text.specs.Fields.{Gives};
 ghost use Rattle.batch_plans.specs.Limits.{most_input};
+ghost use Rattle.key_frames.specs.Forms.{at_most};
 ghost use Rattle.capsule_frames.specs.Capsules.{has_place as place_of, empty, is_of as kind_test};
 ghost use Rattle.capsule_frames.specs.Capsules.{count_of as count_in, with_rand as rand_of};
 ghost use Rattle.capsule_frames.specs.Capsules.{with_key as key_of, with_capsule as capsule_of};
@@ -45,6 +46,17 @@ fn count_of(word: CapsuleWord, lines: &[CapsuleLine]) -> usize
     ensures { result ≡ count_in word lines.now }
 {
     lines.iter().filter(|line| is_of(word, line)).count()
+}
+
+// One more behind others, where it is counted with those of its kind.
+fn push_within<T: Drop>(list: &mut Vec<T>, last: T, count: usize, most: usize) -> Result<(), Stop>
+    ensures read { Gives (λ _. count + 1) result (at_most most (count + 1)) }
+    ensures pushed { OnOk result (list.new.items ≡ list.old.items ++ last ∷ []) }
+{
+    if count >= most {
+        return Err(Stop::Bad(Reason::Count));
+    }
+    Ok(list.push(last)?)
 }
 
 impl CapsuleDraft {
@@ -102,11 +114,8 @@ impl CapsuleDraft {
             (vec_len self.new.pool ≤ vec_len self.old.pool + sum_by length fields.old) }
     {
         let key = read_key(word, &mut self.pool, fields)?;
-        if self.keys.len() >= MOST_KEYS {
-            return Err(Stop::Bad(Reason::Count));
-        }
-        self.keys.push(key)?;
-        Ok(())
+        let count = self.keys.len();
+        push_within(&mut self.keys, key, count, MOST_KEYS)
     }
 
     // A capsule line.
@@ -121,36 +130,27 @@ impl CapsuleDraft {
             (vec_len self.new.pool ≤ vec_len self.old.pool + sum_by length fields.old) }
     {
         let line = forms::capsule(word, &mut self.pool, fields)?;
-        if count_of(word, &self.lines) >= MOST_LINES {
-            return Err(Stop::Bad(Reason::Count));
-        }
-        self.lines.push(line)?;
-        Ok(())
+        let count = count_of(word, &self.lines);
+        push_within(&mut self.lines, line, count, MOST_LINES)
     }
 
     /// The plan of all lines.
     pub fn finish(self) -> CapsulePlan
         ensures { result ≡ plan_of self }
     {
-        let CapsuleDraft {
-            alloc,
-            seed,
-            pool,
-            keys,
-            lines,
-        } = self;
+        let none = self.alloc;
         CapsulePlan {
             plan: Plan {
                 version: 2,
-                seed,
-                pool: PlainList::from_vec(pool),
-                keys: PlainList::from_vec(keys),
-                contexts: PlainList::from_vec(Vec::new(alloc)),
-                items: PlainList::from_vec(Vec::new(alloc)),
-                lanes: PlainList::from_vec(Vec::new(alloc)),
+                seed: self.seed,
+                pool: PlainList::from_vec(self.pool),
+                keys: PlainList::from_vec(self.keys),
+                contexts: PlainList::from_vec(Vec::new(none)),
+                items: PlainList::from_vec(Vec::new(none)),
+                lanes: PlainList::from_vec(Vec::new(none)),
                 added: 0,
             },
-            lines: PlainList::from_vec(lines),
+            lines: PlainList::from_vec(self.lines),
         }
     }
 }

@@ -1,7 +1,8 @@
 //! What a capsule line spells, by its form.
 
 ghost use Rattle.std.specs.Prelude.{◌≡◌, ◌+◌, ◌<◌, ◌≤◌, ◌^◌, length, vec_len, sum_by, OnOk};
-ghost use Rattle.field_text.specs.Fields.{Gives};
+ghost use Rattle.field_text.specs.Fields.{Gives, Reads};
+ghost use Rattle.capsule_frames.specs.LineParts.{key_parts as key_parts_of, suite_parts as suite_parts_of};
 ghost use Rattle.capsule_frames.specs.Forms.{ask as ask_of, answer as answer_of};
 ghost use Rattle.capsule_frames.specs.Forms.{take_line as take_of, capsule as capsule_of};
 
@@ -9,7 +10,8 @@ use crate::lines::CapsuleLine;
 use crate::words;
 use crate::words::CapsuleWord;
 use batch_plans::limits::MOST_FIELD;
-use field_text::{Pieces, Stop};
+use field_text::{Pieces, Reason, Stop};
+use hkdf_labelled::{Aead, Kdf};
 use key_frames::{read_kdf, read_message};
 
 /// TEXT.
@@ -21,6 +23,27 @@ const MOST_REQUEST: usize = 1_049_783;
 /// RESP: 32 bytes of the longer nonce, and a text with its tag.
 const MOST_RESPONSE: usize = 1_048_624;
 
+// `KEY ID` of five pieces.
+fn key_parts(fields: &mut Pieces) -> Result<(u32, u8), Reason>
+    ensures read { Reads (λ parts. (parts, fields.new)) result (key_parts_of fields.old) }
+    ensures size { OnOk result (sum_by length fields.new ≤ sum_by length fields.old) }
+{
+    fields.exactly(5)?;
+    let key = fields.number(0, 65_535)? as u32;
+    let id = fields.number(0, 255)? as u8;
+    Ok((key, id))
+}
+
+// `KDF AEAD`
+fn suite_parts(fields: &mut Pieces) -> Result<(Kdf, Aead), Reason>
+    ensures read { Reads (λ parts. (parts, fields.new)) result (suite_parts_of fields.old) }
+    ensures size { OnOk result (sum_by length fields.new ≤ sum_by length fields.old) }
+{
+    let kdf = read_kdf(fields)?;
+    let aead = words::cipher(fields)?;
+    Ok((kdf, aead))
+}
+
 // `ask KEY ID KDF AEAD TEXT`
 #[tactic(auto, unfolding(crate::specs::Forms::ask))]
 fn ask(pool: &mut Vec<u8>, fields: &mut Pieces) -> Result<CapsuleLine, Stop>
@@ -29,11 +52,8 @@ fn ask(pool: &mut Vec<u8>, fields: &mut Pieces) -> Result<CapsuleLine, Stop>
         (ask_of pool.old.items fields.old) }
     ensures size { OnOk result (vec_len pool.new ≤ vec_len pool.old + sum_by length fields.old) }
 {
-    fields.exactly(5)?;
-    let key = fields.number(0, 65_535)? as u32;
-    let id = fields.number(0, 255)? as u8;
-    let kdf = read_kdf(fields)?;
-    let aead = words::cipher(fields)?;
+    let (key, id) = key_parts(fields)?;
+    let (kdf, aead) = suite_parts(fields)?;
     let text = fields.bytes(pool, MOST_TEXT)?;
     Ok(CapsuleLine::Ask {
         key,
@@ -52,9 +72,7 @@ fn answer(pool: &mut Vec<u8>, fields: &mut Pieces) -> Result<CapsuleLine, Stop>
         (answer_of pool.old.items fields.old) }
     ensures size { OnOk result (vec_len pool.new ≤ vec_len pool.old + sum_by length fields.old) }
 {
-    fields.exactly(5)?;
-    let key = fields.number(0, 65_535)? as u32;
-    let id = fields.number(0, 255)? as u8;
+    let (key, id) = key_parts(fields)?;
     let request = read_message(pool, fields, MOST_REQUEST)?;
     let nonce = fields.bytes(pool, MOST_FIELD)?;
     let text = fields.bytes(pool, MOST_TEXT)?;

@@ -1,6 +1,7 @@
 //! The first words of lines, and the pieces that are one of a few numbers.
 
 ghost use Rattle.std.specs.Prelude.{◌≡◌, ◌≤◌, length, sum_by, OnOk};
+ghost use Rattle.std.specs.Str.{bytes_eq};
 ghost use Rattle.field_text.specs.Fields.{Reads, next};
 ghost use Rattle.capsule_frames.specs.Words.{line_word as line_word_of, draws};
 ghost use Rattle.capsule_frames.specs.Forms.{cipher as cipher_field};
@@ -37,29 +38,35 @@ impl LineWord {
     }
 }
 
+fn is_word(piece: &[u8], word: &[u8]) -> bool
+    ensures { result ≡ bytes_eq piece.now word.now }
+{
+    piece == word
+}
+
 /// The word that begins a line.
 pub fn line_word(piece: &[u8]) -> Result<LineWord, Reason>
     ensures { Reads (λ word. word) result (line_word_of piece.now) }
 {
-    if piece == b"rand".as_slice() {
+    if is_word(piece, b"rand") {
         Ok(LineWord::Rand)
-    } else if piece == b"keygen".as_slice() {
+    } else if is_word(piece, b"keygen") {
         Ok(LineWord::Key(KeyWord::Generate))
-    } else if piece == b"secret".as_slice() {
+    } else if is_word(piece, b"secret") {
         Ok(LineWord::Key(KeyWord::Secret))
-    } else if piece == b"peer".as_slice() {
+    } else if is_word(piece, b"peer") {
         Ok(LineWord::Key(KeyWord::Peer))
-    } else if piece == b"keygen857".as_slice() {
+    } else if is_word(piece, b"keygen857") {
         Ok(LineWord::Key(KeyWord::Generate857))
-    } else if piece == b"secret857".as_slice() {
+    } else if is_word(piece, b"secret857") {
         Ok(LineWord::Key(KeyWord::Secret857))
-    } else if piece == b"peer857".as_slice() {
+    } else if is_word(piece, b"peer857") {
         Ok(LineWord::Key(KeyWord::Peer857))
-    } else if piece == b"ask".as_slice() {
+    } else if is_word(piece, b"ask") {
         Ok(LineWord::Capsule(CapsuleWord::Ask))
-    } else if piece == b"answer".as_slice() {
+    } else if is_word(piece, b"answer") {
         Ok(LineWord::Capsule(CapsuleWord::Answer))
-    } else if piece == b"take".as_slice() {
+    } else if is_word(piece, b"take") {
         Ok(LineWord::Capsule(CapsuleWord::Take))
     } else {
         Err(Reason::Word)
