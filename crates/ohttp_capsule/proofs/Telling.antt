@@ -1,6 +1,6 @@
 -- What a gateway's answer and a client's take tell, from the value that the definitions give.
-use Rattle.std.proofs.Common.{◌≡◌, ◌≢◌, ◌↔◌, ◌<◌, ◌≤◌, ℕ, Bool, true, false, cond, IsTrue, List, [], length, Result, Ok, Err, refl, sym, ap, subst, ◌∙◌, arith}
-use Rattle.std.specs.Prelude.{nat_lt}
+use Rattle.std.proofs.Common.{◌≡◌, ◌≢◌, ◌↔◌, ◌⊎◌, inl, inr, ◌<◌, ◌≤◌, ℕ, Bool, true, false, cond, IsTrue, List, [], length, Result, Ok, Err, refl, sym, ap, subst, ◌∙◌, arith}
+use Rattle.std.specs.Prelude.{nat_lt, IfOk}
 use Rattle.std.proofs.lemmas.Bool.{cond-true, cond-false, lt-ltb, le-ltb, ltb-false, false_from_ne_true}
 use Rattle.ring_core.specs.Sets.{Set}
 use Rattle.sntrup_kem.specs.Kem.{decapsulated}
@@ -8,7 +8,8 @@ use Rattle.sntrup_kem.specs.Laws.{BothEndsAgree}
 use Rattle.key_schedule.specs.declared.modes.Role.TheVariants.{Recipient}
 use Rattle.hkdf_labelled.specs.declared.suites.Suite.{Suite}
 use Rattle.aes_gcm.specs.Gcm.{Holds, clear}
-use Rattle.hpke_context.specs.Contexts.{ContextView, encrypts, key_in, nonce_of, tag_holds, cipher_of}
+use Rattle.key_schedule.specs.Nonces.{compute_nonce}
+use Rattle.hpke_context.specs.Contexts.{ContextView, encrypts, key_in, base_nonce_in, nonce_of, tag_holds, cipher_of}
 use Rattle.hpke_context.proofs.Tags.{tag_holds-is}
 use Rattle.ohttp_capsule.specs.declared.asking.Asked.{Asked}
 use Rattle.ohttp_capsule.specs.declared.faults.CapsuleFault.{CapsuleFault}
@@ -39,6 +40,64 @@ failed_by : {A : Type 0} (b : Bool) (x : A) (f : CapsuleFault)
     → cond b (Ok x) (Err Failed) ≡ Err f → (f ≡ Failed) × (b ≡ false)
 failed_by true x f e = absurd cc
 failed_by false x f e = (let same : Failed ≡ f = cc in sym same, refl)
+
+-- what is opened: the text where the tag holds, and else the fault
+pub record IsOpened (key nonce ct : List ℕ) (r : Result (List ℕ) CapsuleFault) : Type 0 where
+  pub text : IfOk r (λ t. t ≡ clear key nonce ct)
+  pub holds : IfOk r (λ t. tag_holds key nonce [] ct ≡ true)
+  pub failed : r ≡ Err Failed → tag_holds key nonce [] ct ≡ false
+  pub faults : (f : CapsuleFault) → r ≡ Err f → (f ≡ Failed) ⊎ (f ≡ OutOfMemory)
+
+known_or_memory : (f : CapsuleFault)
+    → (◌≢◌ {A = Result (List ℕ) CapsuleFault} (Err f) (Err OutOfMemory)) ⊎ (f ≡ OutOfMemory)
+known_or_memory Short = inl (λ m. cc)
+known_or_memory Header = inl (λ m. cc)
+known_or_memory NonceSize = inl (λ m. cc)
+known_or_memory Failed = inl (λ m. cc)
+known_or_memory OutOfMemory = inr refl
+
+opened_by : (key nonce ct : List ℕ) (b : Bool) → tag_holds key nonce [] ct ≡ b
+    → (r : Result (List ℕ) CapsuleFault)
+    → (r ≢ Err OutOfMemory → r ≡ cond b (Ok (clear key nonce ct)) (Err Failed))
+    → IsOpened key nonce ct r
+opened_by key nonce ct true is (Ok t) told =
+    let e : Ok t ≡ Ok (clear key nonce ct) = told (λ m. cc) in
+    record { text = cc; holds = is; failed = λ m. absurd cc; faults = λ f m. absurd cc }
+opened_by key nonce ct false is (Ok t) told =
+    absurd (let e : Ok t ≡ Err Failed = told (λ m. cc) in cc)
+opened_by key nonce ct true is (Err f) told = elim (known_or_memory f) [
+  | inl known ↦ absurd (let e : Err f ≡ Ok (clear key nonce ct) = told known in cc)
+  | inr same ↦ record {
+    text = tt;
+    holds = tt;
+    failed = λ m. absurd cc;
+    faults = λ g m. inr cc;
+  }
+]
+opened_by key nonce ct false is (Err f) told = record {
+  text = tt;
+  holds = tt;
+  failed = λ m. is;
+  faults = λ g m. elim (known_or_memory f) [
+    | inl known ↦ inl (let e : Err f ≡ Err Failed = told known in cc)
+    | inr same ↦ inr cc
+  ];
+}
+
+pub opened_tells : (key nonce ct : List ℕ) (r : Result (List ℕ) CapsuleFault)
+    → (r ≢ Err OutOfMemory → r ≡ opened_with key nonce ct) → IsOpened key nonce ct r
+opened_tells key nonce ct r told = opened_by key nonce ct (tag_holds key nonce [] ct) refl r told
+
+-- the same with a context's key, at its nonce of number 0
+pub opened_at_first : (context : ContextView) (key base nonce ct : List ℕ)
+    (r : Result (List ℕ) CapsuleFault) → key ≡ key_in context.secrets.cipher
+    → base ≡ base_nonce_in context.secrets.cipher → nonce ≡ compute_nonce base 0
+    → (r ≢ Err OutOfMemory → r ≡ opened_with key nonce ct)
+    → IsOpened (key_in context.secrets.cipher) (nonce_of context 0) ct r
+opened_at_first context key base nonce ct r key_is base_is nonce_is told =
+    let once = nonce_is ∙ ap (λ (b : List ℕ). compute_nonce b 0) base_is in
+    subst (λ (k : List ℕ). IsOpened k (nonce_of context 0) ct r) key_is
+    (subst (λ (o : List ℕ). IsOpened key o ct r) once (opened_tells key nonce ct r told))
 
 -- ---- the gateway
 

@@ -2,7 +2,7 @@
 
 ghost use Rattle.std.specs.Prelude.{◌≡◌, ◌+◌, ◌^◌, ◌≤◌, ℕ, List, length, IsTrue, IfOk, OnOk};
 ghost use Rattle.rand_words.specs.Words.{TakesAtMost};
-ghost use Rattle.hpke_context.specs.Contexts.{encrypts};
+ghost use Rattle.hpke_context.specs.Contexts.{encrypts, HasCipher};
 ghost use Rattle.sntrup_kem.specs.Sizes.{enc_size};
 ghost use Rattle.sntrup_kem.specs.Kem.{drawn_r, IsGenerated};
 ghost use Rattle.key_schedule.specs.declared.modes.Role.TheVariants.{Sender};
@@ -32,7 +32,37 @@ pub struct Asked {
     pub enc: ByteList,
 }
 
-// What a client keeps and the request, where the KEM gave this shared secret and its encapsulation.
+// What a client keeps of a request, where the KEM gave this shared secret and its encapsulation.
+fn kept(
+    alloc: Global,
+    id: u8,
+    suite: Suite,
+    enc: &[u8],
+    shared_secret: &[u8; 32],
+) -> Result<Asked, OutOfMemory>
+    ensures { IfOk result (λ a. a
+        ≡ record { context = context_of Sender id suite shared_secret.now; enc = enc.now }) }
+{
+    let context = context_of(alloc, Role::Sender, id, suite, shared_secret)?;
+    let enc = copied(alloc, enc)?;
+    Ok(Asked { context, enc })
+}
+
+// The request of which this is kept: hdr, enc, and the text's ct.
+fn request_of(alloc: Global, asked: &Asked, id: u8, text: &[u8]) -> Result<ByteList, OutOfMemory>
+    requires cipher { HasCipher asked.now.context }
+    requires text { length text.now ≤ 2 ^ 20 }
+    ensures request { IfOk result (λ r. r ≡ encapsulated_request id asked.now text.now) }
+    ensures size { IfOk result (λ r. length r
+        ≡ header_size + length asked.now.enc + (length text.now + tag_size)) }
+{
+    let context = asked.context.as_context();
+    let ct = sealed_first(alloc, context, text)?;
+    let header = header(id, context.suite());
+    joined_three(alloc, &header, asked.enc.as_slice(), ct.as_slice())
+}
+
+// What a client keeps, and the request.
 fn asked_by(
     alloc: Global,
     id: u8,
@@ -49,11 +79,9 @@ fn asked_by(
     ensures size { IfOk result (λ a. length a.1
         ≡ header_size + length enc.now + (length text.now + tag_size)) }
 {
-    let context = context_of(alloc, Role::Sender, id, suite, shared_secret)?;
-    let ct = sealed_first(alloc, context.as_context(), text)?;
-    let request = joined_three(alloc, &header(id, &suite), enc, ct.as_slice())?;
-    let enc = copied(alloc, enc)?;
-    Ok((Asked { context, enc }, request))
+    let asked = kept(alloc, id, suite, enc, shared_secret)?;
+    let request = request_of(alloc, &asked, id, text)?;
+    Ok((asked, request))
 }
 
 /// Encapsulates a request (RFC 9458, 4.3): the text, sealed to a public key in a context of its own,

@@ -4,7 +4,7 @@ ghost use Rattle.std.specs.Prelude.{◌≡◌, ◌<◌, ◌≤◌, ◌-◌, ◌+
 ghost use Rattle.hpke_context.specs.Contexts.{HasCipher, cipher_of};
 
 use crate::faults::CapsuleFault;
-use crate::responses::TAG_SIZE;
+use crate::responses::{opened, sealed};
 use aes_gcm::Checks;
 use hpke_context::Context;
 use key_schedule::nonce_at;
@@ -25,9 +25,7 @@ pub(crate) fn sealed_first(
     let (Some(key), Some(base_nonce)) = (context.cipher(), context.base_nonce()) else {
         unreachable!()
     };
-    let mut ct = vec![in alloc; 0u8; text.len() + TAG_SIZE]?;
-    key.seal_into(&nonce_at(base_nonce, 0), &[], text, &mut ct);
-    Ok(ByteList::from_vec(ct))
+    sealed(alloc, key, &nonce_at(base_nonce, 0), text)
 }
 
 /// ContextR.Open("", ct), at number 0 (RFC 9180, 5.2): the text of a request's ciphertext.
@@ -53,11 +51,5 @@ pub fn opened_first(
     let (Some(key), Some(base_nonce)) = (context.cipher(), context.base_nonce()) else {
         unreachable!()
     };
-    let nonce = nonce_at(base_nonce, 0);
-    if !key.check_tag(&nonce, &[], ct, checks) {
-        return Err(CapsuleFault::Failed);
-    }
-    let mut text = vec![in alloc; 0u8; ct.len() - TAG_SIZE]?;
-    key.decrypt_into(&nonce, &[], ct, &mut text);
-    Ok(ByteList::from_vec(text))
+    opened(alloc, key, &nonce_at(base_nonce, 0), ct, checks)
 }

@@ -3,6 +3,7 @@
 ghost use Rattle.std.specs.Prelude.{◌≡◌, ◌≢◌, ◌<◌, ◌≤◌, ◌-◌, ◌+◌, ◌*◌, ◌^◌, [], length, codes, IsTrue, IfOk};
 ghost use Rattle.hkdf_labelled.specs.Suites.{hash_size};
 ghost use Rattle.hkdf_labelled.specs.Hkdf.{expand};
+ghost use Rattle.aes_gcm.specs.Gcm.{seal};
 ghost use Rattle.hpke_context.specs.Contexts.{HasCipher, encrypts};
 ghost use Rattle.ohttp_capsule.specs.Responses.{key_size, entropy_size, response_secret, response_prk, aead_key, aead_nonce, encapsulated_response};
 ghost use Rattle.ohttp_capsule.specs.Replies.{opened_with};
@@ -107,6 +108,42 @@ pub(crate) fn response_key(
     })
 }
 
+/// Seal(key, nonce, "", text).
+pub(crate) fn sealed(
+    alloc: Global,
+    key: &GcmKey,
+    nonce: &[u8; 12],
+    text: &[u8],
+) -> Result<ByteList, OutOfMemory>
+    requires { length text.now ≤ 2 ^ 20 }
+    ensures ct { IfOk result (λ ct. ct ≡ seal key.now nonce.now [] text.now) }
+    ensures size { IfOk result (λ ct. length ct ≡ length text.now + 16) }
+{
+    let mut ct = vec![in alloc; 0u8; text.len() + TAG_SIZE]?;
+    key.seal_into(nonce, &[], text, &mut ct);
+    Ok(ByteList::from_vec(ct))
+}
+
+/// Open(key, nonce, "", ct).
+pub(crate) fn opened(
+    alloc: Global,
+    key: &GcmKey,
+    nonce: &[u8; 12],
+    ct: &[u8],
+    checks: &mut Checks,
+) -> Result<ByteList, CapsuleFault>
+    requires ct { length ct.now ≤ 2 ^ 36 - 16 }
+    requires count { checks.old < 2 ^ 64 - 1 }
+    ensures { result ≢ Err CapsuleFault.OutOfMemory → result ≡ opened_with key.now nonce.now ct.now }
+{
+    if !key.check_tag(nonce, &[], ct, checks) {
+        return Err(CapsuleFault::Failed);
+    }
+    let mut text = vec![in alloc; 0u8; ct.len() - TAG_SIZE]?;
+    key.decrypt_into(nonce, &[], ct, &mut text);
+    Ok(ByteList::from_vec(text))
+}
+
 /// The response with this text: the nonce, and the text sealed with no aad.
 pub(crate) fn sealed_response(
     alloc: Global,
@@ -122,29 +159,6 @@ pub(crate) fn sealed_response(
     ensures size { IfOk result (λ b. length b ≡ length nonce.now + (length text.now + 16)) }
 {
     let response = response_key(alloc, context, enc, nonce)?;
-    let mut ct = vec![in alloc; 0u8; text.len() + TAG_SIZE]?;
-    response.key.seal_into(&response.nonce, &[], text, &mut ct);
-    joined(alloc, nonce, &ct)
-}
-
-/// The text of a ciphertext under this key, with no aad.
-pub(crate) fn opened_response(
-    alloc: Global,
-    response: &ResponseKey,
-    ct: &[u8],
-    checks: &mut Checks,
-) -> Result<ByteList, CapsuleFault>
-    requires ct { length ct.now ≤ 2 ^ 36 - 16 }
-    requires count { checks.old < 2 ^ 64 - 1 }
-    ensures { result ≢ Err CapsuleFault.OutOfMemory
-        → result ≡ opened_with response.now.key response.now.nonce ct.now }
-{
-    if !response.key.check_tag(&response.nonce, &[], ct, checks) {
-        return Err(CapsuleFault::Failed);
-    }
-    let mut text = vec![in alloc; 0u8; ct.len() - TAG_SIZE]?;
-    response
-        .key
-        .decrypt_into(&response.nonce, &[], ct, &mut text);
-    Ok(ByteList::from_vec(text))
+    let ct = sealed(alloc, &response.key, &response.nonce, text)?;
+    joined(alloc, nonce, ct.as_slice())
 }

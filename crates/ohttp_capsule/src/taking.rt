@@ -7,7 +7,7 @@ ghost use Rattle.ohttp_capsule.specs.Refusals.{IsShortResponse, IsOfNoExchange};
 
 use crate::asking::Asked;
 use crate::faults::CapsuleFault;
-use crate::responses::{TAG_SIZE, entropy_size, opened_response, response_key};
+use crate::responses::{TAG_SIZE, entropy_size, opened, response_key};
 use aes_gcm::Checks;
 use radix_pack::ByteList;
 use std::alloc::Global;
@@ -42,5 +42,5 @@ pub fn take<R: Threads + Sync>(
     }
     let (nonce, ct) = response.split_at(size);
     let key = response_key(alloc, context, asked.enc.as_slice(), nonce)?;
-    opened_response(alloc, &key, ct, &mut Checks::new(rt))
+    opened(alloc, &key.key, &key.nonce, ct, &mut Checks::new(rt))
 }

@@ -52,7 +52,7 @@ pub returns : goal.returns
 returns g c =
     let asked = c.args.asked.now in
     let response = c.args.response.now in
-    let r = c.opened_response.result in
+    let r = c.opened.result in
     let size_is : c.entropy_size-size.result ≡ entropy_size asked.context.suite.aead =
     c.entropy_size-size.ensures.size
     ∙ ap (λ (s : Suite). entropy_size s.aead) c.suite.ensures.suite
@@ -68,7 +68,7 @@ returns g c =
     (c.in_ok-key.ensures.key ∙ ap (λ v. aead_key v enc nonce) c.as_context-context.ensures)
     (c.in_ok-key.ensures.nonce ∙ ap (λ v. aead_nonce v enc nonce) c.as_context-context.ensures) in
     let k = tells_of asked response r
-    (told_late asked response r long (λ known. c.opened_response.ensures known ∙ made)) in
+    (told_late asked response r long (λ known. c.opened.ensures known ∙ made)) in
     record {
       taken = k.taken_is;
       short = k.short;

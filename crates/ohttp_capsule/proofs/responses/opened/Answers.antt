@@ -5,12 +5,12 @@ use Rattle.aes_gcm.specs.Gcm.{clear}
 use Rattle.hpke_context.specs.Contexts.{tag_holds}
 use Rattle.hpke_context.proofs.Tags.{tag_holds-told}
 use Rattle.ohttp_capsule.specs.declared.faults.CapsuleFault.TheVariants.{Failed}
-use Rattle.ohttp_capsule.proofs.responses.opened_response.Goals as goal
+use Rattle.ohttp_capsule.proofs.responses.opened.Goals as goal
 
 pub returns : goal.returns
 returns c known =
-    let key = c.args.response.now.key in
-    let nonce = c.args.response.now.nonce in
+    let key = c.args.key.now in
+    let nonce = c.args.nonce.now in
     let ct = c.args.ct.now in
     let told : tag_holds key nonce [] ct ≡ c.check_tag.result =
     tag_holds-told key nonce [] ct c.check_tag.result c.check_tag.ensures.truth in
