@@ -1,16 +1,41 @@
 -- Lines are judged one after another.
-use Rattle.std.proofs.Common.{◌≡◌, ℕ, ◌+◌, ◌<◌, ◌≤◌, ◌==◌, nat_lt, Bool, true, false, cond, List, [], ◌∷◌, length, Result, Ok, Err, refl, ap, ◌∙◌, arith}
+use Rattle.std.proofs.Common.{◌≡◌, ℕ, ◌+◌, ◌<◌, ◌≤◌, ◌==◌, nat_lt, Bool, true, false, cond, List, [], ◌∷◌, length, codes, Some, None, Result, Ok, Err, refl, ap, ◌∙◌, arith}
 use Rattle.std.specs.List.{slice_split, onto_first}
+use Rattle.std.specs.Str.{bytes_eq}
 use Rattle.std.proofs.lemmas.Bool.{le-ltb, lt-ltb, ltb-false}
 use Rattle.field_text.specs.declared.reasons.Reason.{Reason}
 use Rattle.field_text.specs.declared.reasons.Reason.TheVariants as reasons
 use Rattle.field_text.specs.declared.faults.BadBatch.{BadBatch}
 use Rattle.field_text.specs.declared.lines.Next.TheVariants.{More, Last}
-use Rattle.field_text.specs.Cuts.{lines_of}
-use Rattle.field_text.specs.Lines.{Grammar, FrontText, line_after, bad, followed, judged, started, headed, front, is_nothing, whole}
+use Rattle.field_text.specs.Cuts.{lines_of, pieces_of}
+use Rattle.field_text.specs.Fields.{next}
+use Rattle.field_text.specs.Lines.{Grammar, FrontText, line_after, with_word, bad, followed, judged, started, headed, front, is_nothing, whole}
 use Rattle.field_text.proofs.Cutting.{some_piece}
 
 -- ---- one line
+
+-- a line without a piece
+pub bare_line : {P W : Type 0} (g : Grammar P W) (plan : P) (line : List ℕ) → pieces_of line ≡ [] → line_after g plan line ≡ Err reasons.Fields
+unfolding line_after next
+bare_line g plan line none = rw none refl
+
+-- the line `end`
+pub end_line : {P W : Type 0} (g : Grammar P W) (plan : P) (line piece : List ℕ) (rest : List (List ℕ)) → pieces_of line ≡ piece ∷ rest → bytes_eq piece (codes "end") ≡ true
+    → line_after g plan line ≡ with_word g plan rest None
+unfolding line_after next
+end_line g plan line piece rest cut is = rw (cut, is) refl
+
+-- a line of no word
+pub no_word : {P W : Type 0} (g : Grammar P W) (plan : P) (line piece : List ℕ) (rest : List (List ℕ)) (reason : Reason) → pieces_of line ≡ piece ∷ rest → bytes_eq piece (codes "end") ≡ false
+    → g.word plan piece ≡ Err reason → line_after g plan line ≡ Err reason
+unfolding line_after next
+no_word g plan line piece rest reason cut is read = rw (cut, is, read) refl
+
+-- a line of another word
+pub word_line : {P W : Type 0} (g : Grammar P W) (plan : P) (line piece : List ℕ) (rest : List (List ℕ)) (word : W) → pieces_of line ≡ piece ∷ rest → bytes_eq piece (codes "end") ≡ false
+    → g.word plan piece ≡ Ok word → line_after g plan line ≡ with_word g plan rest (Some word)
+unfolding line_after next
+word_line g plan line piece rest word cut is read = rw (cut, is, read) refl
 
 -- one finished line
 pub judged_cons : {P W : Type 0} (g : Grammar P W) (n : ℕ) (plan : P) (line : List ℕ) (rest : List (List ℕ)) → (length rest == 0) ≡ false

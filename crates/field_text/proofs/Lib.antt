@@ -8,3 +8,4 @@ pub mod Spellings
 pub mod Judging
 pub mod SpelledLines
 pub mod Fronts
+pub mod Nexts

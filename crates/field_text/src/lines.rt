@@ -109,7 +109,6 @@ fn take_word<D: Draft>(draft: &mut D, word: D::Word, fields: &mut Pieces) -> Res
 }
 
 // Takes the next finished line.
-#[tactic(auto, unfolding(crate::specs::Fields::next, crate::specs::Lines::line_after))]
 fn take_line<D: Draft>(draft: &mut D, line: &[u8]) -> Result<Next, Stop>
     requires room { D.size draft.old + length line.now ≤ D.MOST_INPUT }
     requires kept { D.kept draft.old }
