@@ -155,6 +155,24 @@ fn small_decoded<S: Params>(alloc: Global, bytes: &[u8]) -> Result<Small<S>, Out
     }
 }
 
+// f and 1/g, of their codings.
+fn secret_polys<S: Params>(
+    alloc: Global,
+    f_enc: &[u8],
+    ginv_enc: &[u8],
+) -> Result<SecretPolys<S>, OutOfMemory>
+    requires f_count { length f_enc.now ≡ small_length S.set.p }
+    requires f_form { ¬ IsMalformed S.set.p f_enc.now }
+    requires ginv_count { length ginv_enc.now ≡ small_length S.set.p }
+    requires ginv_form { ¬ IsMalformed S.set.p ginv_enc.now }
+    ensures f { IfOk result (λ s. s.f ≡ small_decode S.set.p f_enc.now) }
+    ensures ginv { IfOk result (λ s. s.ginv ≡ small_decode S.set.p ginv_enc.now) }
+{
+    let f = small_decoded(alloc, f_enc)?;
+    let ginv = small_decoded(alloc, ginv_enc)?;
+    Ok(SecretPolys { f, ginv })
+}
+
 // r, decrypted with the codings of f and 1/g.
 #[tactic(auto, unfolding(crate::specs::Kem::plaintext))]
 fn decrypted<S: Params, M: Multiplier>(
@@ -172,9 +190,8 @@ fn decrypted<S: Params, M: Multiplier>(
     ensures { IfOk result (λ r. r ≡ plaintext S.set f_enc.now ginv_enc.now c_enc.now) }
 {
     let c = rounded_decode(alloc, c_enc)?;
-    let f = small_decoded(alloc, f_enc)?;
-    let ginv = small_decoded(alloc, ginv_enc)?;
-    decrypt(alloc, mult, &c, &SecretPolys { f, ginv })
+    let secret = secret_polys(alloc, f_enc, ginv_enc)?;
+    decrypt(alloc, mult, &c, &secret)
 }
 
 // The session key where Hide makes all bytes of the encapsulation, and else the rejection key.

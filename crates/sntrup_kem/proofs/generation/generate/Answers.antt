@@ -1,7 +1,7 @@
-use Rattle.std.proofs.Common.{arith}
+use Rattle.std.proofs.Common.{◌∙◌, arith}
 use Rattle.sntrup_kem.specs.Hashes.{key_hash}
 use Rattle.sntrup_kem.proofs.Parts.{AreJoined}
-use Rattle.sntrup_kem.proofs.Generating.{well_formed, generated_by, generated_as}
+use Rattle.sntrup_kem.proofs.Generating.{well_formed, generated_by, generated_as, gave_no_fault, fault_elsewhere}
 use Rattle.sntrup_kem.proofs.generation.generate.Goals as goal
 
 pub from_list-secret-requires-clause-form : goal.from_list-secret-requires-clause-form
@@ -32,3 +32,18 @@ returns-clause-keys g c =
       generated_as set word place k.0 key.public sk c.from_list.result c.from_list-secret.result c.from_list.ensures c.from_list-secret.ensures generated,
       omega (arith, c.in_ok-rho.ensures.taken, k.3),
     )
+
+pub returns-clause-exhausted : goal.returns-clause-exhausted
+returns-clause-exhausted g c = fault_elsewhere c.in_ok-key.ensures.exhausted
+
+pub returns-clause-no_inverse : goal.returns-clause-no_inverse
+returns-clause-no_inverse g c = fault_elsewhere c.in_ok-key.ensures.no_inverse
+
+pub returns-clause-exhausted_taken : goal.returns-clause-exhausted_taken
+returns-clause-exhausted_taken g c = λ fault. absurd (gave_no_fault fault)
+
+pub returns-clause-no_inverse_taken : goal.returns-clause-no_inverse_taken
+returns-clause-no_inverse_taken g c = λ fault. absurd (gave_no_fault fault)
+
+pub returns-clause-stays : goal.returns-clause-stays
+returns-clause-stays g c = c.in_ok-rho.ensures.stays ∙ c.in_ok-key.ensures.stays
