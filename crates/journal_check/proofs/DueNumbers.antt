@@ -1,7 +1,8 @@
 -- The numbers that were due at a lane's places in a journal.
-use Rattle.std.proofs.Common.{◌≡◌, ℕ, zero, suc, ◌+◌, ◌<◌, ◌==◌, ◌||◌, Bool, true, false, cond, List, [], ◌∷◌, ◌++◌, length, take, map, drop, get_or, Some, None, refl, sym, ap, ◌∙◌, subst, inl, eq-eqb, append_assoc, arith}
+use Rattle.std.proofs.Common.{◌≡◌, ℕ, zero, suc, ◌+◌, ◌<◌, ◌==◌, ◌||◌, Bool, true, false, cond, List, [], ◌∷◌, ◌++◌, length, take, map, drop, get_or, Some, None, refl, sym, ap, ◌∙◌, subst, inl, eq-eqb, append_assoc, append-nil, ◌≤◌, arith}
 use Rattle.std.specs.Prelude.{slice_get, slice_index_or}
 use Rattle.std.specs.List.{list_any}
+use Rattle.std.proofs.lemmas.List.{drop_all}
 use Rattle.call_places.specs.declared.entries.Place.{Place}
 use Rattle.call_places.specs.declared.entries.Mark.{Mark}
 use Rattle.legal_journals.specs.Batches.{own_places}
@@ -74,3 +75,14 @@ one_more f ps i n found new number size lt is pushed so_far =
     ∙ ap (λ (k : ℕ). found ++ (k ∷ rest)) (sym is)
     ∙ sym (append_assoc found (number ∷ []) rest)
     ∙ ap (λ (ns : List ℕ). ns ++ rest) (sym pushed)
+
+-- no place of them is left
+module _ (ps more : List Place) (i n : ℕ) (size : length ps ≡ n) (end : n ≤ i) where
+  none_left : drop i ps ≡ []
+  none_left = drop_all i ps (omega arith)
+
+  pub found_all : (f : Place → ℕ) (found : List ℕ) → map f ps ≡ found ++ map f (drop i ps) → found ≡ map f ps
+  found_all f found so_far = sym (so_far ∙ ap (λ (qs : List Place). found ++ map f qs) none_left ∙ append-nil found)
+
+  pub left_behind : (own : List Place) → own ≡ drop i ps ++ more → own ≡ more
+  left_behind own so_far = so_far ∙ ap (λ (qs : List Place). qs ++ more) none_left

@@ -1,4 +1,6 @@
 pub mod AskedItems
+pub mod Along
+pub mod OneContext
 pub mod Slots
 pub mod Pulling
 pub mod Linked

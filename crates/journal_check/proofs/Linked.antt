@@ -23,6 +23,21 @@ get_set_other (x ∷ xs) zero (suc k) v ne = refl
 get_set_other (x ∷ xs) (suc i) zero v ne = refl
 get_set_other (x ∷ xs) (suc i) (suc k) v ne = get_set_other xs i k v (λ e. ne (ap suc e))
 
+-- one index more at which a lane goes on
+pub next_more : (marks : List Mark) (nexts : List ℕ) (i next : ℕ) → IsNext marks i next
+    → ((k at : ℕ) → i + 1 ≤ k → slice_get nexts k ≡ Some at → IsNext marks k at)
+    → (k at : ℕ) → i ≤ k → slice_get (slice_set nexts i next) k ≡ Some at → IsNext marks k at
+next_more marks nexts i next here behind k at high is = elim (cases_eq k i) [
+  | inl same ↦
+      (let one : at ≡ next = get_set_here nexts i next at (subst (λ (j : ℕ). slice_get (slice_set nexts i next) j ≡ Some at) same is) in
+      subst (λ (j : ℕ). IsNext marks j at) (sym same) (subst (IsNext marks i) (sym one) here))
+  | inr other ↦ behind k at (omega arith) (sym (get_set_other nexts i k next other) ∙ is)
+]
+
+-- behind the end there is none
+pub none_behind : (marks : List Mark) (nexts : List ℕ) (i k at : ℕ) → length nexts ≤ i → i ≤ k → slice_get nexts k ≡ Some at → IsNext marks k at
+none_behind marks nexts i k at end high is = absurd (let low = slice_get_within nexts k at is in omega arith)
+
 module _ (marks : List Mark) (i : ℕ) (m : Mark) (at : slice_get marks i ≡ Some m) where
   low : i < length marks
   low = slice_get_within marks i m at

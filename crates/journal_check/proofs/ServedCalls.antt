@@ -16,7 +16,7 @@ use Rattle.due_replies.specs.Runs.{Run, place_line}
 use Rattle.journal_check.specs.declared.runs.JournalRun.{JournalRun}
 use Rattle.result_verdicts.proofs.DueReplies.{stands_for}
 use Rattle.told_journals.specs.Asks.{items_asked, asked_unless, asked_in, places_asked, places_from}
-use Rattle.journal_check.specs.Walks.{Points, AreRepliesOf}
+use Rattle.journal_check.specs.Walks.{Points, AreRepliesOf, AreLong}
 
 module _ (contexts : List (Option ContextView)) (journals : List (List Mark)) (lane number : ℕ) (call : CallLine) (more : List CallLine) (cursors : List ℕ)
     (points : Points contexts journals lane number (call ∷ more) cursors) (c n : ℕ) (asks : items_asked call ≡ Some (c, n)) (free : call_refusal contexts call ≡ None)
@@ -78,3 +78,11 @@ pub points_at : (contexts : List (Option ContextView)) (journals : List (List Ma
     → calls ≡ next → Points contexts journals lane number calls cursors → Points contexts journals lane number next cursors
 points_at contexts journals lane number calls next cursors same points c low =
     points c low ∙ ap (places_from contexts c lane number) same
+
+-- they are as many as its places
+pub long_for : (contexts : List (Option ContextView)) (journals : List (List Mark)) (runs : List JournalRun) (call : CallLine) (c : ℕ) → context_of call ≡ c
+    → call_refusal contexts call ≡ None → AreLong contexts journals runs
+    → (done : JournalRun) → slice_get runs c ≡ Some done → length done.lines.items ≡ length (marks_at journals c)
+long_for contexts journals runs call c of free long done at =
+    let s = stands_for contexts call free in
+    long c s.0 done (ap (standing_at contexts) (sym of) ∙ s.1) at

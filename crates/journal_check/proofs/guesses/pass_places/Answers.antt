@@ -1,5 +1,5 @@
-use Rattle.std.proofs.Common.{◌+◌, ◌++◌, ◌∙◌, get_or, drop}
-use Rattle.journal_check.proofs.DueNumbers.{one_more}
+use Rattle.std.proofs.Common.{◌+◌, ◌++◌, ◌∙◌, ℕ, List, get_or, map, drop, sym, ap}
+use Rattle.journal_check.proofs.DueNumbers.{one_more, found_all, left_behind}
 use Rattle.journal_check.proofs.Pulling.{no_place, next_place}
 use Rattle.journal_check.proofs.guesses.pass_places.Goals as goal
 
@@ -19,3 +19,24 @@ places-preserved c =
           c.in_ok-push.ensures.items (c.places.invariant.found f ps more are size own);
       reach = λ before. c.pass_place-number.ensures.reach (c.places.invariant.reach before);
     }
+
+pub places-init : goal.places-init
+places-init c = record {
+  left = λ ps more size own. own;
+  found = λ f ps more are size own. ap (λ (found : List ℕ). found ++ map f ps) (sym c.new-found.ensures.items);
+  reach = λ before. before;
+}
+
+pub pass_place-number-requires : goal.pass_place-number-requires
+pass_place-number-requires c = c.requires
+
+pub returns-clause-numbers : goal.returns-clause-numbers
+returns-clause-numbers c = λ f ps more are size own.
+    found_all ps more c.places._place c.args.count size c.places-test.false f c.places.found.items (c.places.invariant.found f ps more are size own)
+
+pub returns-clause-cursor : goal.returns-clause-cursor
+returns-clause-cursor c = λ ps more size own.
+    left_behind ps more c.places._place c.args.count size c.places-test.false _ (c.places.invariant.left ps more size own)
+
+pub returns-clause-reach : goal.returns-clause-reach
+returns-clause-reach c = c.places.invariant.reach
