@@ -8,10 +8,11 @@ use Rattle.ring_core.specs.Product.{coefficients, centred, IsCentred}
 use Rattle.ring_core.specs.Sets.{Set}
 use Rattle.radix_pack.specs.declared.levels.Digit.{Digit}
 use Rattle.radix_pack.specs.Radix.{encode, encode_in, encoded_length, with_radices, decode, AreDigits, AreRadices, AreBelow}
-use Rattle.radix_pack.specs.Codings.{shifted, rq_digit, rq_length, rq_encode, rq_decode, rounded_radix, rounded_digit, rounded_length, rounded_encode, rounded_decode, AreMultiplesOf3}
+use Rattle.radix_pack.specs.Codings.{shifted, rq_length, rq_encode, rq_decode, rounded_radix, rounded_length, rounded_encode, rounded_decode, AreMultiplesOf3}
+use Rattle.radix_pack.specs.Steps.{step_radix, step_digit, step_back, step_length, step_encode, step_decode, IsStep}
 use Rattle.radix_pack.proofs.RoundTrip.{decode-encode, length-encode}
 use Rattle.radix_pack.proofs.PartSteps.{AreBelow-decode_in}
-use Rattle.radix_pack.proofs.Shifts.{centred_half, centred_digit, shifted_below, shifted_back, thirds_back, rounded_below, triple_below, triple_thirds}
+use Rattle.radix_pack.proofs.Shifts.{centred_half, centred_digit, shifted_back, thirds_back, triple_thirds, step_radix_some, step_radix_most, step_below, multiple_below}
 
 pub IsCentred-half : (q p : ℕ) (a : List ℤ) → q % 2 ≡ 1 → IsCentred q p a → IsWithin ((q - 1) / 2) a
 IsCentred-half q p a odd c k =
@@ -54,27 +55,55 @@ encode_map f m p a xs e d =
     ∙ ap (λ n. encode_in n digits) count
     ∙ ap (λ t. encode_in (length (replicate p m)) t) (sym (with_radices_map f m a) ∙ ap (λ n. with_radices (map f a) (replicate n m)) e)
 
-pub rq_encode_is : (set : Set) (a : List ℤ) (xs : List Digit) → length a ≡ set.p → xs ≡ map (rq_digit set.q) a → encode_in (length xs) xs ≡ rq_encode set a
-unfolding rq_encode
-rq_encode_is set a xs e d = encode_map (shifted set.q) set.q set.p a xs e d
-
-pub rounded_encode_is : (set : Set) (a : List ℤ) (xs : List Digit) → length a ≡ set.p → xs ≡ map (rounded_digit set.q) a → encode_in (length xs) xs ≡ rounded_encode set a
-unfolding rounded_encode
-rounded_encode_is set a xs e d =
-    encode_map (λ c. shifted set.q c / 3) (rounded_radix set.q) set.p a xs e d
+pub step_encode_is : (step : ℕ) (set : Set) (a : List ℤ) (xs : List Digit) → length a ≡ set.p → xs ≡ map (step_digit step set.q) a → encode_in (length xs) xs ≡ step_encode step set a
+unfolding step_encode
+step_encode_is step set a xs e d =
+    encode_map (λ c. shifted set.q c / step) (step_radix step set.q) set.p a xs e d
 
 length-encode_map : (f : ℤ → ℕ) (m p : ℕ) (a : List ℤ) → length a ≡ p → length (encode (map f a) (replicate p m)) ≡ encoded_length (replicate p m)
 length-encode_map f m p a e =
     length-encode (map f a) (replicate p m) (length-map a f ∙ e ∙ sym (length-replicate p m))
 
-pub length-rq_encode : (set : Set) (a : List ℤ) → length a ≡ set.p → length (rq_encode set a) ≡ rq_length set
-unfolding rq_encode rq_length
-length-rq_encode set a e = length-encode_map (shifted set.q) set.q set.p a e
+pub length-step_encode : (step : ℕ) (set : Set) (a : List ℤ) → length a ≡ set.p → length (step_encode step set a) ≡ step_length step set
+unfolding step_encode step_length
+length-step_encode step set a e =
+    length-encode_map (λ c. shifted set.q c / step) (step_radix step set.q) set.p a e
 
-pub length-rounded_encode : (set : Set) (a : List ℤ) → length a ≡ set.p → length (rounded_encode set a) ≡ rounded_length set
-unfolding rounded_encode rounded_length
-length-rounded_encode set a e =
-    length-encode_map (λ c. shifted set.q c / 3) (rounded_radix set.q) set.p a e
+-- ---- both codings by their steps
+
+by_1 : (n : ℕ) → n / 1 ≡ n
+by_1 n = omega arith
+
+times_1 : (n : ℕ) → 1 * n ≡ n
+times_1 n = omega arith
+
+radix_1 : (q : ℕ) → step_radix 1 q ≡ q
+radix_1 q = omega arith
+
+pub rq_length_is : (set : Set) → step_length 1 set ≡ rq_length set
+unfolding step_length rq_length
+rq_length_is set = λ i. encoded_length (replicate set.p (radix_1 set.q i))
+
+pub rq_encode_is : (set : Set) (a : List ℤ) → step_encode 1 set a ≡ rq_encode set a
+unfolding step_encode rq_encode
+rq_encode_is set a = λ i. encode (map (λ c. by_1 (shifted set.q c) i) a) (replicate set.p (radix_1 set.q i))
+
+pub rq_decode_is : (set : Set) (bytes : List ℕ) → step_decode 1 set bytes ≡ rq_decode set bytes
+unfolding step_decode rq_decode
+rq_decode_is set bytes =
+    λ i. map (λ r. pos (times_1 r i) -ℤ pos ((set.q - 1) / 2)) (decode bytes (replicate set.p (radix_1 set.q i)))
+
+pub rounded_length_is : (set : Set) → step_length 3 set ≡ rounded_length set
+unfolding step_length rounded_length
+rounded_length_is set = refl
+
+pub rounded_encode_is : (set : Set) (a : List ℤ) → step_encode 3 set a ≡ rounded_encode set a
+unfolding step_encode rounded_encode
+rounded_encode_is set a = refl
+
+pub rounded_decode_is : (set : Set) (bytes : List ℕ) → step_decode 3 set bytes ≡ rounded_decode set bytes
+unfolding step_decode rounded_decode
+rounded_decode_is set bytes = refl
 
 -- ---- what was encoded
 
@@ -84,25 +113,34 @@ map_back f g (c ∷ a) h =
     ap (λ t. t ∷ map g (map f a)) (h 0 (omega arith))
     ∙ ap (λ t. c ∷ t) (map_back f g a (λ k l. h (suc k) (omega arith)))
 
-pub rq_source : (set : Set) (a : List ℤ) → set.q % 2 ≡ 1 → set.q < 16384 → IsCentred set.q set.p a → rq_decode set (rq_encode set a) ≡ a
-unfolding rq_encode rq_decode
-rq_source set a odd l c =
+pub AreRadices-step : (step : ℕ) (set : Set) → IsStep step → 1 ≤ set.q → set.q < 16384 → AreRadices (replicate set.p (step_radix step set.q))
+AreRadices-step step set s some l =
+    AreRadices-replicate set.p (step_radix step set.q) (step_radix_some step set.q s some) (omega (arith, step_radix_most step set.q s))
+
+step_source : (step : ℕ) (set : Set) (a : List ℤ) → IsStep step → set.q % 2 ≡ 1 → set.q < 16384 → IsCentred set.q set.p a → ((k : ℕ) → step * (shifted set.q (coefficients a k) / step) ≡ shifted set.q (coefficients a k))
+    → step_decode step set (step_encode step set a) ≡ a
+unfolding step_encode step_decode
+step_source step set a s odd l c exact =
     let q = set.q in
     let p = set.p in
+    let m = step_radix step q in
     let w = IsCentred-half q p a odd c in
-    ap (λ rs. map (λ r. pos r -ℤ pos ((q - 1) / 2)) rs) (decode-encode (map (shifted q) a) (replicate p q) (AreRadices-replicate p q (omega arith) l) (AreBelow-map (shifted q) q p a c.0 (λ k. shifted_below q (coefficients a k) odd (w k))))
-    ∙ map_back (shifted q) (λ r. pos r -ℤ pos ((q - 1) / 2)) a (λ k _. shifted_back q (coefficients a k) (w k))
+    let f = λ (z : ℤ). shifted q z / step in
+    ap (λ rs. map (step_back step ((q - 1) / 2)) rs) (decode-encode (map f a) (replicate p m) (AreRadices-step step set s (omega arith) l) (AreBelow-map f m p a c.0 (λ k. step_below step q (coefficients a k) s odd (w k))))
+    ∙ map_back f (step_back step ((q - 1) / 2)) a (λ k _. ap (λ n. pos n -ℤ pos ((q - 1) / 2)) (exact k) ∙ shifted_back q (coefficients a k) (w k))
+
+pub rq_source : (set : Set) (a : List ℤ) → set.q % 2 ≡ 1 → set.q < 16384 → IsCentred set.q set.p a → rq_decode set (rq_encode set a) ≡ a
+rq_source set a odd l c =
+    ap (λ bytes. rq_decode set bytes) (sym (rq_encode_is set a))
+    ∙ sym (rq_decode_is set (step_encode 1 set a))
+    ∙ step_source 1 set a (inl refl) odd l c (λ k. times_1 _ ∙ by_1 _)
 
 pub rounded_source : (set : Set) (a : List ℤ) → set.q % 2 ≡ 1 → set.q < 16384 → (set.q - 1) / 2 % 3 ≡ 0 → IsCentred set.q set.p a → AreMultiplesOf3 a → rounded_decode set (rounded_encode set a) ≡ a
-unfolding rounded_encode rounded_decode
 rounded_source set a odd l half c m =
-    let q = set.q in
-    let p = set.p in
-    let w = IsCentred-half q p a odd c in
-    let f = λ (z : ℤ). shifted q z / 3 in
-    let g = λ (r : ℕ). pos (3 * r) -ℤ pos ((q - 1) / 2) in
-    ap (λ rs. map g rs) (decode-encode (map f a) (replicate p (rounded_radix q)) (AreRadices-replicate p (rounded_radix q) (omega arith) (omega arith)) (AreBelow-map f (rounded_radix q) p a c.0 (λ k. rounded_below q (coefficients a k) odd half (w k))))
-    ∙ map_back f g a (λ k _. ap (λ n. pos n -ℤ pos ((q - 1) / 2)) (thirds_back q (coefficients a k) half (m k) (w k)) ∙ shifted_back q (coefficients a k) (w k))
+    ap (λ bytes. rounded_decode set bytes) (sym (rounded_encode_is set a))
+    ∙ sym (rounded_decode_is set (step_encode 3 set a))
+    ∙ step_source 3 set a (inr refl) odd l c
+    (λ k. thirds_back set.q (coefficients a k) half (m k) (IsCentred-half set.q set.p a odd c k))
 
 -- ---- what is decoded
 
@@ -119,30 +157,23 @@ pub AreBelow-decode : (bytes radices : List ℕ) → AreRadices radices → AreB
 unfolding decode
 AreBelow-decode bytes radices a = AreBelow-decode_in (length radices) radices bytes (omega arith) a
 
--- the digits are below q, so no coefficient is changed by reduction
-centred_digits : (f : ℕ → ℕ) (q m p : ℕ) (digits : List ℕ) → AreBelow digits (replicate p m) → ((r : ℕ) → r < m → f r < q) → map (λ z. centred q z) (map (λ r. pos (f r) -ℤ pos ((q - 1) / 2)) digits) ≡ map (λ r. pos (f r) -ℤ pos ((q - 1) / 2)) digits
-centred_digits f q m p digits b h =
-    map_map (λ r. pos (f r) -ℤ pos ((q - 1) / 2)) (λ z. centred q z) digits
-    ∙ map_same (λ r. centred q (pos (f r) -ℤ pos ((q - 1) / 2))) (λ r. pos (f r) -ℤ pos ((q - 1) / 2)) digits (λ k l.
-    let short : k < length (replicate p m) = omega (arith, b.0) in
-    let is : get_or (replicate p m) k 0 ≡ m = get_or-replicate p k m 0 (omega (arith, length-replicate p m)) in
-    centred_digit q (f (get_or digits k 0)) (h (get_or digits k 0) (omega (arith, b.1 k short, is)))
+-- the digits are below their radix, so no coefficient is changed by reduction
+pub step_decode_is : (step : ℕ) (set : Set) (bytes : List ℕ) → IsStep step → 1 ≤ set.q → set.q < 16384
+    → map (λ z. centred set.q z) (map (step_back step ((set.q - 1) / 2)) (decode bytes (replicate set.p (step_radix step set.q)))) ≡ step_decode step set bytes
+unfolding step_decode
+step_decode_is step set bytes s some l =
+    let q = set.q in
+    let m = step_radix step q in
+    let radices = replicate set.p m in
+    let digits = decode bytes radices in
+    let below = AreBelow-decode bytes radices (AreRadices-step step set s some l) in
+    map_map (step_back step ((q - 1) / 2)) (λ z. centred q z) digits
+    ∙ map_same (λ r. centred q (step_back step ((q - 1) / 2) r)) (step_back step ((q - 1) / 2)) digits (λ k l.
+    let short : k < length radices = omega (arith, below.0) in
+    let is : get_or radices k 0 ≡ m = get_or-replicate set.p k m 0 (omega (arith, length-replicate set.p m)) in
+    let digit : get_or digits k 0 < m = omega (arith, below.1 k short, is) in
+    centred_digit q (step * get_or digits k 0) (multiple_below step q (get_or digits k 0) s digit)
     )
-
-pub rq_decode_is : (set : Set) (bytes : List ℕ) → set.q % 2 ≡ 1 → set.q < 16384 → map (λ z. centred set.q z) (map (λ r. pos r -ℤ pos ((set.q - 1) / 2)) (decode bytes (replicate set.p set.q))) ≡ rq_decode set bytes
-unfolding rq_decode
-rq_decode_is set bytes odd l =
-    let q = set.q in
-    let p = set.p in
-    centred_digits (λ r. r) q q p (decode bytes (replicate p q)) (AreBelow-decode bytes (replicate p q) (AreRadices-replicate p q (omega arith) l)) (λ r h. h)
-
-pub rounded_decode_is : (set : Set) (bytes : List ℕ) → set.q % 2 ≡ 1 → set.q < 16384 → (set.q - 1) / 2 % 3 ≡ 0 → map (λ z. centred set.q z) (map (λ r. pos (3 * r) -ℤ pos ((set.q - 1) / 2)) (decode bytes (replicate set.p (rounded_radix set.q)))) ≡ rounded_decode set bytes
-unfolding rounded_decode
-rounded_decode_is set bytes odd l half =
-    let q = set.q in
-    let p = set.p in
-    let m = rounded_radix q in
-    centred_digits (λ r. 3 * r) q m p (decode bytes (replicate p m)) (AreBelow-decode bytes (replicate p m) (AreRadices-replicate p m (omega arith) (omega arith))) (λ r h. triple_below q r odd half h)
 
 pub AreMultiplesOf3-decode : (set : Set) (bytes : List ℕ) → (set.q - 1) / 2 % 3 ≡ 0 → AreMultiplesOf3 (rounded_decode set bytes)
 unfolding rounded_decode
@@ -178,10 +209,6 @@ more_digits f xs a i x l e h =
 pub all_digits : (f : ℤ → Digit) (xs : List Digit) (a : List ℤ) (i : ℕ) → length a ≤ i → xs ≡ map f (take i a) → xs ≡ map f a
 all_digits f xs a i l h = h ∙ ap (λ t. map f t) (take_all i a l)
 
-pub AreDigits-rq : (q p : ℕ) (a : List ℤ) → q % 2 ≡ 1 → q < 16384 → IsCentred q p a → AreDigits (map (rq_digit q) a)
-AreDigits-rq q p a odd l c =
-    AreDigits-map (shifted q) q a l (λ k _. shifted_below q (coefficients a k) odd (IsCentred-half q p a odd c k))
-
-pub AreDigits-rounded : (q p : ℕ) (a : List ℤ) → q % 2 ≡ 1 → q < 16384 → (q - 1) / 2 % 3 ≡ 0 → IsCentred q p a → AreDigits (map (rounded_digit q) a)
-AreDigits-rounded q p a odd l half c =
-    AreDigits-map (λ z. shifted q z / 3) (rounded_radix q) a (omega arith) (λ k _. rounded_below q (coefficients a k) odd half (IsCentred-half q p a odd c k))
+pub AreDigits-step : (step q p : ℕ) (a : List ℤ) → IsStep step → q % 2 ≡ 1 → q < 16384 → IsCentred q p a → AreDigits (map (step_digit step q) a)
+AreDigits-step step q p a s odd l c =
+    AreDigits-map (λ z. shifted q z / step) (step_radix step q) a (omega (arith, step_radix_most step q s)) (λ k _. step_below step q (coefficients a k) s odd (IsCentred-half q p a odd c k))

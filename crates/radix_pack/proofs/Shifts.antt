@@ -1,12 +1,13 @@
 -- Coefficients and digits: what is added, and taken away again.
-use Rattle.std.proofs.Common.{◌≡◌, ℕ, suc, ◌+◌, ◌-◌, ◌*◌, ◌/◌, ◌%◌, ◌<◌, ◌≤◌, ℤ, pos, negsuc, arith, ap, ◌∙◌}
+use Rattle.std.proofs.Common.{◌≡◌, ℕ, suc, ◌+◌, ◌-◌, ◌*◌, ◌/◌, ◌%◌, ◌<◌, ◌≤◌, ℤ, pos, negsuc, arith, ap, subst, sym, ◌∙◌, inl, inr}
 use Rattle.std.specs.Prelude.{◌+ℤ◌, ◌-ℤ◌, unsigned_abs}
 use Rattle.std.specs.Int.{int_rem_euclid}
 use Rattle.std.proofs.lemmas.Int.{ints}
 use Rattle.std.proofs.Math.Nat.{mod-eq_of_lt}
 use Rattle.ring_core.specs.Product.{centred}
 use Rattle.ring_core.proofs.ResidueLaws.{remainder_of}
-use Rattle.radix_pack.specs.Codings.{shifted, rounded_radix}
+use Rattle.radix_pack.specs.Codings.{shifted}
+use Rattle.radix_pack.specs.Steps.{step_radix, IsStep}
 
 pub centred_half : (q : ℕ) (z : ℤ) → q % 2 ≡ 1 → unsigned_abs (centred q z) ≤ (q - 1) / 2
 centred_half q z odd =
@@ -45,14 +46,35 @@ shifted_thirds q (negsuc n) h t l =
 pub thirds_back : (q : ℕ) (c : ℤ) → (q - 1) / 2 % 3 ≡ 0 → unsigned_abs c % 3 ≡ 0 → unsigned_abs c ≤ (q - 1) / 2 → 3 * (shifted q c / 3) ≡ shifted q c
 thirds_back q c h t l = omega (arith, shifted_thirds q c h t l)
 
-third_below : (q n : ℕ) → q % 2 ≡ 1 → (q - 1) / 2 % 3 ≡ 0 → n < q → n / 3 < (q + 2) / 3
-third_below q n odd h l = omega arith
-
-pub rounded_below : (q : ℕ) (c : ℤ) → q % 2 ≡ 1 → (q - 1) / 2 % 3 ≡ 0 → unsigned_abs c ≤ (q - 1) / 2 → shifted q c / 3 < rounded_radix q
-rounded_below q c odd h l = third_below q (shifted q c) odd h (shifted_below q c odd l)
-
-pub triple_below : (q r : ℕ) → q % 2 ≡ 1 → (q - 1) / 2 % 3 ≡ 0 → r < rounded_radix q → 3 * r < q
-triple_below q r odd h l = omega arith
-
 pub triple_thirds : (r h : ℕ) → h % 3 ≡ 0 → unsigned_abs (pos (3 * r) -ℤ pos h) % 3 ≡ 0
 triple_thirds r h t = omega (arith, ints)
+
+-- ---- steps
+
+-- what holds for the steps of 1 and of 3 holds for each step
+by_step : (P : ℕ → Type 0) (step : ℕ) → IsStep step → P 1 → P 3 → P step
+by_step P step s one three =
+    elim s [
+      | inl e ↦ subst P (sym e) one
+      | inr e ↦ subst P (sym e) three
+    ]
+
+pub step_radix_some : (step q : ℕ) → IsStep step → 1 ≤ q → 1 ≤ step_radix step q
+step_radix_some step q s l =
+    by_step (λ step. 1 ≤ step_radix step q) step s (omega arith) (omega arith)
+
+pub step_radix_most : (step q : ℕ) → IsStep step → step_radix step q ≤ q
+step_radix_most step q s =
+    by_step (λ step. step_radix step q ≤ q) step s (omega arith) (omega arith)
+
+quotient_below : (step q n : ℕ) → IsStep step → n < q → n / step < step_radix step q
+quotient_below step q n s l =
+    by_step (λ step. n / step < step_radix step q) step s (omega arith) (omega arith)
+
+pub step_below : (step q : ℕ) (c : ℤ) → IsStep step → q % 2 ≡ 1 → unsigned_abs c ≤ (q - 1) / 2 → shifted q c / step < step_radix step q
+step_below step q c s odd l = quotient_below step q (shifted q c) s (shifted_below q c odd l)
+
+-- no digit goes past (q - 1) / 2
+pub multiple_below : (step q r : ℕ) → IsStep step → r < step_radix step q → step * r < q
+multiple_below step q r s =
+    by_step (λ step. r < step_radix step q → step * r < q) step s (λ l. omega arith) (λ l. omega arith)

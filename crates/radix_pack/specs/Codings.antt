@@ -4,7 +4,6 @@ use Rattle.std.specs.Prelude.{◌≡◌, ◌≢◌, ◌⊎◌, ℕ, ◌+◌, ◌
 use Rattle.std.specs.List.{range_with_len}
 use Rattle.ring_core.specs.Product.{coefficients}
 use Rattle.ring_core.specs.Sets.{Set}
-use Rattle.radix_pack.specs.declared.levels.Digit.{Digit}
 use Rattle.radix_pack.specs.Radix.{encode, decode, encoded_length}
 
 -- ---- the small coding: each coefficient plus 1 as two bits, four a byte, low bits first
@@ -73,11 +72,3 @@ rounded_decode set bytes =
 -- each coefficient is a multiple of 3
 abbrev pub AreMultiplesOf3 : List ℤ → Type 0
 AreMultiplesOf3 a = (k : ℕ) → unsigned_abs (coefficients a k) % 3 ≡ 0
-
--- ---- for the proofs
-
-abbrev pub rq_digit : ℕ → ℤ → Digit
-rq_digit q c = record { value = shifted q c; radix = q }
-
-abbrev pub rounded_digit : ℕ → ℤ → Digit
-rounded_digit q c = record { value = shifted q c / 3; radix = rounded_radix q }

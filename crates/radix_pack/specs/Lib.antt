@@ -1,3 +1,4 @@
 pub mod Radix
 pub mod Codings
+pub mod Steps
 pub mod Laws

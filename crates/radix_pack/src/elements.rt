@@ -1,8 +1,13 @@
 //! The codings of elements of R/q: of any, and of those whose coefficients are multiples of 3.
+//!
+//! They are one coding, which counts from -(q - 1) / 2 on in steps of 1 or of 3. `#[inline]` makes the
+//! step a constant where it divides.
 
-ghost use Rattle.std.specs.Prelude.{◌≡◌, ◌+◌, ◌-◌, ◌*◌, ◌/◌, ◌%◌, ◌<◌, ◌≤◌, ◌-ℤ◌, ◌≤ℤ◌, pos, unsigned_abs, length, map, replicate, IfOk};
+ghost use Rattle.std.specs.Prelude.{◌≡◌, ◌+◌, ◌-◌, ◌*◌, ◌/◌, ◌%◌, ◌<◌, ◌≤◌, unsigned_abs, length, map, replicate, IfOk};
 ghost use Rattle.ring_core.specs.Bounds.{IsWithin};
-ghost use Rattle.radix_pack.specs.Codings.{shifted, rq_digit, rq_length, rq_encode, rq_decode, rounded_radix, rounded_digit, rounded_length, rounded_encode, rounded_decode, AreMultiplesOf3};
+ghost use Rattle.radix_pack.specs.Codings.{shifted, rq_length, rq_encode, rq_decode};
+ghost use Rattle.radix_pack.specs.Codings.{rounded_length, rounded_encode, rounded_decode, AreMultiplesOf3};
+ghost use Rattle.radix_pack.specs.Steps.{step_radix, step_digit, step_back, step_length, step_encode, step_decode, IsStep};
 
 use crate::levels::{Digit, encoded};
 use crate::lists::ByteList;
@@ -29,41 +34,48 @@ fn shifted(coefficient: i16, modulus: u16) -> u32
     (i32::from(coefficient) + i32::from((modulus - 1) / 2)) as u32
 }
 
-fn rq_digits(alloc: Global, coefficients: &[i16], modulus: u16) -> Result<Vec<Digit>, OutOfMemory>
+// (q + step - 1) / step
+fn step_radix(modulus: u16, step: u16) -> u16
+    requires small { modulus < 8192 }
+    requires step { IsStep step }
+    ensures { result ≡ step_radix step modulus }
+{
+    (modulus + (step - 1)) / step
+}
+
+// The digit of each coefficient, with its radix.
+#[inline]
+fn digits_of(
+    alloc: Global,
+    coefficients: &[i16],
+    modulus: u16,
+    step: u16,
+) -> Result<Vec<Digit>, OutOfMemory>
     requires odd { modulus % 2 ≡ 1 }
     requires small { modulus < 8192 }
     requires within { IsWithin ((modulus - 1) / 2) coefficients.now }
-    ensures { IfOk result (λ v. v.items ≡ map (rq_digit modulus) coefficients.now) }
+    requires step { IsStep step }
+    ensures { IfOk result (λ v. v.items ≡ map (step_digit step modulus) coefficients.now) }
 {
+    let radix = u32::from(step_radix(modulus, step));
     let mut digits = Vec::with_capacity(alloc, coefficients.len())?;
     for coefficient in coefficients {
         digits.push(Digit {
-            value: shifted(*coefficient, modulus),
-            radix: u32::from(modulus),
+            value: shifted(*coefficient, modulus) / u32::from(step),
+            radix,
         })?;
     }
     Ok(digits)
 }
 
-fn rounded_digits(
-    alloc: Global,
-    coefficients: &[i16],
-    modulus: u16,
-) -> Result<Vec<Digit>, OutOfMemory>
-    requires odd { modulus % 2 ≡ 1 }
-    requires small { modulus < 8192 }
-    requires within { IsWithin ((modulus - 1) / 2) coefficients.now }
-    ensures { IfOk result (λ v. v.items ≡ map (rounded_digit modulus) coefficients.now) }
+#[inline]
+fn step_encode<S: Params>(alloc: Global, a: &Rq<S>, step: u16) -> Result<ByteList, OutOfMemory>
+    requires { IsStep step }
+    ensures bytes { IfOk result (λ b. b ≡ step_encode step S.set a.now) }
+    ensures count { IfOk result (λ b. length b ≡ step_length step S.set) }
 {
-    let radix = u32::from((modulus + 2) / 3);
-    let mut digits = Vec::with_capacity(alloc, coefficients.len())?;
-    for coefficient in coefficients {
-        digits.push(Digit {
-            value: shifted(*coefficient, modulus) / 3,
-            radix,
-        })?;
-    }
-    Ok(digits)
+    let mut digits = digits_of(alloc, a.as_slice(), modulus::<S>(), step)?;
+    encoded(alloc, &mut digits)
 }
 
 /// The coding of an element of R/q (NTRU Prime round 3, Rq encoding): 1158 bytes for sntrup761, and
@@ -72,8 +84,7 @@ pub fn rq_encode<S: Params>(alloc: Global, a: &Rq<S>) -> Result<ByteList, OutOfM
     ensures bytes { IfOk result (λ b. b ≡ rq_encode S.set a.now) }
     ensures count { IfOk result (λ b. length b ≡ rq_length S.set) }
 {
-    let mut digits = rq_digits(alloc, a.as_slice(), modulus::<S>())?;
-    encoded(alloc, &mut digits)
+    step_encode(alloc, a, 1)
 }
 
 /// The coding of an element whose coefficients are multiples of 3 (NTRU Prime round 3, Rounded
@@ -83,35 +94,46 @@ pub fn rounded_encode<S: Params>(alloc: Global, a: &Rq<S>) -> Result<ByteList, O
     ensures bytes { IfOk result (λ b. b ≡ rounded_encode S.set a.now) }
     ensures count { IfOk result (λ b. length b ≡ rounded_length S.set) }
 {
-    let mut digits = rounded_digits(alloc, a.as_slice(), modulus::<S>())?;
-    encoded(alloc, &mut digits)
+    step_encode(alloc, a, 3)
 }
 
-fn rq_coefficients(alloc: Global, digits: &[u16], half: u16) -> Result<Vec<i32>, OutOfMemory>
-    ensures { IfOk result (λ v. v.items ≡ map (λ r. pos r -ℤ pos half) digits.now) }
+// The coefficient of each digit.
+#[inline]
+fn coefficients_of(
+    alloc: Global,
+    digits: &[u16],
+    half: u16,
+    step: u16,
+) -> Result<Vec<i32>, OutOfMemory>
+    requires { IsStep step }
+    ensures { IfOk result (λ v. v.items ≡ map (step_back step half) digits.now) }
 {
     let mut coefficients = Vec::with_capacity(alloc, digits.len())?;
     for digit in digits {
-        coefficients.push(i32::from(*digit) - i32::from(half))?;
+        coefficients.push(i32::from(step) * i32::from(*digit) - i32::from(half))?;
     }
     Ok(coefficients)
 }
 
-fn rounded_coefficients(alloc: Global, digits: &[u16], half: u16) -> Result<Vec<i32>, OutOfMemory>
-    ensures { IfOk result (λ v. v.items ≡ map (λ r. pos (3 * r) -ℤ pos half) digits.now) }
+// The radices of all digits.
+fn radices<S: Params>(alloc: Global, step: u16) -> Result<Vec<u16>, OutOfMemory>
+    requires { IsStep step }
+    ensures { IfOk result (λ v. v.items ≡ replicate S.set.p (step_radix step S.set.q)) }
 {
-    let mut coefficients = Vec::with_capacity(alloc, digits.len())?;
-    for digit in digits {
-        coefficients.push(3 * i32::from(*digit) - i32::from(half))?;
-    }
-    Ok(coefficients)
+    Ok(vec![in alloc; step_radix(modulus::<S>(), step); S::P]?)
 }
 
-// p times the same radix.
-fn equal_radices<S: Params>(alloc: Global, radix: u16) -> Result<Vec<u16>, OutOfMemory>
-    ensures { IfOk result (λ v. v.items ≡ replicate S.set.p radix) }
+#[inline]
+fn step_decode<S: Params>(alloc: Global, bytes: &[u8], step: u16) -> Result<Rq<S>, OutOfMemory>
+    requires step { IsStep step }
+    requires count { length bytes.now ≡ step_length step S.set }
+    ensures { IfOk result (λ a. a ≡ step_decode step S.set bytes.now) }
 {
-    Ok(vec![in alloc; radix; S::P]?)
+    let radices = radices::<S>(alloc, step)?;
+    let digits = decoded(alloc, bytes, &radices)?;
+    let half = (modulus::<S>() - 1) / 2;
+    let coefficients = coefficients_of(alloc, &digits, half, step)?;
+    Rq::from_coefficients(alloc, &coefficients)
 }
 
 /// The element whose coding `bytes` are: 1158 bytes for sntrup761, and 1322 for sntrup857.
@@ -121,11 +143,7 @@ pub fn rq_decode<S: Params>(alloc: Global, bytes: &[u8]) -> Result<Rq<S>, OutOfM
     requires { length bytes.now ≡ rq_length S.set }
     ensures { IfOk result (λ a. a ≡ rq_decode S.set bytes.now) }
 {
-    let modulus = modulus::<S>();
-    let radices = equal_radices::<S>(alloc, modulus)?;
-    let digits = decoded(alloc, bytes, &radices)?;
-    let coefficients = rq_coefficients(alloc, &digits, (modulus - 1) / 2)?;
-    Rq::from_coefficients(alloc, &coefficients)
+    step_decode(alloc, bytes, 1)
 }
 
 /// The element whose rounded coding `bytes` are: 1007 bytes for sntrup761, and 1152 for sntrup857.
@@ -137,9 +155,5 @@ pub fn rounded_decode<S: Params>(alloc: Global, bytes: &[u8]) -> Result<Rq<S>, O
     ensures element { IfOk result (λ a. a ≡ rounded_decode S.set bytes.now) }
     ensures rounded { IfOk result (λ a. AreMultiplesOf3 a) }
 {
-    let modulus = modulus::<S>();
-    let radices = equal_radices::<S>(alloc, (modulus + 2) / 3)?;
-    let digits = decoded(alloc, bytes, &radices)?;
-    let coefficients = rounded_coefficients(alloc, &digits, (modulus - 1) / 2)?;
-    Rq::from_coefficients(alloc, &coefficients)
+    step_decode(alloc, bytes, 3)
 }

@@ -10,6 +10,7 @@ use Rattle.field_text.specs.Fields.{number, bytes}
 use Rattle.field_text.proofs.Spellings.{ok_same, step_ok, test_ok, next_ok, exactly_ok, number_ok, bytes_ok, IsFront, IsFront-same, IsFront-then}
 use Rattle.field_text.proofs.SpelledLines.{no_piece}
 use Rattle.batch_plans.specs.declared.plan.CallLine.{CallLine}
+use Rattle.batch_plans.specs.declared.plan.CallLine.TheVariants.{Seal, Unseal}
 use Rattle.batch_plans.specs.declared.plan.ContextLine.{ContextLine}
 use Rattle.batch_plans.specs.Limits.{most_field, most_plaintext, most_ciphertext, first_name, text_size, IsItemWithin, IsNumber, IsCallWithin, IsPlainCall}
 use Rattle.key_frames.proofs.SpelledFields.{piece_is, front_length, field_within}
@@ -100,33 +101,36 @@ pub record IsCall (names : Bool) (old new : List ℕ) (call : CallLine) (pieces 
   pub nameless : name_added call ≡ []
   pub text : (items : List Item) → length old + text_size items call ≤ length new
 
+-- a call of one item, where the call's word, pieces and limits are those of the item
+IsCall-one : (names : Bool) (most : ℕ) (old : List ℕ) (read : ℕ × Item × List ℕ) (pieces : List (List ℕ)) (word : List ℕ) (call : CallLine) → IsOne names most old read pieces
+    → ((whole : List ℕ) (items : List Item) (added : List ContextLine) → call_pieces whole items added call ≡ word ∷ ctx_text read.0 ∷ item_pieces whole read.1)
+    → ((items size : ℕ) → IsNumber read.0 × IsItemWithin most size read.1 → IsCallWithin items size call)
+    → (read.0 < first_name → IsPlainCall call)
+    → name_added call ≡ []
+    → ((items : List Item) → text_size items call ≡ read.1.text.len)
+    → IsCall names old read.2 call (word ∷ pieces)
+IsCall-one names most old read pieces word call one spelled within plain nameless text = record {
+  grown = one.grown;
+  spelled = λ whole items added h. spelled whole items added ∙ ap (λ (pieces : List (List ℕ)). word ∷ pieces) (one.spelled whole h);
+  within = λ items size long. within items size (one.context, one.within size long);
+  plain = λ none. plain (one.plain none);
+  nameless = nameless;
+  text = λ items. omega (arith, text items, one.text);
+}
+
 pub seal_ok : (names : Bool) (pool : List ℕ) (pieces : List (List ℕ)) (read : CallLine × List ℕ) → seal names pool pieces ≡ Ok read
     → IsCall names pool read.1 read.0 (codes "seal" ∷ pieces)
 seal_ok names pool pieces read e =
     let found = step_ok (one_item names most_plaintext pool pieces) _ read e in
-    let one = one_item_ok names most_plaintext pool pieces found.0 found.1 in
-    subst (λ (read : CallLine × List ℕ). IsCall names pool read.1 read.0 (codes "seal" ∷ pieces)) (ok_same _ _ found.2) record {
-      grown = one.grown;
-      spelled = λ whole items added h. ap (λ (pieces : List (List ℕ)). codes "seal" ∷ pieces) (one.spelled whole h);
-      within = λ items size long. (one.context, one.within size long);
-      plain = one.plain;
-      nameless = refl;
-      text = λ items. one.text;
-    }
+    subst (λ (read : CallLine × List ℕ). IsCall names pool read.1 read.0 (codes "seal" ∷ pieces)) (ok_same _ _ found.2)
+    (IsCall-one names most_plaintext pool found.0 pieces (codes "seal") (Seal found.0.0 found.0.1) (one_item_ok names most_plaintext pool pieces found.0 found.1) (λ whole items added. refl) (λ items size h. h) (λ h. h) refl (λ items. refl))
 
 pub unseal_ok : (names : Bool) (pool : List ℕ) (pieces : List (List ℕ)) (read : CallLine × List ℕ) → unseal names pool pieces ≡ Ok read
     → IsCall names pool read.1 read.0 (codes "unseal" ∷ pieces)
 unseal_ok names pool pieces read e =
     let found = step_ok (one_item names most_ciphertext pool pieces) _ read e in
-    let one = one_item_ok names most_ciphertext pool pieces found.0 found.1 in
-    subst (λ (read : CallLine × List ℕ). IsCall names pool read.1 read.0 (codes "unseal" ∷ pieces)) (ok_same _ _ found.2) record {
-      grown = one.grown;
-      spelled = λ whole items added h. ap (λ (pieces : List (List ℕ)). codes "unseal" ∷ pieces) (one.spelled whole h);
-      within = λ items size long. (one.context, one.within size long);
-      plain = one.plain;
-      nameless = refl;
-      text = λ items. one.text;
-    }
+    subst (λ (read : CallLine × List ℕ). IsCall names pool read.1 read.0 (codes "unseal" ∷ pieces)) (ok_same _ _ found.2)
+    (IsCall-one names most_ciphertext pool found.0 pieces (codes "unseal") (Unseal found.0.0 found.0.1) (one_item_ok names most_ciphertext pool pieces found.0 found.1) (λ whole items added. refl) (λ items size h. h) (λ h. h) refl (λ items. refl))
 
 pub export_ok : (names : Bool) (pool : List ℕ) (pieces : List (List ℕ)) (read : CallLine × List ℕ) → export names pool pieces ≡ Ok read
     → IsCall names pool read.1 read.0 (codes "export" ∷ pieces)

@@ -1,63 +1,12 @@
-use Rattle.std.proofs.Common.{◌≡◌, ◌∙◌, ap, length, map, subst, sym, arith}
-use Rattle.std.proofs.lemmas.List.{length-map}
+use Rattle.std.proofs.Common.{◌∙◌}
 use Rattle.std.proofs.lemmas.Result.{IfOk-weaker}
-use Rattle.radix_pack.specs.Radix.{AreDigits}
-use Rattle.radix_pack.specs.Codings.{rq_digit}
-use Rattle.radix_pack.proofs.ElementLaws.{IsCentred-half, AreDigits-rq, rq_encode_is, length-rq_encode}
+use Rattle.radix_pack.proofs.ElementLaws.{rq_encode_is, rq_length_is}
 use Rattle.radix_pack.proofs.elements.rq_encode.Goals as goal
 
-pub encoded-requires-clause-digits : goal.encoded-requires-clause-digits
-encoded-requires-clause-digits g c =
-    let laws = g.S.Params in
-    let q = laws.set.q in
-    let a = c.args.a.now in
-    let same : c.deref_mut.result.now ≡ map (rq_digit q) a =
-    c.deref_mut.ensures.value
-    ∙ c.in_ok-digits.ensures
-    ∙ ap (λ m. map (rq_digit m) c.as_slice.result.now) c.modulus.ensures.modulus
-    ∙ ap (λ xs. map (rq_digit q) xs) c.as_slice.ensures.list
-    in
-    subst AreDigits (sym same) (AreDigits-rq q laws.set.p a laws.modulus_odd (omega (arith, laws.modulus_most)) c.as_slice.ensures.centred)
+pub returns-clause-bytes : goal.returns-clause-bytes
+returns-clause-bytes g c =
+    IfOk-weaker c.step_encode.result _ _ (λ b e. e ∙ rq_encode_is g.S.Params.set c.args.a.now) c.step_encode.ensures.bytes
 
-pub returns : goal.returns
-returns g c =
-    let set = g.S.Params.set in
-    let a = c.args.a.now in
-    let digits = c.deref_mut.result.now in
-    let count : length a ≡ set.p = c.as_slice.ensures.centred.0 in
-    let same : digits ≡ map (rq_digit set.q) a =
-    c.deref_mut.ensures.value
-    ∙ c.in_ok-digits.ensures
-    ∙ ap (λ m. map (rq_digit m) c.as_slice.result.now) c.modulus.ensures.modulus
-    ∙ ap (λ xs. map (rq_digit set.q) xs) c.as_slice.ensures.list
-    in
-    record {
-      bytes = IfOk-weaker c.encoded.result _ _ (λ b e. e ∙ rq_encode_is set a digits count same) c.encoded.ensures;
-      count =
-          IfOk-weaker c.encoded.result _ _
-          (λ b e. ap length (e ∙ rq_encode_is set a digits count same) ∙ length-rq_encode set a count)
-          c.encoded.ensures;
-    }
-
-pub rq_digits-requires-clause-odd : goal.rq_digits-requires-clause-odd
-rq_digits-requires-clause-odd g c = rw c.modulus.ensures.modulus g.S.Params.modulus_odd
-
-pub rq_digits-requires-clause-within : goal.rq_digits-requires-clause-within
-rq_digits-requires-clause-within g c =
-    let laws = g.S.Params in
-    rw (c.modulus.ensures.modulus, c.as_slice.ensures.list) (IsCentred-half laws.set.q laws.set.p c.args.a.now laws.modulus_odd c.as_slice.ensures.centred)
-
-pub encoded-requires-clause-some : goal.encoded-requires-clause-some
-encoded-requires-clause-some g c =
-    let set = g.S.Params.set in
-    let count : length c.args.a.now ≡ set.p = c.as_slice.ensures.centred.0 in
-    let digits : c.deref_mut.result.now ≡ map (rq_digit c.modulus.result) c.as_slice.result.now =
-    c.deref_mut.ensures.value ∙ c.in_ok-digits.ensures
-    in
-    omega (
-      arith,
-      ap length digits,
-      length-map c.as_slice.result.now (rq_digit c.modulus.result),
-      ap length c.as_slice.ensures.list,
-      g.S.Params.degree_least,
-    )
+pub returns-clause-count : goal.returns-clause-count
+returns-clause-count g c =
+    IfOk-weaker c.step_encode.result _ _ (λ b e. e ∙ rq_length_is g.S.Params.set) c.step_encode.ensures.count
