@@ -105,6 +105,14 @@ pub rounded_decode_is : (set : Set) (bytes : List ℕ) → step_decode 3 set byt
 unfolding step_decode rounded_decode
 rounded_decode_is set bytes = refl
 
+pub length-rq_encode : (set : Set) (a : List ℤ) → length a ≡ set.p → length (rq_encode set a) ≡ rq_length set
+length-rq_encode set a e =
+    ap length (sym (rq_encode_is set a)) ∙ length-step_encode 1 set a e ∙ rq_length_is set
+
+pub length-rounded_encode : (set : Set) (a : List ℤ) → length a ≡ set.p → length (rounded_encode set a) ≡ rounded_length set
+length-rounded_encode set a e =
+    ap length (sym (rounded_encode_is set a)) ∙ length-step_encode 3 set a e ∙ rounded_length_is set
+
 -- ---- what was encoded
 
 map_back : (f : ℤ → ℕ) (g : ℕ → ℤ) (a : List ℤ) → ((k : ℕ) → k < length a → g (f (coefficients a k)) ≡ coefficients a k) → map g (map f a) ≡ a
