@@ -14,22 +14,20 @@ use Rattle.legal_journals.specs.Legal.{Legal, number_of, due_after, before}
 use Rattle.legal_journals.proofs.Guessing.{through-append}
 use Rattle.legal_journals.proofs.Members.{got}
 use Rattle.legal_journals.proofs.Places.{before_split, not_in_front}
-use Rattle.batch_plans.specs.Calls.{context_of}
 use Rattle.batch_plans.specs.declared.plan.CallLine.{CallLine}
 use Rattle.batch_plans.specs.declared.plan.CallLine.TheVariants as calls
 use Rattle.batch_plans.specs.declared.replies.Batch as told_batch
-use Rattle.batch_plans.specs.declared.replies.CallRefusal.{CallRefusal}
 use Rattle.due_replies.specs.Standing.{standing_at, call_refusal}
 use Rattle.due_replies.specs.Asks.{cipher_at}
 use Rattle.due_replies.specs.Runs.{Run, asks_of}
 use Rattle.journal_check.specs.declared.runs.JournalRun.{JournalRun}
-use Rattle.told_journals.specs.Asks.{items_asked, asked_unless, places_from}
+use Rattle.told_journals.specs.Asks.{items_asked, places_from}
 use Rattle.result_verdicts.specs.Guesses.{is_right}
 use Rattle.journal_check.specs.Walks.{Points}
 use Rattle.journal_check.specs.Passing.{is_right_by, Reaches, AllReach, AreNumbersOf, AreLegal, AreNumbered}
 use Rattle.result_verdicts.proofs.RunTexts.{length-block}
 use Rattle.result_verdicts.proofs.DueReplies.{stands_for}
-use Rattle.journal_check.proofs.ServedCalls.{there_for, own_here}
+use Rattle.journal_check.proofs.ServedCalls.{some_pair, context_asked, there_for, own_here}
 
 -- ---- the first place of a lane
 
@@ -87,21 +85,6 @@ module _ (batch : Batch) (cipher : Cipher) (context : ℕ) (marks : List Mark) (
       ∙ sym least
 
 -- ---- what a call asks
-
-pub asked_some : (refusal : Option CallRefusal) (asks : Option (ℕ × ℕ)) (one : ℕ × ℕ) → asked_unless refusal asks ≡ Some one → (refusal ≡ None) × (asks ≡ Some one)
-asked_some None asks one is = (refl, is)
-asked_some (Some refusal) asks one is = absurd cc
-
-some_pair : (a b : ℕ × ℕ) → Some a ≡ Some b → a ≡ b
-some_pair a b is = cc
-
-pub context_asked : (call : CallLine) (at n : ℕ) → items_asked call ≡ Some (at, n) → context_of call ≡ at
-context_asked (calls.Seal context item) at n is = ap (λ (p : ℕ × ℕ). p.0) (some_pair (context, 1) (at, n) is)
-context_asked (calls.Unseal context item) at n is = ap (λ (p : ℕ × ℕ). p.0) (some_pair (context, 1) (at, n) is)
-context_asked (calls.UnsealAll context first count) at n is = ap (λ (p : ℕ × ℕ). p.0) (some_pair (context, count) (at, n) is)
-context_asked (calls.Export context exporter size) at n is = absurd cc
-context_asked (calls.Add name) at n is = absurd cc
-context_asked (calls.Retire name) at n is = absurd cc
 
 pub same_opening : (call : CallLine) (at n context first count : ℕ) → items_asked call ≡ Some (at, n) → call ≡ calls.UnsealAll context first count
     → (context ≡ at) × (count ≡ n)

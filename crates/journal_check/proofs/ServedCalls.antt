@@ -4,19 +4,51 @@ use Rattle.std.specs.Prelude.{slice_get, slice_index}
 use Rattle.std.specs.Result.{OnOk}
 use Rattle.std.proofs.lemmas.Bool.{cases_eq, cases_lt}
 use Rattle.std.proofs.lemmas.List.{get_or_past}
+use Rattle.call_places.specs.declared.entries.Place.{Place}
 use Rattle.call_places.specs.declared.entries.Mark.{Mark}
 use Rattle.hpke_context.specs.Contexts.{ContextView}
 use Rattle.legal_journals.specs.Batches.{own_places, block}
 use Rattle.legal_journals.specs.Histories.{marks_at, places}
 use Rattle.batch_plans.specs.Calls.{context_of}
 use Rattle.batch_plans.specs.declared.plan.CallLine.{CallLine}
+use Rattle.batch_plans.specs.declared.plan.CallLine.TheVariants as calls
 use Rattle.batch_plans.specs.declared.replies.CallRefusal.{CallRefusal}
 use Rattle.due_replies.specs.Standing.{standing_at, call_refusal}
 use Rattle.due_replies.specs.Runs.{Run, place_line}
 use Rattle.journal_check.specs.declared.runs.JournalRun.{JournalRun}
+use Rattle.result_verdicts.specs.Replies.{item_lines}
 use Rattle.result_verdicts.proofs.DueReplies.{stands_for}
+use Rattle.result_verdicts.proofs.RunTexts.{length-block}
 use Rattle.told_journals.specs.Asks.{items_asked, asked_unless, asked_in, places_asked, places_from}
 use Rattle.journal_check.specs.Walks.{Points, AreRepliesOf, AreLong}
+
+-- what a call asks, where it asks for items
+pub asked_some : (refusal : Option CallRefusal) (asks : Option (ℕ × ℕ)) (one : ℕ × ℕ) → asked_unless refusal asks ≡ Some one → (refusal ≡ None) × (asks ≡ Some one)
+asked_some None asks one is = (refl, is)
+asked_some (Some refusal) asks one is = absurd cc
+
+pub some_pair : (a b : ℕ × ℕ) → Some a ≡ Some b → a ≡ b
+some_pair a b is = cc
+
+pub context_asked : (call : CallLine) (at n : ℕ) → items_asked call ≡ Some (at, n) → context_of call ≡ at
+context_asked (calls.Seal context item) at n is = ap (λ (p : ℕ × ℕ). p.0) (some_pair (context, 1) (at, n) is)
+context_asked (calls.Unseal context item) at n is = ap (λ (p : ℕ × ℕ). p.0) (some_pair (context, 1) (at, n) is)
+context_asked (calls.UnsealAll context first count) at n is = ap (λ (p : ℕ × ℕ). p.0) (some_pair (context, count) (at, n) is)
+context_asked (calls.Export context exporter size) at n is = absurd cc
+context_asked (calls.Add name) at n is = absurd cc
+context_asked (calls.Retire name) at n is = absurd cc
+
+pub lines_asked : (run : Run) (lane number : ℕ) (call : CallLine) (at n : ℕ) → items_asked call ≡ Some (at, n)
+    → map (place_line run at) (block lane number 0 n) ≡ item_lines run lane number call
+lines_asked run lane number (calls.Seal context item) at n is =
+    ap (λ (p : ℕ × ℕ). map (place_line run p.0) (block lane number 0 p.1)) (sym (some_pair (context, 1) (at, n) is))
+lines_asked run lane number (calls.Unseal context item) at n is =
+    ap (λ (p : ℕ × ℕ). map (place_line run p.0) (block lane number 0 p.1)) (sym (some_pair (context, 1) (at, n) is))
+lines_asked run lane number (calls.UnsealAll context first count) at n is =
+    ap (λ (p : ℕ × ℕ). map (place_line run p.0) (block lane number 0 p.1)) (sym (some_pair (context, count) (at, n) is))
+lines_asked run lane number (calls.Export context exporter size) at n is = absurd cc
+lines_asked run lane number (calls.Add name) at n is = absurd cc
+lines_asked run lane number (calls.Retire name) at n is = absurd cc
 
 module _ (contexts : List (Option ContextView)) (journals : List (List Mark)) (lane number : ℕ) (call : CallLine) (more : List CallLine) (cursors : List ℕ)
     (points : Points contexts journals lane number (call ∷ more) cursors) (c n : ℕ) (asks : items_asked call ≡ Some (c, n)) (free : call_refusal contexts call ≡ None)
@@ -32,7 +64,7 @@ module _ (contexts : List (Option ContextView)) (journals : List (List Mark)) (l
       ∙ ap (λ b. cond b (block lane number 0 n) [] ++ places_from contexts c lane (number + 1) more) (eq-eqb c c refl)
 
   -- the cursors behind its places
-  pub points_on : (new : List ℕ) → own_places lane (places (drop (slice_index new c) (marks_at journals c))) ≡ places_from contexts c lane (number + 1) more
+  points_on : (new : List ℕ) → own_places lane (places (drop (slice_index new c) (marks_at journals c))) ≡ places_from contexts c lane (number + 1) more
       → ((d : ℕ) → d ≢ c → slice_index new d ≡ slice_index cursors d) → Points contexts journals lane (number + 1) more new
   points_on new here others d low = elim (cases_eq d c) [
     | inl same ↦ subst (λ (k : ℕ). own_places lane (places (drop (slice_index new k) (marks_at journals k))) ≡ places_from contexts k lane (number + 1) more) (sym same) here
@@ -42,6 +74,14 @@ module _ (contexts : List (Option ContextView)) (journals : List (List Mark)) (l
         ∙ ap (λ (o : Option (ℕ × ℕ)). places_asked d lane number o ++ places_from contexts d lane (number + 1) more) asked_is
         ∙ ap (λ b. cond b (block lane number 0 n) [] ++ places_from contexts d lane (number + 1) more) (ne_eqb c d (λ e. other (sym e)))
   ]
+
+  -- where as many of its places were passed
+  pub points_passed : (new : List ℕ)
+      → ((ps later : List Place) → length ps ≡ n → own_places lane (places (drop (slice_index cursors c) (marks_at journals c))) ≡ ps ++ later
+      → own_places lane (places (drop (slice_index new c) (marks_at journals c))) ≡ later)
+      → ((d : ℕ) → d ≢ c → slice_index new d ≡ slice_index cursors d) → Points contexts journals lane (number + 1) more new
+  points_passed new passed others =
+      points_on new (passed (block lane number 0 n) (places_from contexts c lane (number + 1) more) (length-block lane number 0 n) own_here) others
 
 -- a call that asks nothing
 pub points_past : (contexts : List (Option ContextView)) (journals : List (List Mark)) (lane number : ℕ) (call : CallLine) (more : List CallLine) (cursors : List ℕ)

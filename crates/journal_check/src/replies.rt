@@ -29,6 +29,7 @@ use due_replies::{refusal_of, standing};
 use hpke_context::Context;
 use result_lines::{Replies, push_hex};
 use std::alloc::{AllocError, Global};
+use told_journals::asked_of;
 
 fn refusal_line(refusal: CallRefusal) -> &'static [u8]
     ensures { result.now ≡ refused_line refusal }
@@ -151,22 +152,21 @@ fn take_served(
         → Points contexts.now journals.now lane number (call.now ∷ more) cursors.old
         → Points contexts.now journals.now lane (number + 1) more cursors.new) }
 {
-    match *call {
-        CallLine::Seal { context, .. } => {
-            take_items(replies, journals, runs, cursors, context, lane, 1)
-        }
-        CallLine::Unseal { context, .. } => {
-            take_items(replies, journals, runs, cursors, context, lane, 1)
-        }
-        CallLine::UnsealAll { context, count, .. } => {
+    match asked_of(contexts, call) {
+        Some((context, count)) => {
             take_items(replies, journals, runs, cursors, context, lane, count)
         }
-        CallLine::Export {
-            context,
-            exporter,
-            size,
-        } => take_export(replies, alloc, plan, contexts, context, exporter, size),
-        CallLine::Add { .. } | CallLine::Retire { .. } => unreachable!(),
+        None => {
+            let CallLine::Export {
+                context,
+                exporter,
+                size,
+            } = *call
+            else {
+                unreachable!()
+            };
+            take_export(replies, alloc, plan, contexts, context, exporter, size)
+        }
     }
 }
 

@@ -1,11 +1,9 @@
-use Rattle.std.proofs.Common.{ℕ, ◌+◌, ◌-◌, sym, ap, ◌∙◌, arith}
-use Rattle.legal_journals.specs.Batches.{block}
-use Rattle.told_journals.specs.Asks.{items_asked, places_from}
+use Rattle.std.proofs.Common.{ℕ, ◌-◌, sym, ap, ◌∙◌, arith}
+use Rattle.told_journals.specs.Asks.{items_asked}
 use Rattle.result_verdicts.specs.Guesses.{is_right}
 use Rattle.due_replies.specs.Standing.{call_refusal}
-use Rattle.result_verdicts.proofs.RunTexts.{length-block}
-use Rattle.journal_check.proofs.ServedCalls.{there_for, own_here, points_on, on_ok}
-use Rattle.journal_check.proofs.Openings.{judged, asked_some, context_asked, same_opening, if_ok_both}
+use Rattle.journal_check.proofs.ServedCalls.{asked_some, context_asked, there_for, points_passed, on_ok}
+use Rattle.journal_check.proofs.Openings.{judged, same_opening, if_ok_both}
 use Rattle.journal_check.proofs.guesses.pass_call.Goals as goal
 
 pub returns-in-Some-clause-points : goal.returns-in-Some-clause-points
@@ -19,10 +17,8 @@ returns-in-Some-clause-points c =
     let there = there_for contexts journals call at (context_asked call at n asked.1) asked.0 c.requires.contexts_size in
     on_ok c.pass_items.result
     (λ passed number more points.
-    points_on contexts journals c.args.lane number call more c.args.cursors.now points at n asked.1 asked.0 there c.pass_items.new.cursors
-    (passed (block c.args.lane number 0 n) (places_from contexts at c.args.lane (number + 1) more) (length-block c.args.lane number 0 n)
-    (own_here contexts journals c.args.lane number call more c.args.cursors.now points at n asked.1 asked.0 there))
-    c.pass_items.ensures.others) c.pass_items.ensures.cursor
+    points_passed contexts journals c.args.lane number call more c.args.cursors.now points at n asked.1 asked.0 there c.pass_items.new.cursors passed c.pass_items.ensures.others)
+    c.pass_items.ensures.cursor
 
 pub returns-in-Some-clause-right : goal.returns-in-Some-clause-right
 returns-in-Some-clause-right c =

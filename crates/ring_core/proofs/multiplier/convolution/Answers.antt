@@ -1,6 +1,6 @@
-use Rattle.std.proofs.Common.{arith, rules, ◌≡◌, ◌∙◌, ◌*◌, ◌++◌, ap, sym, pos, length, take, drop, replicate}
-use Rattle.std.proofs.lemmas.List.{length-replicate, take_at}
-use Rattle.ring_core.proofs.ProductLaws.{replicate_zero}
+use Rattle.std.proofs.Common.{arith, rules, ◌≡◌, ◌∙◌, ◌*◌, ◌++◌, ap, sym, length, take, drop}
+use Rattle.std.proofs.lemmas.List.{take_at}
+use Rattle.ring_core.proofs.ProductLaws.{length-zeros, zeros_at}
 use Rattle.ring_core.proofs.multiplier.convolution.Goals as goal
 
 pub add_rows-requires-clause-same : goal.add_rows-requires-clause-same
@@ -13,20 +13,12 @@ add_rows-requires-clause-few c =
 
 pub add_rows-requires-clause-double : goal.add_rows-requires-clause-double
 add_rows-requires-clause-double c =
-    let count = 2 * length c.args.long.now in
-    let zeros : c.in_ok-sums.sums.items ≡ replicate count (pos 0) = search rules in
-    omega (
-      arith,
-      ap length (c.deref_mut.ensures.value ∙ zeros),
-      length-replicate count (pos 0),
-      ap length (c.deref.ensures.value ∙ c.in_ok-row.ensures),
-    )
+    length-zeros (2 * length c.args.long.now) _ _ c.deref_mut.ensures.value (search rules)
+    ∙ ap (λ xs. 2 * length xs) (sym (c.deref.ensures.value ∙ c.in_ok-row.ensures))
 
 pub add_rows-requires-clause-zeros : goal.add_rows-requires-clause-zeros
 add_rows-requires-clause-zeros c =
-    let count = 2 * length c.args.long.now in
-    let zeros : c.in_ok-sums.sums.items ≡ replicate count (pos 0) = search rules in
-    rw (c.deref_mut.ensures.value, zeros) (replicate_zero count)
+    zeros_at (2 * length c.args.long.now) _ _ c.deref_mut.ensures.value (search rules)
 
 pub add_rows-requires-clause-long_small : goal.add_rows-requires-clause-long_small
 add_rows-requires-clause-long_small c =

@@ -1,22 +1,18 @@
-use Rattle.std.proofs.Common.{arith, rules, ◌≡◌, ◌∙◌, ◌*◌, ◌^◌, ap, sym, subst, pos, length, replicate}
-use Rattle.std.proofs.lemmas.List.{length-replicate, take_at}
+use Rattle.std.proofs.Common.{arith, rules, ◌≡◌, ◌∙◌, ◌*◌, ◌^◌, ap, sym, subst, length}
+use Rattle.std.proofs.lemmas.List.{take_at}
 use Rattle.std.proofs.lemmas.Result.{IfOk-weaker}
 use Rattle.ring_core.specs.Bounds.{IsWithin}
 use Rattle.ring_core.specs.Product.{coefficients}
-use Rattle.ring_core.proofs.ProductLaws.{replicate_zero}
+use Rattle.ring_core.proofs.ProductLaws.{length-zeros, zeros_at}
 use Rattle.ring_core.proofs.multiplier.small_convolution.Goals as goal
 
 pub add_rows-requires-clause-double : goal.add_rows-requires-clause-double
 add_rows-requires-clause-double c =
-    let count = 2 * length c.args.long.now in
-    let zeros : c.in_ok-sums.sums.items ≡ replicate count (pos 0) = search rules in
-    omega (arith, ap length (c.deref_mut.ensures.value ∙ zeros), length-replicate count (pos 0))
+    length-zeros (2 * length c.args.long.now) _ _ c.deref_mut.ensures.value (search rules)
 
 pub add_rows-requires-clause-zeros : goal.add_rows-requires-clause-zeros
 add_rows-requires-clause-zeros c =
-    let count = 2 * length c.args.long.now in
-    let zeros : c.in_ok-sums.sums.items ≡ replicate count (pos 0) = search rules in
-    rw (c.deref_mut.ensures.value, zeros) (replicate_zero count)
+    zeros_at (2 * length c.args.long.now) _ _ c.deref_mut.ensures.value (search rules)
 
 pub returns-clause-bound : goal.returns-clause-bound
 returns-clause-bound c =

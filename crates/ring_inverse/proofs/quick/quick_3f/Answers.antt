@@ -1,13 +1,14 @@
-use Rattle.std.proofs.Common.{arith, ap, length}
+use Rattle.std.proofs.Common.{arith, ◌∙◌, ap, length}
+use Rattle.ring_core.proofs.ElementLaws.{length_least, length_most}
 use Rattle.ring_inverse.proofs.quick.quick_3f.Goals as goal
 
 pub candidate_3f-requires-clause-some : goal.candidate_3f-requires-clause-some
 candidate_3f-requires-clause-some g c =
-    omega (arith, ap length c.as_slice.ensures.list, c.as_slice.ensures.centred.0, g.S.Params.degree_least)
+    length_least _ _ _ _ c.as_slice.ensures.list c.as_slice.ensures.centred.0 g.S.Params.degree_least
 
 pub candidate_3f-requires-clause-few : goal.candidate_3f-requires-clause-few
 candidate_3f-requires-clause-few g c =
-    omega (arith, ap length c.as_slice.ensures.list, c.as_slice.ensures.centred.0, g.S.Params.degree_most)
+    length_most _ _ _ _ c.as_slice.ensures.list c.as_slice.ensures.centred.0 g.S.Params.degree_most
 
 pub candidate_3f-requires-clause-modulus_least : goal.candidate_3f-requires-clause-modulus_least
 candidate_3f-requires-clause-modulus_least g c =
@@ -15,10 +16,4 @@ candidate_3f-requires-clause-modulus_least g c =
 
 pub from_coefficients-requires : goal.from_coefficients-requires
 from_coefficients-requires g c =
-    omega (
-      arith,
-      ap length c.deref.ensures.value,
-      c.in_ok-numbers.ensures,
-      ap length c.as_slice.ensures.list,
-      c.as_slice.ensures.centred.0,
-    )
+    c.deref.ensures.len ∙ c.in_ok-numbers.ensures ∙ ap length c.as_slice.ensures.list ∙ c.as_slice.ensures.centred.0
