@@ -1,5 +1,5 @@
 -- Which answers of clap tell that it takes the words.
-use Rattle.std.proofs.Common.{◌≡◌, ℕ, Bool, true, false, refl, inl, inr, List, [], ◌∷◌, Result, Ok, Err, IfOk}
+use Rattle.std.proofs.Common.{◌≡◌, ℕ, Bool, true, false, refl, inl, inr, List, [], ◌∷◌, Err}
 use Rattle.std.specs.Prelude.{◌&&◌, not}
 use Rattle.clap.specs.Faults.{fault_of, is_free_app, is_simple_and_free}
 use Rattle.clap.specs.Kinds.{HasKind, IsAmong, Kinds}
@@ -34,7 +34,3 @@ module _ (app : App) (words : List (List ℕ)) where
     | inl out ↦ absurd (memory out)
     | inr among ↦ some_fault (fault_of app words) (kind_of e) among
   ]
-
-pub if_ok : {X E : Type 0} (r : Result X E) (P Q : X → Type 0) → ((x : X) → P x → Q x) → IfOk r P → IfOk r Q
-if_ok (Ok x) P Q each p = each x p
-if_ok (Err e) P Q each p = tt

@@ -1,21 +1,16 @@
 -- Parts of the texts, as loops make them.
-use Rattle.std.proofs.Common.{◌≡◌, ℕ, suc, zero, ◌+◌, ◌*◌, ◌-◌, ◌%◌, ◌<◌, ◌==◌, min, Bool, true, false, cond, List, [], ◌∷◌, ◌++◌, length, take, drop, refl, sym, ap, ◌∙◌, append_assoc, append-nil, add-one, inl, inr, arith, if◌then◌else◌}
+use Rattle.std.proofs.Common.{◌≡◌, ℕ, ◌+◌, ◌*◌, ◌-◌, ◌%◌, ◌<◌, ◌==◌, min, Bool, true, false, cond, List, [], ◌∷◌, ◌++◌, length, take, drop, refl, sym, ap, ◌∙◌, append_assoc, append-nil, add-one, inl, inr, arith, if◌then◌else◌}
 use Rattle.std.specs.List.{flat_map, range_with_len, filter}
 use Rattle.std.specs.Fork.{slice_chunk}
 use Rattle.std.proofs.lemmas.List.{take_all, length-drop}
 use Rattle.std.proofs.lemmas.Grind.{flat_map-append}
 use Rattle.std.proofs.lemmas.Bool.{cases_lt}
+use Rattle.request_frames.proofs.AddedContexts.{range_more}
 use Rattle.demo_texts.specs.Texts.{seal_line, share_of, sealing_lane, sealing_lanes, opening_line, opening_lines, opening_size}
 
-range_snoc : (a n : ℕ) → range_with_len a (suc n) ≡ range_with_len a n ++ (a + n) ∷ []
-range_snoc a zero = ap (λ (k : ℕ). k ∷ []) (let e : a ≡ a + 0 = omega arith in e)
-range_snoc a (suc n) =
-    ap (λ (ks : List ℕ). a ∷ ks) (range_snoc (a + 1) n
-    ∙ ap (λ (k : ℕ). range_with_len (a + 1) n ++ k ∷ []) (let e : (a + 1) + n ≡ a + suc n = omega arith in e))
-
 -- one number more
-pub range_more : (n : ℕ) → range_with_len 0 (n + 1) ≡ range_with_len 0 n ++ n ∷ []
-range_more n = rw add-one (range_snoc 0 n ∙ ap (λ (k : ℕ). range_with_len 0 n ++ k ∷ []) (let e : 0 + n ≡ n = omega arith in e))
+pub numbers_more : (n : ℕ) → range_with_len 0 (n + 1) ≡ range_with_len 0 n ++ n ∷ []
+numbers_more n = rw add-one (range_more 0 n ∙ ap (λ (k : ℕ). range_with_len 0 n ++ k ∷ []) (let e : 0 + n ≡ n = omega arith in e))
 
 filter_last : (test : ℕ → Bool) (xs : List ℕ) (x : ℕ) → filter test (xs ++ x ∷ []) ≡ filter test xs ++ cond (test x) (x ∷ []) []
 filter_last test [] x = refl
@@ -35,7 +30,7 @@ pub share_more : (j lanes lane : ℕ) → flat_map (λ (j : ℕ). seal_line) (sh
     ≡ flat_map (λ (j : ℕ). seal_line) (share_of j lanes lane) ++ (if j % lanes == lane then seal_line else [])
 share_more j lanes lane =
     let test : ℕ → Bool = λ k. k % lanes == lane in
-    ap (λ (ks : List ℕ). flat_map (λ (j : ℕ). seal_line) (filter test ks)) (range_more j)
+    ap (λ (ks : List ℕ). flat_map (λ (j : ℕ). seal_line) (filter test ks)) (numbers_more j)
     ∙ ap (flat_map (λ (j : ℕ). seal_line)) (filter_last test (range_with_len 0 j) j)
     ∙ flat_map-append (λ (j : ℕ). seal_line) (filter test (range_with_len 0 j)) (cond (test j) (j ∷ []) [])
     ∙ ap (λ (text : List ℕ). flat_map (λ (j : ℕ). seal_line) (filter test (range_with_len 0 j)) ++ text) (seals_last (test j) j)
@@ -47,14 +42,14 @@ pub lanes_more : (messages lanes n : ℕ) → sealing_lanes messages lanes (n + 
     ≡ sealing_lanes messages lanes n ++ sealing_lane messages lanes n
 lanes_more messages lanes n =
     let f : ℕ → List ℕ = sealing_lane messages lanes in
-    ap (flat_map f) (range_more n) ∙ flat_map-append f (range_with_len 0 n) (n ∷ [])
+    ap (flat_map f) (numbers_more n) ∙ flat_map-append f (range_with_len 0 n) (n ∷ [])
     ∙ ap (λ (text : List ℕ). flat_map f (range_with_len 0 n) ++ text) (last_part f n)
 
 pub lines_more : (cts : List (List ℕ)) (n : ℕ) → opening_lines cts (n + 1)
     ≡ opening_lines cts n ++ opening_line (slice_chunk cts opening_size n)
 lines_more cts n =
     let f : ℕ → List ℕ = λ n. opening_line (slice_chunk cts opening_size n) in
-    ap (flat_map f) (range_more n) ∙ flat_map-append f (range_with_len 0 n) (n ∷ [])
+    ap (flat_map f) (numbers_more n) ∙ flat_map-append f (range_with_len 0 n) (n ∷ [])
     ∙ ap (λ (text : List ℕ). flat_map f (range_with_len 0 n) ++ text) (last_part f n)
 
 -- what stood there, and a part more

@@ -20,7 +20,7 @@ use Rattle.demo_texts.proofs.Steps.{reads_on, spelled}
 use Rattle.demo_texts.proofs.FrontLines.{reads_front}
 use Rattle.demo_texts.proofs.SealLines.{Sealed, some_lanes, reads_lane, with_one_lane, lanes_begin, lanes_are}
 use Rattle.demo_texts.proofs.OpenLines.{Opening, AreParts, all_of, some_lines, opening_begun, open_all}
-use Rattle.demo_texts.proofs.Parts.{range_more}
+use Rattle.demo_texts.proofs.Parts.{numbers_more}
 use Rattle.demo_texts.proofs.Sizes.{length-lanes, length-front, within_input, length-line}
 
 -- ---- the front
@@ -88,7 +88,7 @@ module _ (cts : List (List ℕ)) where
       let more : suc n ≡ n + 1 = omega arith in
       let next : n * 256 + 256 ≡ suc n * 256 = omega arith in
       ap (λ (k : ℕ). flat_map part_of (range_with_len 0 k)) more
-      ∙ ap (flat_map part_of) (range_more n)
+      ∙ ap (flat_map part_of) (numbers_more n)
       ∙ flat_map-append part_of (range_with_len 0 n) (n ∷ [])
       ∙ ap (λ (rest : List (List ℕ)). flat_map part_of (range_with_len 0 n) ++ rest) (append-nil (part_of n))
       ∙ ap (λ (front : List (List ℕ)). front ++ part_of n) (parts_join n)

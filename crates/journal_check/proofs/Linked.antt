@@ -1,5 +1,5 @@
 -- Where a lane goes on in a journal.
-use Rattle.std.proofs.Common.{◌≡◌, ◌≢◌, ℕ, zero, suc, ◌+◌, ◌<◌, ◌≤◌, ◌==◌, cond, List, [], ◌∷◌, length, drop, get_or, slice_set, Some, None, refl, sym, ap, ◌∙◌, subst, inl, inr, ne_eqb, arith}
+use Rattle.std.proofs.Common.{◌≡◌, ◌≢◌, ℕ, zero, suc, ◌+◌, ◌<◌, ◌≤◌, ◌==◌, cond, List, [], ◌∷◌, length, drop, get_or, slice_set, Some, None, sym, ap, ◌∙◌, subst, inl, inr, ne_eqb, arith}
 use Rattle.std.specs.Prelude.{slice_get}
 use Rattle.std.proofs.lemmas.Bool.{cases_eq}
 use Rattle.std.proofs.lemmas.Option.{get_or_from_slice_get, slice_get_within}
@@ -9,19 +9,13 @@ use Rattle.legal_journals.specs.Histories.{places}
 use Rattle.legal_journals.proofs.Members.{got}
 use Rattle.told_journals.proofs.Walks.{drop_next}
 use Rattle.journal_check.specs.Links.{GoesOnAt, AreFirsts, IsNext}
+use Rattle.told_journals.proofs.Putting.{get_set_other}
 
 get_set_here : {A : Type 0} (xs : List A) (i : ℕ) (v x : A) → slice_get (slice_set xs i v) i ≡ Some x → x ≡ v
 get_set_here [] zero v x is = absurd (let none : None ≡ Some x = is in cc)
 get_set_here [] (suc i) v x is = absurd (let none : None ≡ Some x = is in cc)
 get_set_here (y ∷ xs) zero v x is = let one : Some v ≡ Some x = is in cc
 get_set_here (y ∷ xs) (suc i) v x is = get_set_here xs i v x is
-
-get_set_other : {A : Type 0} (xs : List A) (i k : ℕ) (v : A) → k ≢ i → slice_get (slice_set xs i v) k ≡ slice_get xs k
-get_set_other [] i k v ne = refl
-get_set_other (x ∷ xs) zero zero v ne = absurd (ne refl)
-get_set_other (x ∷ xs) zero (suc k) v ne = refl
-get_set_other (x ∷ xs) (suc i) zero v ne = refl
-get_set_other (x ∷ xs) (suc i) (suc k) v ne = get_set_other xs i k v (λ e. ne (ap suc e))
 
 -- one index more at which a lane goes on
 pub next_more : (marks : List Mark) (nexts : List ℕ) (i next : ℕ) → IsNext marks i next

@@ -1,6 +1,6 @@
 -- What follows where no journal is broken.
-use Rattle.std.proofs.Common.{◌≡◌, ℕ, ◌<◌, Bool, List, [], ◌∷◌, length, map, Option, Some, None, Result, Ok, Err, sym, ap, ◌∙◌, subst, inl, inr, arith}
-use Rattle.std.specs.Prelude.{slice_index_or, IfOk}
+use Rattle.std.proofs.Common.{◌≡◌, ℕ, ◌<◌, Bool, List, [], ◌∷◌, length, map, Option, Some, None, sym, ap, ◌∙◌, subst, inl, inr, arith}
+use Rattle.std.specs.Prelude.{slice_index_or}
 use Rattle.std.specs.List.{All}
 use Rattle.std.proofs.lemmas.Bool.{cases_lt}
 use Rattle.std.proofs.lemmas.List.{get_or_past, length-map}
@@ -107,10 +107,6 @@ module _ (run : Run) (runs : List JournalRun) (are : AreRuns run.plan run.contex
 -- ---- the verdict
 
 -- what follows where a call succeeded
-pub if_ok_map : {T E : Type 0} (r : Result T E) (P Q : T → Type 0) → ((x : T) → P x → Q x) → IfOk r P → IfOk r Q
-if_ok_map (Ok x) P Q f p = f x p
-if_ok_map (Err e) P Q f p = tt
-
 -- what the journals and their stamps leave to later parts
 module _ (plan : Plan) (contexts : List (Option ContextView)) (told : ToldView) (found : List (List Mark)) (same : found ≡ told.journals) (wrong : Option Verdict)
     (judged : (later : Verdict) → by_journal (broken_journal (has_stamps plan.version) (batch_of plan contexts) 0 found)

@@ -97,7 +97,7 @@ module _ (plan : Plan) (pool : List ℕ) (line : ContextLine) where
 -- ---- the names
 
 -- one number more
-range_more : (a n : ℕ) → range_with_len a (suc n) ≡ range_with_len a n ++ (a + n) ∷ []
+pub range_more : (a n : ℕ) → range_with_len a (suc n) ≡ range_with_len a n ++ (a + n) ∷ []
 range_more a zero = ap (λ (b : ℕ). b ∷ []) (let same : a ≡ a + 0 = omega arith in same)
 range_more a (suc n) =
     let same : (a + 1) + n ≡ a + suc n = omega arith in

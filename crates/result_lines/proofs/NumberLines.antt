@@ -11,6 +11,7 @@ use Rattle.std.proofs.lemmas.List.Splits.{slice_split_at, slice_split_none}
 use Rattle.std.proofs.lemmas.List.Elements.{All-cons, All-nil, All-append}
 use Rattle.std.proofs.lemmas.Slice.Eq.{bytes_eq-Decides}
 use Rattle.std.proofs.lemmas.Str.Parse.{numerals_by_value, tells_digits, digit_from_value}
+use Rattle.field_text.proofs.SpelledLines.{no_piece}
 use Rattle.call_places.specs.declared.entries.Mark.{Mark}
 use Rattle.decimal_text.specs.Decimals.{is_decimal, is_from_to}
 use Rattle.field_text.specs.declared.reasons.Reason.{Reason}
@@ -103,10 +104,6 @@ next_back field piece more value then is = ap (λ (r : Result _ Reason). fields.
 pieces_are : {text piece : List ℕ} {pieces rest more : List (List ℕ)} → pieces ≡ piece ∷ rest → text ≡ piece → more ≡ rest → pieces ≡ text ∷ more
 pieces_are cut same rest = cut ∙ (λ i. sym same i ∷ sym rest i)
 
-nothing_more : (pieces : List (List ℕ)) → length pieces ≡ 0 → pieces ≡ []
-nothing_more [] none = refl
-nothing_more (piece ∷ more) none = absurd (omega arith)
-
 small_field : 65535 < 2 ^ 64
 small_field = omega arith
 
@@ -146,7 +143,7 @@ guess_read line g e =
     (λ a guess p1 c1 r1 e1.
     next_ok (number 0 most_opening) p1 _ g _
     (λ b missed p2 c2 r2 e2.
-    let none : p2 ≡ [] = nothing_more p2 (omega (arith, counted.0, ap length first, ap length c1, ap length c2)) in
+    let none : p2 ≡ [] = no_piece p2 (omega (arith, counted.0, ap length first, ap length c1, ap length c2)) in
     let guess_is = (number_ok 0 18446744073709551615 a guess (omega arith) r1).spelled in
     let missed_is = (number_ok 0 most_opening b missed (omega arith) r2).spelled in
     let pieces : pieces_of line ≡ codes "batch" ∷ decimal guess ∷ decimal missed ∷ [] =
@@ -239,7 +236,7 @@ mark_read false line m e =
     (λ b call p2 c2 r2 e2.
     next_ok (number 0 65535) p2 _ m _
     (λ c item p3 c3 r3 e3.
-    let none : p3 ≡ [] = nothing_more p3 (omega (arith, counted.0, ap length c1, ap length c2, ap length c3)) in
+    let none : p3 ≡ [] = no_piece p3 (omega (arith, counted.0, ap length c1, ap length c2, ap length c3)) in
     let pieces : pieces_of line ≡ decimal lane ∷ decimal call ∷ decimal item ∷ [] =
     pieces_are c1 (field_is a lane r1) (sym (pieces_are c2 (field_is b call r2) (sym (pieces_are c3 (field_is c item r3) (sym none))))) in
     ap with_feed (line_is line (decimal lane ∷ decimal call ∷ decimal item ∷ []) pieces)
@@ -255,7 +252,7 @@ mark_read true line m e =
     (λ c item p3 c3 r3 e3.
     next_ok (number 0 65535) p3 _ m _
     (λ d stamp p4 c4 r4 e4.
-    let none : p4 ≡ [] = nothing_more p4 (omega (arith, counted.0, ap length c1, ap length c2, ap length c3, ap length c4)) in
+    let none : p4 ≡ [] = no_piece p4 (omega (arith, counted.0, ap length c1, ap length c2, ap length c3, ap length c4)) in
     let pieces : pieces_of line ≡ decimal lane ∷ decimal call ∷ decimal item ∷ decimal stamp ∷ [] =
     pieces_are c1 (field_is a lane r1)
     (sym (pieces_are c2 (field_is b call r2) (sym (pieces_are c3 (field_is c item r3) (sym (pieces_are c4 (field_is d stamp r4) (sym none))))))) in

@@ -3,7 +3,7 @@ use Rattle.std.proofs.Common.{◌≡◌, ℕ, zero, suc, ◌/◌, ◌%◌, ◌==
 use Rattle.std.specs.Fmt.{digits, digits_onto, digit_glyph}
 use Rattle.std.specs.List.{list_all}
 use Rattle.std.specs.Prelude.{slice_index}
-use Rattle.std.proofs.lemmas.Bool.{agree_below_at, and_parts, cases_lt}
+use Rattle.std.proofs.lemmas.Bool.{agree_below_at, and_parts, cases_lt, not-true}
 use Rattle.std.proofs.lemmas.Bool.Decides.{nat_tests}
 use Rattle.std.proofs.lemmas.List.{get_or_past}
 use Rattle.std.proofs.lemmas.List.Elements.{All-cons, All-nil, All-append}
@@ -31,16 +31,12 @@ use Rattle.result_lines.proofs.FirstLines.{HasNoFeed}
 abbrev is_no_feed : ℕ → Bool
 is_no_feed byte = not (byte == 10)
 
-not_true : (b : Bool) → not b ≡ true → b ≡ false
-not_true true e = absurd cc
-not_true false e = refl
-
 -- a text that a test finds to have none
 pub tested : (text : List ℕ) → list_all is_no_feed text ≡ true → HasNoFeed text
 tested [] e = All-nil (λ byte. (byte == 10) ≡ false)
 tested (c ∷ cs) e =
     let parts = and_parts (is_no_feed c) (list_all is_no_feed cs) e in
-    All-cons (λ byte. (byte == 10) ≡ false) c cs (not_true (c == 10) parts.0) (tested cs parts.1)
+    All-cons (λ byte. (byte == 10) ≡ false) c cs (not-true (c == 10) parts.0) (tested cs parts.1)
 
 pub both : (xs ys : List ℕ) → HasNoFeed xs → HasNoFeed ys → HasNoFeed (xs ++ ys)
 both xs ys a b = All-append (λ byte. (byte == 10) ≡ false) xs ys a b

@@ -3,7 +3,7 @@ use Rattle.std.proofs.Common.{◌≡◌, ℕ, suc, ◌+◌, ◌≤◌, ◌<◌, 
 use Rattle.std.specs.Prelude.{sum_by, slice_get, slice_index_or, filter}
 use Rattle.std.specs.List.{All}
 use Rattle.std.specs.Option.{option_map}
-use Rattle.std.proofs.lemmas.Bool.{cases_lt}
+use Rattle.std.proofs.lemmas.Bool.{cases_lt, not-true}
 use Rattle.std.proofs.lemmas.List.{get_or_past}
 use Rattle.std.proofs.lemmas.List.Elements.{All-head, All-tail}
 use Rattle.std.proofs.lemmas.List.Filters.{length-filter_both}
@@ -34,10 +34,6 @@ use Rattle.result_verdicts.proofs.Limited.{IsLine, lines_of_limits, line_of_limi
 use Rattle.result_verdicts.proofs.RunTexts.{length-block}
 
 -- ---- elements, counted lane by lane
-
-not_true : (b : Bool) → not b ≡ true → b ≡ false
-not_true true e = absurd cc
-not_true false e = refl
 
 is_equal : (a b : ℕ) → a ≡ b → (a == b) ≡ true
 is_equal a b same = eq-eqb a b same
@@ -93,7 +89,7 @@ counted {X} of size (y ∷ lanes) k xs within few =
     let w = within x f.0 in
     let low = w.0 in
     let high = w.1 in
-    let other : (of x == k) ≡ false = not_true (of x == k) f.1 in
+    let other : (of x == k) ≡ false = not-true (of x == k) f.1 in
     let apart : of x ≡ k → ⊥ = (λ same. absurd (let clash : true ≡ false = sym (is_equal (of x) k same) ∙ other in cc)) in
     (next_up k (of x) low apart, omega arith))
     (λ i z at.

@@ -1,6 +1,6 @@
 -- Piles, by the number of a context or of a lane, and what lies on them.
 use Rattle.std.proofs.Common.{◌≡◌, ◌≢◌, ℕ, zero, suc, ◌+◌, ◌<◌, ◌≤◌, ◌==◌, ◌&&◌, ◌||◌, Bool, true, false, cond, List, [], ◌∷◌, ◌++◌, length, map, drop, get_or, refl, sym, ap, ◌∙◌, subst, inl, inr, eq-eqb, eqb-true, append_assoc, append-nil, arith}
-use Rattle.std.specs.Prelude.{slice_index_or, replicate, nat_lt, not, Option, Some, Result, Ok, Err, IfOk}
+use Rattle.std.specs.Prelude.{slice_index_or, replicate, nat_lt, not, Option, Some}
 use Rattle.std.specs.List.{list_all, flat_map, range_with_len}
 use Rattle.std.proofs.lemmas.List.{length-set, length-map, length-replicate, get_or-replicate, get_or-set_same, get_or-set_other, get_or_default, drop_all}
 use Rattle.std.proofs.lemmas.List.Folds.{flat_map-map}
@@ -342,10 +342,6 @@ pub pile_is : {X : Type 0} (piles : List (List X)) (i : ℕ) (d pile all : List 
 pile_is piles i d pile all lt here is = here ∙ get_or_default piles i d [] lt ∙ is
 
 -- ---- what calls leave, where they succeeded
-
-pub if_ok_map : {T E : Type 0} (r : Result T E) (P Q : T → Type 0) → ((x : T) → P x → Q x) → IfOk r P → IfOk r Q
-if_ok_map (Ok x) P Q f p = f x p
-if_ok_map (Err e) P Q f p = tt
 
 -- lists of lanes that were made one after another
 pub lanes_end : (plan : Plan) (contexts : List (Option ContextView)) (lists : List (List Spot)) (i : ℕ) → IsWithinLimits plan → length plan.lanes ≤ i

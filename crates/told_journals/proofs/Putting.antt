@@ -18,7 +18,7 @@ get_set_here [] i v lt = absurd (omega arith)
 get_set_here (x ∷ xs) zero v lt = refl
 get_set_here (x ∷ xs) (suc i) v lt = get_set_here xs i v (omega arith)
 
-get_set_other : {A : Type 0} (xs : List A) (i k : ℕ) (v : A) → k ≢ i → slice_get (slice_set xs i v) k ≡ slice_get xs k
+pub get_set_other : {A : Type 0} (xs : List A) (i k : ℕ) (v : A) → k ≢ i → slice_get (slice_set xs i v) k ≡ slice_get xs k
 get_set_other [] i k v ne = refl
 get_set_other (x ∷ xs) zero zero v ne = absurd (ne refl)
 get_set_other (x ∷ xs) zero (suc k) v ne = refl

@@ -2,11 +2,11 @@ use Rattle.std.proofs.Common.{◌≡◌, ◌<◌, ◌^◌, Option, None, Some, a
 use Rattle.std.specs.Prelude.{IfNone, IfSome}
 use Rattle.std.specs.String.{string_bytes}
 use Rattle.std.proofs.lemmas.List.{length-map}
+use Rattle.std.proofs.lemmas.Result.{IfOk-weaker}
 use Rattle.clap.specs.Walk.{texts}
 use Rattle.clap.specs.declared.parser.matches.ArgMatches.{ArgMatches}
 use Rattle.batch_words.specs.Parses.{IsParse, are_operands, has_each, operand_app, word_under}
 use Rattle.batch_words.proofs.OperandReads.{operands-refused, operands-words}
-use Rattle.batch_words.proofs.Parses.{if_ok}
 use Rattle.batch_words.proofs.Rules.{operands_free}
 use Rattle.batch_words.proofs.parsing.parse_operands.Goals as goal
 
@@ -28,7 +28,7 @@ returns-clause-none c =
       | None ↦ λ parse. operands-refused names c.requires.distinct (few c) words parse
       | Some m ↦ λ parse. tt
     ] in
-    if_ok _ _ _ each c.parse.ensures
+    IfOk-weaker _ _ _ each c.parse.ensures
 
 pub returns-clause-words : goal.returns-clause-words
 returns-clause-words c =
@@ -39,7 +39,7 @@ returns-clause-words c =
       | None ↦ λ parse. tt
       | Some m ↦ λ parse. (operands-words names c.requires.distinct (few c) words m parse).0
     ] in
-    if_ok _ _ _ each c.parse.ensures
+    IfOk-weaker _ _ _ each c.parse.ensures
 
 pub returns-clause-each : goal.returns-clause-each
 returns-clause-each c =
@@ -50,4 +50,4 @@ returns-clause-each c =
       | None ↦ λ parse. tt
       | Some m ↦ λ parse. (operands-words names c.requires.distinct (few c) words m parse).1
     ] in
-    if_ok _ _ _ each c.parse.ensures
+    IfOk-weaker _ _ _ each c.parse.ensures

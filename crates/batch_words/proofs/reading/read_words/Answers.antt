@@ -1,9 +1,9 @@
 use Rattle.std.proofs.Common.{◌≡◌, ◌∙◌, ◌-◌, ◌≤◌, ℕ, Global, List, [], ◌∷◌, Result, IfOk, Option, String, ap, arith, codes, drop, get_or, length, map, rules, subst, sym, take}
 use Rattle.std.specs.String.{string_bytes}
 use Rattle.std.proofs.lemmas.List.{take_all}
+use Rattle.std.proofs.lemmas.Result.{IfOk-weaker}
 use Rattle.batch_words.specs.Words.{command_of}
 use Rattle.batch_words.specs.declared.commands.Command.{Command}
-use Rattle.batch_words.proofs.Parses.{if_ok}
 use Rattle.batch_words.proofs.Within.{capsules_read, check_read, demo_read, live_read, rehearse_read, run_read}
 use Rattle.batch_words.proofs.reading.read_words.Goals as goal
 
@@ -33,39 +33,39 @@ returns-in-run-clause-command c =
     at_name _ _ (codes "run") _ c.in-len1-up.len_at_least c.first-item.is (sym c.as_str.ensures.value ∙ c.in-run.is) (search rules)
 
 pub returns-in-run-clause-within : goal.returns-in-run-clause-within
-returns-in-run-clause-within c = if_ok c.read_run.result _ _ (run_read (rest_of c.args.words.now)) c.read_run.ensures
+returns-in-run-clause-within c = IfOk-weaker c.read_run.result _ _ (run_read (rest_of c.args.words.now)) c.read_run.ensures
 
 pub returns-in-live-clause-command : goal.returns-in-live-clause-command
 returns-in-live-clause-command c =
     at_name _ _ (codes "live") _ c.in-len1-up.len_at_least c.first-item.is (sym c.as_str.ensures.value ∙ c.in-live.is) (search rules)
 
 pub returns-in-live-clause-within : goal.returns-in-live-clause-within
-returns-in-live-clause-within c = if_ok c.read_live.result _ _ (live_read (rest_of c.args.words.now)) c.read_live.ensures
+returns-in-live-clause-within c = IfOk-weaker c.read_live.result _ _ (live_read (rest_of c.args.words.now)) c.read_live.ensures
 
 pub returns-in-rehearse-clause-command : goal.returns-in-rehearse-clause-command
 returns-in-rehearse-clause-command c =
     at_name _ _ (codes "rehearse") _ c.in-len1-up.len_at_least c.first-item.is (sym c.as_str.ensures.value ∙ c.in-rehearse.is) (search rules)
 
 pub returns-in-rehearse-clause-within : goal.returns-in-rehearse-clause-within
-returns-in-rehearse-clause-within c = if_ok c.read_rehearse.result _ _ (rehearse_read (rest_of c.args.words.now)) c.read_rehearse.ensures
+returns-in-rehearse-clause-within c = IfOk-weaker c.read_rehearse.result _ _ (rehearse_read (rest_of c.args.words.now)) c.read_rehearse.ensures
 
 pub returns-in-demo-clause-command : goal.returns-in-demo-clause-command
 returns-in-demo-clause-command c =
     at_name _ _ (codes "demo") _ c.in-len1-up.len_at_least c.first-item.is (sym c.as_str.ensures.value ∙ c.in-demo.is) (search rules)
 
 pub returns-in-demo-clause-within : goal.returns-in-demo-clause-within
-returns-in-demo-clause-within c = if_ok c.read_demo.result _ _ (demo_read (rest_of c.args.words.now)) c.read_demo.ensures
+returns-in-demo-clause-within c = IfOk-weaker c.read_demo.result _ _ (demo_read (rest_of c.args.words.now)) c.read_demo.ensures
 
 pub returns-in-check-clause-command : goal.returns-in-check-clause-command
 returns-in-check-clause-command c =
     at_name _ _ (codes "check") _ c.in-len1-up.len_at_least c.first-item.is (sym c.as_str.ensures.value ∙ c.in-check.is) (search rules)
 
 pub returns-in-check-clause-within : goal.returns-in-check-clause-within
-returns-in-check-clause-within c = if_ok c.read_check.result _ _ (check_read (rest_of c.args.words.now)) c.read_check.ensures
+returns-in-check-clause-within c = IfOk-weaker c.read_check.result _ _ (check_read (rest_of c.args.words.now)) c.read_check.ensures
 
 pub returns-in-capsules-clause-command : goal.returns-in-capsules-clause-command
 returns-in-capsules-clause-command c =
     at_name _ _ (codes "capsules") _ c.in-len1-up.len_at_least c.first-item.is (sym c.as_str.ensures.value ∙ c.in-capsules.is) (search rules)
 
 pub returns-in-capsules-clause-within : goal.returns-in-capsules-clause-within
-returns-in-capsules-clause-within c = if_ok c.read_capsules.result _ _ (capsules_read (rest_of c.args.words.now)) c.read_capsules.ensures
+returns-in-capsules-clause-within c = IfOk-weaker c.read_capsules.result _ _ (capsules_read (rest_of c.args.words.now)) c.read_capsules.ensures

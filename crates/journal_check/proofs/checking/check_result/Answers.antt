@@ -1,4 +1,5 @@
 use Rattle.std.proofs.Common.{◌≡◌, ◌↔◌, length, List, Option, sym, ap, ◌∙◌, subst, arith}
+use Rattle.std.proofs.lemmas.Result.{IfOk-weaker}
 use Rattle.hpke_context.specs.Contexts.{ContextView}
 use Rattle.context_table.specs.ReplyTo.{IsReply}
 use Rattle.result_verdicts.specs.declared.verdicts.Verdict.{Verdict}
@@ -6,7 +7,6 @@ use Rattle.result_verdicts.specs.declared.verdicts.Verdict.TheVariants.{Legal, F
 use Rattle.result_verdicts.specs.Verdicts.{by_form, verdict_on}
 use Rattle.journal_check.specs.Verdicts.{IsVerdict}
 use Rattle.journal_check.proofs.LegalVerdicts.{legal_iff_reply}
-use Rattle.journal_check.proofs.SoundRuns.{if_ok_map}
 use Rattle.journal_check.proofs.ToldSizes.{read_as, read_wrong, has_of}
 use Rattle.journal_check.proofs.checking.check_result.Goals as goal
 
@@ -40,7 +40,7 @@ returns-in-Ok-clause-verdict g c =
     let setup = c.in_ok-setup.setup in
     let is = read_as plan setup.keys c.as_slice-keys.result.now setup.contexts c.as_slice-replies.result.now setup.standing c.deref.result.now text c.in-Ok.told
     c.as_slice-keys.ensures.items c.as_slice-replies.ensures.items (c.deref.ensures.value ∙ c.into_vec-contexts.ensures.items) c.in-Ok.ensures in
-    if_ok_map c.verdict_on.result _ (IsVerdict plan text)
+    IfOk-weaker c.verdict_on.result _ (IsVerdict plan text)
     (λ verdict judged. record {
       keys = setup.keys;
       contexts = setup.contexts;
@@ -59,7 +59,7 @@ returns-in-Ok-clause-legal g c =
     let setup = c.in_ok-setup.setup in
     let is = read_as plan setup.keys c.as_slice-keys.result.now setup.contexts c.as_slice-replies.result.now setup.standing c.deref.result.now text c.in-Ok.told
     c.as_slice-keys.ensures.items c.as_slice-replies.ensures.items (c.deref.ensures.value ∙ c.into_vec-contexts.ensures.items) c.in-Ok.ensures in
-    if_ok_map c.verdict_on.result _ (λ (verdict : Verdict). (verdict ≡ Legal) ↔ IsReply plan text)
+    IfOk-weaker c.verdict_on.result _ (λ (verdict : Verdict). (verdict ≡ Legal) ↔ IsReply plan text)
     (λ verdict judged. legal_iff_reply plan text verdict c.requires.within (record {
       keys = setup.keys;
       contexts = setup.contexts;

@@ -1,4 +1,5 @@
 use Rattle.std.proofs.Common.{◌≡◌, List, None, refl, subst, sym, Option}
+use Rattle.std.proofs.lemmas.Result.{IfOk-weaker}
 use Rattle.call_places.specs.declared.entries.Mark.{Mark}
 use Rattle.hpke_context.specs.Contexts.{ContextView}
 use Rattle.reply_texts.specs.ReplyText.{has_stamps}
@@ -8,7 +9,7 @@ use Rattle.journal_check.specs.Passing.{AreNumbersOf, HaveNumbers}
 use Rattle.journal_check.specs.Runs.{AreRuns, AreFor}
 use Rattle.result_verdicts.specs.Verdicts.{run_told}
 use Rattle.journal_check.specs.Walks.{AreRepliesOf, AreLong, HaveLanes}
-use Rattle.journal_check.proofs.SoundRuns.{have_lanes, legal_at, are_for, are_replies, are_numbers, are_long, have_numbers, if_ok_map, found_early, found_late}
+use Rattle.journal_check.proofs.SoundRuns.{have_lanes, legal_at, are_for, are_replies, are_numbers, are_long, have_numbers, found_early, found_late}
 use Rattle.journal_check.proofs.checking.verdict_on.Goals as goal
 
 pub returns-in-Some : goal.returns-in-Some
@@ -72,7 +73,7 @@ returns-in_ok-runs-in-None g c =
     let runs = c.in_ok-runs-in-None.runs.items in
     let are = subst (λ (js : List (List Mark)). AreRuns plan contexts js runs) c.journals-in-None.ensures c.in_ok-runs-in-None.ensures.runs in
     let legal = legal_at plan contexts told.journals stamps c.requires.within none c.requires.contexts_size in
-    if_ok_map c.wrong_line.result _ _
+    IfOk-weaker c.wrong_line.result _ _
     (λ verdict judged.
     found_late plan contexts told c.journals.result.now c.journals.ensures c.in_ok-wrong.field-0 c.in_ok-wrong.ensures.verdict verdict c.in-None.is
     (judged run refl (sym c.in_ok-runs-in-None.ensures.kept) refl

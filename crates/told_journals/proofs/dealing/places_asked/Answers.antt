@@ -1,17 +1,18 @@
 use Rattle.std.proofs.Common.{◌≡◌, ◌<◌, ℕ, List, [], length, ap, ◌∙◌}
 use Rattle.std.specs.Prelude.{slice_index_or, replicate}
 use Rattle.std.proofs.lemmas.List.{length-replicate}
+use Rattle.std.proofs.lemmas.Result.{IfOk-weaker}
 use Rattle.call_places.specs.declared.entries.Place.{Place}
 use Rattle.legal_journals.specs.Batches.{Spot}
 use Rattle.due_replies.specs.Asks.{batch_of}
 use Rattle.told_journals.specs.Piles.{by_context, joined, asked_on}
-use Rattle.told_journals.proofs.Dealt.{if_ok_map, length_by_context, asked_lie}
+use Rattle.told_journals.proofs.Dealt.{length_by_context, asked_lie}
 use Rattle.told_journals.proofs.dealing.places_asked.Goals as goal
 
 pub returns-clause-size : goal.returns-clause-size
 returns-clause-size c =
     let n = c.args.count in
-    if_ok_map c.on_contexts.result _ (λ piles. length piles.items ≡ n)
+    IfOk-weaker c.on_contexts.result _ (λ piles. length piles.items ≡ n)
     (λ piles is. ap length is ∙ length_by_context (replicate n []) (joined c.deref.result.now) ∙ length-replicate n [])
     c.on_contexts.ensures
 
@@ -20,7 +21,7 @@ returns-clause-each c =
     let batch = batch_of c.args.plan.now c.args.contexts.now in
     let n = c.args.count in
     let lists = c.deref.ensures.value ∙ c.in_ok-lists.ensures in
-    if_ok_map c.on_contexts.result _ (λ piles. (k : ℕ) → k < n → slice_index_or piles.items k [] ≡ asked_on batch k)
+    IfOk-weaker c.on_contexts.result _ (λ piles. (k : ℕ) → k < n → slice_index_or piles.items k [] ≡ asked_on batch k)
     (λ piles is k lt.
     ap (λ (ps : List (List Place)). slice_index_or ps k []) (is ∙ ap (λ (ls : List (List Spot)). by_context (replicate n []) (joined ls)) lists)
     ∙ asked_lie batch n k lt)
