@@ -1,13 +1,14 @@
 -- How large the sums are.
-use Rattle.std.proofs.Common.{◌≡◌, ℕ, zero, suc, ◌+◌, ◌*◌, ◌^◌, ◌<◌, ◌≤◌, ℤ, pos, List, length, take, drop, arith, ap, ◌∙◌, inl, inr}
+use Rattle.std.proofs.Common.{◌≡◌, ℕ, zero, suc, ◌+◌, ◌-◌, ◌*◌, ◌/◌, ◌^◌, ◌<◌, ◌≤◌, ℤ, pos, List, length, take, drop, arith, ap, ◌∙◌, inl, inr}
 use Rattle.std.specs.Prelude.{◌*ℤ◌, unsigned_abs}
 use Rattle.std.proofs.lemmas.Int.{ints, unsigned_abs-mul}
 use Rattle.std.proofs.lemmas.Bool.{cases_lt}
 use Rattle.std.proofs.lemmas.Nat.{mul-le}
 use Rattle.std.proofs.Math.Nat.{mul_assoc}
-use Rattle.std.proofs.lemmas.List.{get_or_past, get_or-drop, get_or-take, length-take-le}
-use Rattle.ring_core.specs.Product.{Series, coefficients, conv}
+use Rattle.std.proofs.lemmas.List.{get_or_past, get_or-drop, get_or-take, length-drop, length-take-le}
+use Rattle.ring_core.specs.Product.{Series, coefficients, conv, IsCentred}
 use Rattle.ring_core.specs.Bounds.{IsWithin}
+use Rattle.ring_core.proofs.ElementLaws.{IsCentred-small, IsCentred-within, length_same, length_most}
 use Rattle.ring_core.proofs.QuotientLaws.{below, below_low, below_high, shifted, conv_zero, zero_left, EndsAt, EndsAt-below}
 use Rattle.ring_karatsuba.specs.Sums.{term, Fits, Adds, AreParts, IsConvolution, IsFolded}
 
@@ -98,11 +99,19 @@ IsWithin-drop bound h xs w n = omega (arith, ap unsigned_abs (get_or-drop h xs n
 IsWithin-folded : (bound : ℕ) (folded low high : List ℤ) → IsWithin bound low → IsWithin bound high → IsFolded folded low high → IsWithin (2 * bound) folded
 IsWithin-folded bound folded low high wl wh is n = omega (arith, ints, is n, wl n, wh n)
 
+-- where a list is split
+abbrev pub half : List ℤ → ℕ
+half xs = length xs - length xs / 2
+
 -- a list and its halves
 pub record Halves (xs low high : List ℤ) (h : ℕ) : Type 0 where
   pub front : low ≡ take h xs
   pub back : high ≡ drop h xs
   pub fit : h ≤ length xs
+
+-- a list as long as `long`
+pub halves : (xs long low high : List ℤ) → length xs ≡ length long → low ≡ take (half long) xs → high ≡ drop (half long) xs → Halves xs low high (half long)
+halves xs long low high e front back = record { front = front; back = back; fit = omega (arith, e) }
 
 IsWithin-low : (bound h : ℕ) (xs low high : List ℤ) → Halves xs low high h → IsWithin bound xs → IsWithin bound low
 IsWithin-low bound h xs low high e w = rw e.front (IsWithin-take bound h xs e.fit w)
@@ -110,33 +119,39 @@ IsWithin-low bound h xs low high e w = rw e.front (IsWithin-take bound h xs e.fi
 IsWithin-high : (bound h : ℕ) (xs low high : List ℤ) → Halves xs low high h → IsWithin bound xs → IsWithin bound high
 IsWithin-high bound h xs low high e w = rw e.back (IsWithin-drop bound h xs w)
 
-pub AreParts-low : (small long s0 s1 l0 l1 : List ℤ) (h : ℕ) → Halves small s0 s1 h → Halves long l0 l1 h → length l0 ≤ length long → AreParts small long → AreParts s0 l0
-AreParts-low small long s0 s1 l0 l1 h es el fit p = record {
-  parts = p.parts;
-  most = p.most;
-  count = omega (arith, p.count, mul-le (length l0) p.parts (length long) p.parts fit (omega arith));
-  small_bound = IsWithin-low p.parts h small s0 s1 es p.small_bound;
-  long_bound = IsWithin-low (4096 * p.parts) h long l0 l1 el p.long_bound;
-}
+-- the first halves, the second ones, and the sums of both
+pub AreParts-low : (small long s0 s1 l0 l1 : List ℤ) → Halves small s0 s1 (half long) → Halves long l0 l1 (half long) → AreParts small long → AreParts s0 l0
+AreParts-low small long s0 s1 l0 l1 es el p =
+    let fit : length l0 ≤ length long = omega (arith, ap length el.front, length-take-le (half long) long el.fit) in
+    record {
+      parts = p.parts;
+      most = p.most;
+      count = omega (arith, p.count, mul-le (length l0) p.parts (length long) p.parts fit (omega arith));
+      small_bound = IsWithin-low p.parts (half long) small s0 s1 es p.small_bound;
+      long_bound = IsWithin-low (4096 * p.parts) (half long) long l0 l1 el p.long_bound;
+    }
 
-pub AreParts-high : (small long s0 s1 l0 l1 : List ℤ) (h : ℕ) → Halves small s0 s1 h → Halves long l0 l1 h → length l1 ≤ length long → AreParts small long → AreParts s1 l1
-AreParts-high small long s0 s1 l0 l1 h es el fit p = record {
-  parts = p.parts;
-  most = p.most;
-  count = omega (arith, p.count, mul-le (length l1) p.parts (length long) p.parts fit (omega arith));
-  small_bound = IsWithin-high p.parts h small s0 s1 es p.small_bound;
-  long_bound = IsWithin-high (4096 * p.parts) h long l0 l1 el p.long_bound;
-}
+pub AreParts-high : (small long s0 s1 l0 l1 : List ℤ) → Halves small s0 s1 (half long) → Halves long l0 l1 (half long) → AreParts small long → AreParts s1 l1
+AreParts-high small long s0 s1 l0 l1 es el p =
+    let fit : length l1 ≤ length long = omega (arith, ap length el.back, length-drop (half long) long) in
+    record {
+      parts = p.parts;
+      most = p.most;
+      count = omega (arith, p.count, mul-le (length l1) p.parts (length long) p.parts fit (omega arith));
+      small_bound = IsWithin-high p.parts (half long) small s0 s1 es p.small_bound;
+      long_bound = IsWithin-high (4096 * p.parts) (half long) long l0 l1 el p.long_bound;
+    }
 
-pub AreParts-folded : (small long s0 s1 l0 l1 s l : List ℤ) (h : ℕ) → Halves small s0 s1 h → Halves long l0 l1 h → 32 < length long → 2 * h ≤ length long + 1 → length l ≡ h → AreParts small long → IsFolded s s0 s1 → IsFolded l l0 l1 → AreParts s l
-AreParts-folded small long s0 s1 l0 l1 s l h es el many twice count p fs fl =
+pub AreParts-folded : (small long s0 s1 l0 l1 s l : List ℤ) → Halves small s0 s1 (half long) → Halves long l0 l1 (half long) → 32 < length long → length l ≡ half long → AreParts small long → IsFolded s s0 s1 → IsFolded l l0 l1 → AreParts s l
+AreParts-folded small long s0 s1 l0 l1 s l es el many count p fs fl =
+    let h : ℕ = half long in
     let few : 33 * p.parts ≤ length long * p.parts = mul-le 33 p.parts (length long) p.parts (omega arith) (omega arith) in
-    let half : 2 * h * p.parts ≤ (length long + 1) * p.parts = mul-le (2 * h) p.parts (length long + 1) p.parts twice (omega arith) in
+    let twice : 2 * h * p.parts ≤ (length long + 1) * p.parts = mul-le (2 * h) p.parts (length long + 1) p.parts (omega arith) (omega arith) in
     let size : length l * (2 * p.parts) ≡ 2 * h * p.parts = ap (λ t. t * (2 * p.parts)) count ∙ (let same : h * (2 * p.parts) ≡ 2 * h * p.parts = omega arith in same) in
     record {
       parts = 2 * p.parts;
       most = omega (arith, p.count, few);
-      count = omega (arith, p.count, half, size);
+      count = omega (arith, p.count, twice, size);
       small_bound =
           IsWithin-folded p.parts s s0 s1 (IsWithin-low p.parts h small s0 s1 es p.small_bound) (IsWithin-high p.parts h small s0 s1 es p.small_bound) fs;
       long_bound =
@@ -144,7 +159,7 @@ AreParts-folded small long s0 s1 l0 l1 s l h es el many twice count p fs fl =
     }
 
 -- an element of R/q and a small one, as they are
-pub AreParts-one : (small long : List ℤ) → length long ≤ 1023 → IsWithin 1 small → IsWithin 4096 long → AreParts small long
+AreParts-one : (small long : List ℤ) → length long ≤ 1023 → IsWithin 1 small → IsWithin 4096 long → AreParts small long
 AreParts-one small long few ws wl = record {
   parts = 1;
   most = omega arith;
@@ -153,10 +168,20 @@ AreParts-one small long few ws wl = record {
   long_bound = wl;
 }
 
-pub IsWithin-whole : (small long sums : List ℤ) → length small ≡ length long → length long ≤ 1023 → IsWithin 1 small → IsWithin 4096 long → IsConvolution sums small long → IsWithin (2 ^ 22) sums
+IsWithin-whole : (small long sums : List ℤ) → length small ≡ length long → length long ≤ 1023 → IsWithin 1 small → IsWithin 4096 long → IsConvolution sums small long → IsWithin (2 ^ 22) sums
 IsWithin-whole small long sums e few ws wl is n =
     omega (
       arith,
       ap unsigned_abs (is n),
       conv_bound (length long) (coefficients small) (coefficients long) 4096 n (list_ends small (length long) e) (λ i j. product_bound (coefficients small i) (coefficients long j) 1 4096 (ws i) (wl j)),
     )
+
+-- the same, for lists that stand for two elements
+pub AreParts-elements : (m p : ℕ) (a b long small : List ℤ) → 0 < m → m < 8192 → p ≤ 1023 → IsCentred m p a → IsCentred 3 p b → long ≡ a → small ≡ b → AreParts small long
+AreParts-elements m p a b long small least most few ca cb e f =
+    AreParts-one small long (length_most 1023 p long a e ca.0 few) (rw f (IsCentred-small p b cb)) (rw e (IsCentred-within m p a least most ca))
+
+-- the sums of their convolution, as they were read again
+pub IsWithin-elements : (m p : ℕ) (a b long small sums given : List ℤ) → 0 < m → m < 8192 → p ≤ 1023 → IsCentred m p a → IsCentred 3 p b → long ≡ a → small ≡ b → given ≡ sums → IsConvolution sums small long → IsWithin (2 ^ 22) given
+IsWithin-elements m p a b long small sums given least most few ca cb e f same is =
+    rw same (IsWithin-whole small long sums (length_same p small long b a f e cb.0 ca.0) (length_most 1023 p long a e ca.0 few) (rw f (IsCentred-small p b cb)) (rw e (IsCentred-within m p a least most ca)) is)

@@ -1,18 +1,20 @@
--- Sixteen sums at a time. A lane holds a number by its bits; `bits` and `number` go there and back.
-use Rattle.std.proofs.Common.{◌≡◌, ℕ, ◌+◌, ◌-◌, ◌^◌, ◌<◌, ◌≤◌, ℤ, pos, List, [], ◌∷◌, length, map, arith, ap, sym, ◌∙◌, refl, inl, inr}
+-- Sixteen sums at a time, and the rest one at a time. A lane holds a number by its bits; `bits` and `number` go there and back.
+use Rattle.std.proofs.Common.{◌≡◌, ℕ, ◌+◌, ◌-◌, ◌^◌, ◌<◌, ◌≤◌, ℤ, pos, List, [], ◌∷◌, length, map, set, of_z, to_z, arith, ap, sym, ◌∙◌, refl, inl, inr}
 use Rattle.std.specs.Prelude.{◌+ℤ◌, unsigned_abs}
 use Rattle.std.specs.Int.{cast_signed, cast_unsigned, w16, w32}
 use Rattle.std.specs.Int.RustNames.{FitsSigned}
 use Rattle.std.proofs.lemmas.Bool.{cases_lt}
-use Rattle.std.proofs.lemmas.Int.{ints, to_z-of_z}
+use Rattle.std.proofs.lemmas.Int.{ints, to_z-of_z, fits_signed_from_abs}
 use Rattle.std.proofs.lemmas.List.{get_or-map, length-map}
 use Rattle.std.proofs.lemmas.Simd.{length-zip2, get_or-zip2, length-chunk, get_or-chunk, Each1-from_get_or, get_or-put_chunk_below, get_or-put_chunk_at, get_or-put_chunk_above}
 use lib.Lanes.{zip2, Each1, Each2, chunk, put_chunk}
 use borrow.Rule.Simd.Lanes.{Asks2, act2}
 use borrow.Table.Row.{s_int}
-use mir.Syntax.{add, signed}
+use mir.Syntax.{add, signed, Width}
+use mir.Val.{hbits}
 use Rattle.ring_core.specs.Product.{coefficients}
-use Rattle.ring_core.proofs.Row.{RowDone}
+use Rattle.ring_core.specs.Bounds.{IsWithin}
+use Rattle.ring_core.proofs.Row.{RowDone, RowDone-more, RowDone-within}
 
 -- ---- what the sum of two vectors asks and gives, at one lane
 
@@ -60,10 +62,13 @@ chunk_within xs at b fit h =
       h (at + i) (omega arith),
     ))
 
+left_within : (bound : ℕ) (start sums row : List ℤ) (at : ℕ) → IsWithin bound start → RowDone start sums row (pos 1) at → (k : ℕ) → at ≤ k → unsigned_abs (coefficients sums k) ≤ bound
+left_within bound start sums row at h r k l = omega (arith, ap unsigned_abs (r.left k l), h k)
+
 -- the lanes from `at` on may be added, where they may one by one
-pub Each2-blocks : (P : ℕ → ℕ → Type 0) (bits : ℤ → ℕ) (sums row : List ℤ) (at b d : ℕ) → ((s t : ℤ) → unsigned_abs s ≤ b → unsigned_abs t ≤ d → P (bits s) (bits t)) → at + 16 ≤ length sums → at + 16 ≤ length row → ((k : ℕ) → at ≤ k → unsigned_abs (coefficients sums k) ≤ b) → ((k : ℕ) → at ≤ k → unsigned_abs (coefficients row k) ≤ d) → Each2 P (map bits (chunk at 16 sums)) (map bits (chunk at 16 row))
-Each2-blocks P bits sums row at b d h fit_sums fit_row hs hr =
-    each_lane P bits (chunk at 16 sums) (chunk at 16 row) b d h (chunk_within sums at b fit_sums hs) (chunk_within row at d fit_row hr)
+pub Each2-blocks : (P : ℕ → ℕ → Type 0) (bits : ℤ → ℕ) (start sums row : List ℤ) (at b d : ℕ) → ((s t : ℤ) → unsigned_abs s ≤ b → unsigned_abs t ≤ d → P (bits s) (bits t)) → at + 16 ≤ length sums → at + 16 ≤ length row → IsWithin b start → IsWithin d row → RowDone start sums row (pos 1) at → Each2 P (map bits (chunk at 16 sums)) (map bits (chunk at 16 row))
+Each2-blocks P bits start sums row at b d h fit_sums fit_row hs hr r =
+    each_lane P bits (chunk at 16 sums) (chunk at 16 row) b d h (chunk_within sums at b fit_sums (left_within b start sums row at hs r)) (chunk_within row at d fit_row (λ k l. hr k))
 
 -- the sums of the lanes from `at` on
 abbrev pub lane_sums : (ℕ → ℤ) → (ℤ → ℕ) → (ℕ → ℕ → ℕ) → ℕ → List ℤ → List ℤ → List ℤ
@@ -87,8 +92,8 @@ lane_is number bits f at sums row j fit_sums fit_row l =
     ∙ ap (λ t. number (f (bits (coefficients sums (at + j))) t)) (get_or-map bits cr j (pos 0) 0 (omega arith) ∙ ap bits (get_or-chunk at 16 row j (pos 0) l))
 
 -- sixteen places of the row more are in the sums
-pub RowDone-lanes : (number : ℕ → ℤ) (bits : ℤ → ℕ) (f : ℕ → ℕ → ℕ) (start sums row : List ℤ) (at next : ℕ) → next ≡ at + 16 → next ≤ length sums → next ≤ length row → ((k : ℕ) → at ≤ k → number (f (bits (coefficients sums k)) (bits (coefficients row k))) ≡ coefficients sums k +ℤ coefficients row k) → RowDone start sums row (pos 1) at → RowDone start (put_chunk at sums (lane_sums number bits f at sums row)) row (pos 1) next
-RowDone-lanes number bits f start sums row at next e room_sums room_row is r =
+pub RowDone-lanes : (number : ℕ → ℤ) (bits : ℤ → ℕ) (f : ℕ → ℕ → ℕ) (start sums row : List ℤ) (at next b d : ℕ) → ((s t : ℤ) → unsigned_abs s ≤ b → unsigned_abs t ≤ d → number (f (bits s) (bits t)) ≡ s +ℤ t) → next ≡ at + 16 → next ≤ length sums → next ≤ length row → IsWithin b start → IsWithin d row → RowDone start sums row (pos 1) at → RowDone start (put_chunk at sums (lane_sums number bits f at sums row)) row (pos 1) next
+RowDone-lanes number bits f start sums row at next b d is e room_sums room_row hs hr r =
     let fit_sums : at + 16 ≤ length sums = omega arith in
     let fit_row : at + 16 ≤ length row = omega arith in
     let ys : List ℤ = lane_sums number bits f at sums row in
@@ -104,9 +109,22 @@ RowDone-lanes number bits f start sums row at next e room_sums room_row is r =
                 ∙ get_or-put_chunk_at at sums ys (k - at) (pos 0) (omega (arith, long)) (omega (arith, long))
                 ∙ lane_is number bits f at sums row (k - at) fit_sums fit_row (omega arith)
                 ∙ ap (λ i. number (f (bits (coefficients sums i)) (bits (coefficients row i)))) place
-                ∙ is k from
+                ∙ is (coefficients sums k) (coefficients row k) (left_within b start sums row at hs r k from) (hr k)
                 in
                 omega (arith, ints, put, r.left k from)
           ];
       left = λ k h. get_or-put_chunk_above at sums ys k (pos 0) (omega (arith, long)) ∙ r.left k (omega arith);
     }
+
+-- ---- the rest, one at a time
+
+-- a place of the row more is in the sums, by words that hold the sum
+pub RowDone-next : (w : Width) (b d : ℕ) (start sums row : List ℤ) (j : ℕ) → b + d < 2 ^ hbits w → j < length sums → IsWithin b start → IsWithin d row → RowDone start sums row (pos 1) j → RowDone start (set sums j (to_z w (of_z w (to_z w (of_z w (coefficients sums j)) +ℤ to_z w (of_z w (coefficients row j)))))) row (pos 1) (j + 1)
+RowDone-next w b d start sums row j fit l hs hr r =
+    let s : ℤ = coefficients sums j in
+    let t : ℤ = coefficients row j in
+    let low : unsigned_abs s ≤ b = RowDone-within b start sums row (pos 1) j hs r in
+    let fs : FitsSigned w s = fits_signed_from_abs w s (omega arith) in
+    let ft : FitsSigned w t = fits_signed_from_abs w t (omega (arith, hr j)) in
+    let fits : FitsSigned w (s +ℤ t) = fits_signed_from_abs w (s +ℤ t) (omega (arith, ints, hr j)) in
+    RowDone-more start sums row (pos 1) _ j l (simp to_z-of_z (omega (arith, ints))) r

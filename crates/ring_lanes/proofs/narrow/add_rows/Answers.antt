@@ -1,9 +1,5 @@
-use Rattle.std.proofs.Common.{rules, arith, ◌+◌, ◌-◌, length}
-use Rattle.std.specs.Int.{w8}
-use Rattle.std.specs.Int.RustNames.{FitsSigned}
-use Rattle.std.proofs.lemmas.Int.{to_z-of_z}
-use Rattle.ring_core.specs.Product.{coefficients}
-use Rattle.ring_core.proofs.Convolved.{Convolved-none, Convolved-more, Convolved-all}
+use Rattle.std.proofs.Common.{arith}
+use Rattle.ring_core.proofs.Convolved.{Convolved-none, Convolved-step, Convolved-all}
 use Rattle.ring_lanes.proofs.narrow.add_rows.Goals as goal
 
 pub loop-i-init : goal.loop-i-init
@@ -11,9 +7,7 @@ loop-i-init c = Convolved-none _ _ _ _ c.requires.double c.requires.zeros
 
 pub loop-i-preserved : goal.loop-i-preserved
 loop-i-preserved c =
-    let fits : FitsSigned w8 (coefficients c.args.small.now c.loop-i.i) = search rules in
-    let added = simp to_z-of_z at c.add_multiple.ensures in
-    Convolved-more _ _ _ _ _ _ (c.loop-i.i + length c.args.long.now - c.loop-i.i) (omega arith) (omega arith) (omega arith) added c.requires.small_small c.requires.long_small c.loop-i.invariant
+    Convolved-step _ _ _ _ _ _ (omega arith) (omega arith) c.add_multiple.ensures c.requires.small_small c.requires.long_small c.loop-i.invariant
 
 pub returns-clause-sums : goal.returns-clause-sums
 returns-clause-sums c =

@@ -1,18 +1,6 @@
-use Rattle.std.proofs.Common.{◌≡◌, ◌∙◌, ℕ, ap, length}
-use Rattle.std.proofs.lemmas.Result.{IfOk-weaker}
-use Rattle.ring_core.specs.Product.{coefficients, wrapped_residues}
-use Rattle.ring_core.proofs.Reduce.{product_from_sums, product_same}
+use Rattle.ring_core.proofs.Reduce.{product_from_lists}
 use Rattle.ring_lanes.proofs.multiplier.LanesMultiplier.mul_3.Goals as goal
 
 pub returns : goal.returns
 returns g c =
-    let p : ℕ = g.S.Params.set.p in
-    let small = c.as_slice.result.now in
-    let long = c.as_slice-2.result.now in
-    let count : length long ≡ p = ap length c.as_slice-2.ensures.list ∙ c.as_slice-2.ensures.centred.0 in
-    IfOk-weaker c.from_sums.result _ _
-    (λ v e. e
-    ∙ ap (λ xs. wrapped_residues 3 p (coefficients xs)) c.deref.ensures.value
-    ∙ product_from_sums 3 p small long c.in_ok-sums.sums.items count c.in_ok-sums.ensures.sums
-    ∙ product_same 3 p long small c.args.a.now c.args.b.now c.as_slice-2.ensures.list c.as_slice.ensures.list)
-    c.from_sums.ensures
+    rw (product_from_lists 3 g.S.Params.set.p _ _ _ _ _ _ c.as_slice-2.ensures.list c.as_slice.ensures.list c.as_slice-2.ensures.centred.0 c.deref.ensures.value c.in_ok-sums.ensures.sums) at c.from_sums.ensures
