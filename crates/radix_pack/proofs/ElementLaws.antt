@@ -198,13 +198,6 @@ AreMultiplesOf3-decode set bytes half k =
 pub length-decode : (bytes : List ℕ) (p m : ℕ) → AreRadices (replicate p m) → length (decode bytes (replicate p m)) ≡ p
 length-decode bytes p m a = (AreBelow-decode bytes (replicate p m) a).0 ∙ length-replicate p m
 
--- one more coefficient
-pub more_mapped : (f : ℕ → ℤ) (xs : List ℤ) (digits : List ℕ) (i : ℕ) (x : ℤ) → i < length digits → x ≡ f (get_or digits i 0) → xs ≡ map f (take i digits) → xs ++ x ∷ [] ≡ map f (take (i + 1) digits)
-more_mapped f xs digits i x l e h =
-    ap (λ ys. ys ++ x ∷ []) h
-    ∙ ap (λ y. map f (take i digits) ++ y ∷ []) e
-    ∙ sym (map_more f digits i 0 l)
-
 -- ---- the digits of the code
 
 -- one more digit

@@ -97,7 +97,15 @@ pub fn rounded_encode<S: Params>(alloc: Global, a: &Rq<S>) -> Result<ByteList, O
     step_encode(alloc, a, 3)
 }
 
-// The coefficient of each digit.
+// The coefficient of a digit.
+fn coefficient_of(digit: u16, half: u16, step: u16) -> i32
+    requires { IsStep step }
+    ensures { result ≡ step_back step half digit }
+{
+    i32::from(step) * i32::from(digit) - i32::from(half)
+}
+
+// The coefficients of all digits.
 #[inline]
 fn coefficients_of(
     alloc: Global,
@@ -108,11 +116,10 @@ fn coefficients_of(
     requires { IsStep step }
     ensures { IfOk result (λ v. v.items ≡ map (step_back step half) digits.now) }
 {
-    let mut coefficients = Vec::with_capacity(alloc, digits.len())?;
-    for digit in digits {
-        coefficients.push(i32::from(step) * i32::from(*digit) - i32::from(half))?;
-    }
-    Ok(coefficients)
+    digits
+        .iter()
+        .map(|digit| coefficient_of(*digit, half, step))
+        .collect(alloc)
 }
 
 // The radices of all digits.

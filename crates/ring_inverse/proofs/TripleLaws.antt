@@ -1,10 +1,6 @@
 -- Products with 3 f.
-use mir.Syntax.{Width}
-use mir.Val.{hbits}
-use Rattle.std.proofs.Common.{◌≡◌, ℕ, ◌+◌, ◌*◌, ◌^◌, ◌<◌, ◌≤◌, ℤ, pos, List, [], ◌∷◌, ◌++◌, length, map, take, arith, ap, sym, ◌∙◌, refl, of_z, to_z}
-use Rattle.std.specs.Prelude.{◌*ℤ◌, unsigned_abs}
-use Rattle.std.specs.Int.RustNames.{FitsSigned}
-use Rattle.std.proofs.lemmas.Int.{to_z-of_z, fits_signed_from_abs, fits_signed_mul}
+use Rattle.std.proofs.Common.{◌≡◌, ℕ, ◌<◌, ℤ, pos, List, length, map, arith, ap, sym, ◌∙◌, refl}
+use Rattle.std.specs.Prelude.{◌*ℤ◌}
 use Rattle.std.proofs.lemmas.List.{get_or-map, length-map}
 use Rattle.std.proofs.lemmas.List.FromFn.{fill_by_all, length-map-range_with_len}
 use Rattle.ring_core.specs.Product.{Series, coefficients, conv, wrapped, centred, product}
@@ -13,10 +9,8 @@ use Rattle.ring_core.proofs.SeriesLaws.{conv_comm}
 use Rattle.ring_core.proofs.ElementLaws.{map_at}
 use Rattle.ring_core.proofs.ProductLaws.{made_at}
 use Rattle.ring_inverse.specs.Reciprocals.{triple}
-use Rattle.ring_inverse.proofs.Arithmetic.{fits_small}
 use Rattle.ring_inverse.proofs.CongruenceLaws.{times_scale}
 use Rattle.ring_inverse.proofs.Inverses.{residue_times}
-use Rattle.ring_inverse.proofs.ListLaws.{mapped_more}
 
 pub times_comm : (p : ℕ) (f g : Series) (k : ℕ) → wrapped p (conv f g) k ≡ wrapped p (conv g f) k
 times_comm p f g k = ap (λ (u : Series). wrapped p u k) (same_series (conv f g) (conv g f) (conv_comm f g))
@@ -48,14 +42,3 @@ triple_product q p c f h =
     ∙ residue_times q (pos 3) (sums k) (coefficients cf k) h (made_at p (λ i. centred q (sums i)) k l)
     ∙ ap (λ t. centred q (pos 3 *ℤ t)) (times_comm p (coefficients c) (coefficients f) k)
     ∙ ap (λ t. centred q t) (sym (triple_times p f (coefficients c) k)))
-
--- one number more, read from words of the width v and tripled in those of the width w
-pub triple_more : (v w : Width) (xs list new : List ℤ) (i : ℕ) (x : ℤ) → 3 * 2 ^ hbits v < 2 ^ hbits w → i < length list → FitsSigned v (coefficients list i) → x ≡ to_z v (of_z v (coefficients list i)) → new ≡ xs ++ to_z w (of_z w (pos 3 *ℤ to_z w (of_z w x))) ∷ [] → xs ≡ triple (take i list) → new ≡ triple (take (i + 1) list)
-triple_more v w xs list new i x room l fits read pushed is =
-    let at : ℤ = coefficients list i in
-    let most : unsigned_abs at ≤ 2 ^ hbits v = fits_small v at fits in
-    let wide : FitsSigned w at = fits_signed_from_abs w at (omega arith) in
-    let more : FitsSigned w (pos 3 *ℤ at) = fits_signed_mul w (pos 3) at 3 (2 ^ hbits v) (omega arith) most room in
-    let number : x ≡ at = read ∙ to_z-of_z v at fits in
-    pushed
-    ∙ mapped_more (λ z. pos 3 *ℤ z) xs list i _ l (rw number (simp to_z-of_z refl)) is
