@@ -1,7 +1,7 @@
 //! The codings of elements of R/q: of any, and of those whose coefficients are multiples of 3.
 //!
-//! They are one coding, which counts from -(q - 1) / 2 on in steps of 1 or of 3. `#[inline]` makes the
-//! step a constant where it divides.
+//! They are one coding, which counts from -(q - 1) / 2 on in steps of 1 or of 3. What takes a step is
+//! inlined, so that it divides by a constant.
 
 ghost use Rattle.std.specs.Prelude.{◌≡◌, ◌+◌, ◌-◌, ◌*◌, ◌/◌, ◌%◌, ◌<◌, ◌≤◌, unsigned_abs, length, map, replicate, IfOk};
 ghost use Rattle.ring_core.specs.Bounds.{IsWithin};
@@ -44,7 +44,7 @@ fn step_radix(modulus: u16, step: u16) -> u16
 }
 
 // The digit of each coefficient, with its radix.
-#[inline]
+#[inline(always)]
 fn digits_of(
     alloc: Global,
     coefficients: &[i16],
@@ -68,7 +68,7 @@ fn digits_of(
     Ok(digits)
 }
 
-#[inline]
+#[inline(always)]
 fn step_encode<S: Params>(alloc: Global, a: &Rq<S>, step: u16) -> Result<ByteList, OutOfMemory>
     requires { IsStep step }
     ensures bytes { IfOk result (λ b. b ≡ step_encode step S.set a.now) }
@@ -106,7 +106,7 @@ fn coefficient_of(digit: u16, half: u16, step: u16) -> i32
 }
 
 // The coefficients of all digits.
-#[inline]
+#[inline(always)]
 fn coefficients_of(
     alloc: Global,
     digits: &[u16],
@@ -130,7 +130,7 @@ fn radices<S: Params>(alloc: Global, step: u16) -> Result<Vec<u16>, OutOfMemory>
     Ok(vec![in alloc; step_radix(modulus::<S>(), step); S::P]?)
 }
 
-#[inline]
+#[inline(always)]
 fn step_decode<S: Params>(alloc: Global, bytes: &[u8], step: u16) -> Result<Rq<S>, OutOfMemory>
     requires step { IsStep step }
     requires count { length bytes.now ≡ step_length step S.set }
