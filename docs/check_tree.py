@@ -15,6 +15,9 @@ OTHER = re.compile(r"\b(?:const|static|type|mod|macro_rules!) (\w+)")
 DEFINITION = re.compile(r"\s*(?:[a-z]+ )*?pub (?:(?:record|data|mod) )?([^\s:({]+)|([\w'-]+) :|ruleset ([\w'-]+)")
 WORDS = re.compile(r"[\w']+")
 STRING = re.compile(r'"([^"\n]*)"')
+IMPORT = re.compile(r"use Rattle\.(\w+)\.specs\.([\w.]+)\.\{([^}]*)\}")
+HEAD = re.compile(r"(?:(?:abbrev|unfoldable|pub|record|data) )*(?!use )([\w'-]+)(?=[\s:({])")
+TERM = re.compile(r"[\w'-]+")
 
 
 def read(path):
@@ -28,6 +31,26 @@ def without_generics(text):
     while before != text:
         before, text = text, re.sub(r"<[^<>]*>", "", text.replace("->", ""))
     return text
+
+
+def imports_of(text):
+    """What a text imports from files of specs/ here, by the names that it has for it: a path, and the name there."""
+    found = {}
+    for crate, file, names in IMPORT.findall(text):
+        path = f"crates/{crate}/specs/{file.replace('.', '/')}.antt"
+        for name, _, own in (it.strip().partition(" as ") for it in names.split(",") if os.path.isfile(path)):
+            found[own or name] = path, name
+    return found
+
+
+def words_of_definitions(path):
+    """The words of each definition of a file, from its first line to the next one's."""
+    found, name = {}, None
+    for line in re.sub(r"--.*", "", read(path)).split("\n"):
+        head = HEAD.match(line)
+        name = head[1] if head else name
+        found.setdefault(name, set()).update(TERM.findall(line))
+    return found
 
 
 def with_whole_heads(text):
@@ -209,6 +232,23 @@ class Tree:
         before, found, _ = f"\n{read(path)}".partition(f"\n{text}") if path else ("", "", "")
         first = before.count("\n") + 1
         return range(first, first + text.count("\n")) if found else range(0)
+
+    @staticmethod
+    def files_reached(path, function):
+        """The files of specs/ whose definitions the contract of a function reaches, through those that it names."""
+        text = read(path)
+        contract = re.split(r"^\{", text.partition(f"pub fn {function}")[2], flags=re.M)[0]
+        known = {None: ({None: set(TERM.findall(contract))}, imports_of(text))}
+        reached, left = set(), [(None, None)]
+        while left:
+            path, name = left.pop()
+            if path not in known:
+                known[path] = words_of_definitions(path), imports_of(read(path))
+            words, imports = known[path]
+            named = {imports.get(it, (path, it)) for it in words.get(name, ()) if it in imports or it in words}
+            left += named - reached
+            reached |= named
+        return {path for path, _ in reached if path}
 
     @staticmethod
     def line_count(path):
