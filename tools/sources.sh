@@ -4,11 +4,35 @@
 
 program=crates/hpkebatch/out/hpkebatch
 
-# A sum of the name and the bytes of each file that the program is made from. No date counts, and no
-# README.md.
+# The lines of crates.txt for the program and for all that it uses, in their order.
+rows() {
+    awk '
+        function need(name, used, i, n) {
+            if (!(name in uses) || name in needed) return
+            needed[name]
+            n = split(uses[name], used, " ")
+            for (i = 1; i <= n; i++) need(used[i])
+        }
+        { sub(/#.*/, "") }
+        split($0, part, ":") == 2 { split(part[1], word, " "); uses[name[++count] = word[1]] = part[2]; row[count] = $0 }
+        END { need("hpkebatch"); for (i = 1; i <= count; i++) if (name[i] in needed) print row[i] }' crates.txt
+}
+
+# The folders of these lines.
+folders_of() {
+    sed 's/[ :].*//; s/^/crates\//'
+}
+
+# A sum of the program's lines of crates.txt, and of the name and the bytes of each file that the program
+# is made from. No date counts, and no README.md.
 sum_of_sources() {
-    find crates.txt crates \( -name out -o -name must-fail -o -name README.md \) -prune -o -type f -print0 |
-        LC_ALL=C sort -z | xargs -0 sha256sum | sha256sum
+    local folders
+    mapfile -t folders < <(rows | folders_of)
+    {
+        rows
+        find HANDLES "${folders[@]}" \( -name out -o -name must-fail -o -name README.md \) -prune -o -type f -print0 |
+            LC_ALL=C sort -z | xargs -0 sha256sum
+    } | sha256sum
 }
 
 # keep_sum SUM: notes that the program, as it stands, was built from sources with this sum. The sum

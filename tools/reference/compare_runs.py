@@ -7,6 +7,9 @@ import subprocess
 BUILT = os.path.join(os.path.dirname(os.path.abspath(__file__)), "../../crates/hpkebatch/out/hpkebatch")
 PROGRAM = os.environ.get("HPKEBATCH", BUILT)
 
+# The status, standard output and standard error where memory ran out.
+NO_MEMORY = (6, b"", b"hpkebatch: out of memory\n")
+
 
 def told(data, words, seconds=None):
     """Standard output, a character for each byte, and the status."""

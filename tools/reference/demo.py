@@ -51,8 +51,11 @@ def demo(seed, messages, lanes):
     return sum(words[2] == TEXT.hex() for words in opened), b"".join(sealed)
 
 
-if __name__ == "__main__":
-    seed, messages, lanes = map(int, sys.argv[1:])
+def report(seed, messages, lanes):
     opened, sealed = demo(seed, messages, lanes)
-    print(f"messages {messages} opened {opened} refused {messages - opened}")
-    print(f"sha256 {hashlib.sha256(sealed).hexdigest()}")
+    counts = f"messages {messages} opened {opened} refused {messages - opened}"
+    return f"{counts}\nsha256 {hashlib.sha256(sealed).hexdigest()}\n"
+
+
+if __name__ == "__main__":
+    print(report(*map(int, sys.argv[1:])), end="")

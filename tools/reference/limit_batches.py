@@ -15,6 +15,14 @@ def in_lane(*calls):
     return text_of([SHARE.format("send"), SHARE.format("recv"), "lane", *calls])
 
 
+def exchanges(count, size):
+    """A batch of so many exchanges of capsules, each with two texts of so many bytes."""
+    text = "61" * size
+    lines = ["rand " + "00" * 32, "keygen", *[f"ask 0 7 1 1 {text}"] * count]
+    lines += [f"answer 0 7 @{number} {'aa' * 16} {text}" for number in range(count)]
+    return text_of([*lines, *(f"take {number} @{number}" for number in range(count))])
+
+
 def with_length(size):
     """A batch of so many bytes: seals that are refused, since they name no context."""
     least = len(text_of(["lane", "seal 0 - 00"]))

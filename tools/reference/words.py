@@ -8,6 +8,10 @@ STEP = rb"(?:[0-9]|1[0-5])"
 SCHEDULE = rb"-|" + STEP + rb"(?:," + STEP + rb"){0,65535}"
 
 
+def is_number(word, least, most):
+    return re.fullmatch(rb"0|[1-9][0-9]*", word) is not None and least <= int(word) <= most
+
+
 def options_of(words):
     """The names of the options, in their order, or None where something else stands among them."""
     names = []
@@ -28,6 +32,9 @@ def is_command(words):
     if words[:1] in ([b"run"], [b"live"]):
         names = options_of(words[1:])
         return names is not None and len(names) == len(set(names))
-    if words[:1] == [b"capsules"]:
+    if words[:1] in ([b"check"], [b"capsules"]):
         return options_of(words[1:]) in ([], [b"--mult"])
+    if words[:1] == [b"demo"]:
+        ranges = (0, 2**64 - 1), (1, 65_536), (1, 16)
+        return len(words) == 4 and all(is_number(word, *of) for word, of in zip(words[1:], ranges))
     return len(words) == 2 and words[0] == b"rehearse" and re.fullmatch(SCHEDULE, words[1]) is not None

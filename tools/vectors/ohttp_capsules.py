@@ -1,6 +1,6 @@
 #!/usr/bin/env python3
 """Whole exchanges of Oblivious HTTP (RFC 9458, 4), by hashlib, hmac, Python's `cryptography` and the
-KEM of tools/reference/contexts.py.
+messages and the KEM of tools/reference.
 
 Run: python3 tools/vectors/ohttp_capsules.py. It first makes the exchange of RFC 9458, appendix A, and
 stops where a byte differs from those published. Then it prints the rows of `EXCHANGES_761` and
@@ -14,24 +14,15 @@ import os
 import sys
 
 from cryptography.hazmat.primitives.asymmetric.x25519 import X25519PrivateKey
-from cryptography.hazmat.primitives.ciphers.aead import AESGCM
 from cryptography.hazmat.primitives.serialization import Encoding, PublicFormat
 
+sys.dont_write_bytecode = True
 sys.path.insert(0, os.path.join(os.path.dirname(os.path.abspath(__file__)), "..", "reference"))
-from contexts import HASHES, KEM_IDS, KEMS, KEY_SIZES, Context, hkdf_expand, hkdf_extract, i2osp, words_of  # noqa: E402
+from capsules import context_of, entropy, header, response_cipher  # noqa: E402
+from contexts import KEM_IDS, KEMS, hkdf_expand, hkdf_extract, i2osp, words_of  # noqa: E402
 
 QUESTION = b"Beauty is truth, truth beauty"
 REPLY = b"Ode on a Grecian Urn"
-
-
-def header(key_id, kem, kdf, aead):
-    return i2osp(key_id, 1) + i2osp(kem, 2) + i2osp(kdf, 2) + i2osp(aead, 2)
-
-
-def context(shared_secret, key_id, kem, kdf, aead):
-    info = b"message/bhttp request" + b"\0" + header(key_id, kem, kdf, aead)
-    line = {"limit": 1, "kdf": kdf, "aead": aead, "mode": "base", "psk": b"", "psk_id": b"", "info": info}
-    return Context("sender", kem, shared_secret, line)
 
 
 def request(of, enc, text, key_id, kem, kdf, aead):
@@ -39,10 +30,8 @@ def request(of, enc, text, key_id, kem, kdf, aead):
 
 
 def response(of, enc, nonce, text, kdf, aead):
-    secret = of.export(b"message/bhttp response", len(nonce))
-    prk = hkdf_extract(HASHES[kdf], enc + nonce, secret)
-    key = hkdf_expand(HASHES[kdf], prk, b"key", KEY_SIZES[aead])
-    return nonce + AESGCM(key).encrypt(hkdf_expand(HASHES[kdf], prk, b"nonce", 12), text, b"")
+    cipher, of_cipher = response_cipher(of, enc, nonce, kdf, aead)
+    return nonce + cipher.encrypt(of_cipher, text, b"")
 
 
 def published():
@@ -57,7 +46,7 @@ def published():
     labels = b"HPKE-v1" + b"KEM" + i2osp(0x0020, 2)
     prk = hkdf_extract("sha256", b"", labels + b"eae_prk" + ephemeral.exchange(own))
     shared_secret = hkdf_expand("sha256", prk, i2osp(32, 2) + labels + b"shared_secret" + enc + pk, 32)
-    of = context(shared_secret, 1, 0x0020, 1, 1)
+    of = context_of(shared_secret, 1, 0x0020, 1, 1)
     text = bytes.fromhex("00034745540568747470730b6578616d706c652e636f6d012f")
     assert request(of, enc, text, 1, 0x0020, 1, 1).hex() == (
         "010020000100014b28f881333e7c164ffc499ad9796f877f4e1051ee6d31bad19dec96c208b4726374e469135906992e"
@@ -76,7 +65,7 @@ for p in (761, 857):
     enc, shared_secret = KEMS[p].encap(words_of(bytes(32), 1), public)
     for kdf in (1, 2, 3):
         for aead in (1, 2):
-            of = context(shared_secret, 7, KEM_IDS[p], kdf, aead)
+            of = context_of(shared_secret, 7, KEM_IDS[p], kdf, aead)
             asked = request(of, enc, QUESTION, 7, KEM_IDS[p], kdf, aead)
-            answered = response(of, enc, b"\xaa" * max(12, KEY_SIZES[aead]), REPLY, kdf, aead)
+            answered = response(of, enc, b"\xaa" * entropy(aead), REPLY, kdf, aead)
             print(p, kdf, aead, len(asked), *(hashlib.sha256(x).hexdigest() for x in (asked, answered)))

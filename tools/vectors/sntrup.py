@@ -10,7 +10,7 @@ implementations in C gave for the same words: that of OpenSSH 9.2p1 for sntrup76
 
     python3 tools/vectors/sntrup.py
 
-It prints the rows of `KEYS` in crates/lattice_tests/src/sntrup_core_tests.rt: for each of h, f, 1/g, r and the
+It prints the rows of `KEYS_761` and `KEYS_857` in crates/lattice_tests/src/sntrup_core_tests.rt: for each of h, f, 1/g, r and the
 ciphertext, the first 4 coefficients and the sum of k times coefficient k.
 """
 

@@ -8,7 +8,7 @@ w - 1: ones followed by zeros. That one is decrypted to its r, and its hash is r
 
     python3 tools/vectors/sntrup_reject.py
 
-It prints the rows of `REJECTED` in crates/lattice_tests/src/sntrup_kem_tests.
+It prints the rows of `REJECTED_761` and `REJECTED_857` in crates/lattice_tests/src/sntrup_kem_tests.
 """
 
 import hashlib
