@@ -57,7 +57,7 @@ pub record IsRehearsal (plan : Plan) (schedule text : List ℕ) : Type 0 where
   pub set_up : IsSetUp plan keys contexts standing
   pub text_is : text ≡ run_text keys contexts (rehearsed plan standing schedule)
 
--- a command that replies to a plan
+-- `run` or `rehearse`
 abbrev pub AnswersBatches : Command → Type 0
 AnswersBatches (commands.Run workers mult) = Unit {0}
 AnswersBatches (commands.Live workers mult) = ⊥

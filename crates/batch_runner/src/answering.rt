@@ -57,7 +57,7 @@ fn rehearsed_by<R: Threads + Sync>(
     Ok(answers)
 }
 
-/// The answers to a plan by a command that replies to one. All memory is taken before the first call is answered.
+/// The answers to a plan by `run` or `rehearse`. All memory is taken before the first call is answered.
 pub(crate) fn answers_to<R: Threads + Wait + Sync, G: Gate + Sync>(
     rt: &R,
     alloc: Global,

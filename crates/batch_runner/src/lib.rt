@@ -8,8 +8,9 @@
 //! keys and contexts (RFC 9180, 5.1); taking all memory for the replies and the journals; the calls
 //! (RFC 9180, 5.2 and 5.3); writing. The text has the replies to the batch, each seal and each opening
 //! answered as the sequential context answers at its place in its context's journal, and those
-//! journals, which are legal. `check` judges such a text, `capsules` answers
-//! messages of RFC 9458, and `demo` runs batches that it makes itself.
+//! journals, which are legal. `live` works in the same order on lanes that add and retire contexts,
+//! and its text has their table too. `check` judges a text of `run`, `capsules` answers messages of
+//! RFC 9458, and `demo` runs batches that it makes itself.
 //!
 //! A contract sees the two ends as the bytes that they tell and as their counts of faults. Each
 //! [`Outcome`] has its cause there, and want of memory alone is free. What standard input and

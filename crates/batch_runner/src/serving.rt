@@ -122,8 +122,9 @@ fn obey<R: Threads + Wait + Sync, S: Source, K: Sink, G: Gate + Sync>(
 /// that the answers of `run`, `live` and `rehearse` need is taken before the first call is answered.
 /// `run` and `live` serve the lanes by so many workers as the words ask for, on contexts that they
 /// share, and tell `gate` of each draw, each guess and each call that is answered; so does `demo`, by 4
-/// workers. These three may wait. The other commands tell it nothing. The tags of a large opening are
-/// tested by threads of their own, in `rehearse` too; whatever threads a command starts are joined.
+/// workers. These three may wait. The other commands tell it nothing. `capsules` answers by 16 threads
+/// at most. The tags of a large opening are tested by threads of their own, in `rehearse` too. Whatever
+/// threads a command starts are joined.
 ///
 /// The input is what the source tells, and the text written what the sink tells; over ends that
 /// tell nothing the clauses speak of the outcomes and the counts of faults alone.

@@ -17,7 +17,7 @@ use std::alloc::{AllocError, Global};
 /// A plan whose keys and contexts were set up.
 #[derive(Drop)]
 pub(crate) struct Begun {
-    /// The contexts that stand, in the order of their lines.
+    /// A slot for each context line: its context, or none where it was refused.
     pub standing: PlainList<Option<Context>>,
     /// The replies to keys and contexts, and room for those to the calls.
     pub answers: Answers,

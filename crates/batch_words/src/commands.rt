@@ -16,7 +16,8 @@ pub enum Command {
         workers: u32,
         mult: Mult,
     },
-    /// `rehearse`: read a batch and answer it on one thread, in the order of a schedule.
+    /// `rehearse`: read a batch and answer it in the order of a schedule, on one thread but for the
+    /// tests of tags.
     Rehearse {
         schedule: Schedule,
     },

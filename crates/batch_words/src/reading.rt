@@ -25,10 +25,10 @@ const MOST_LANES: u64 = 16;
 /// `words` are those of the command line without the program's name. The first is `run`, `live`,
 /// `rehearse`, `demo`, `check` or `capsules`.
 ///
-/// After `run` and after `live` there may stand `--workers W` and `--mult M`, each at most once, in either order, as
-/// two words or as one word with `=`. W is a decimal from 1 to 16 without leading zeros, and 4 where
-/// the option does not stand. M is `plain`, `karatsuba` or `lanes`, and `plain` where the option
-/// does not stand.
+/// After `run` and after `live` there may stand `--workers W` and `--mult M`, each at most once, in
+/// either order, as two words or as one word with `=`. W is a decimal from 1 to 16 without leading
+/// zeros, and 4 where the option does not stand. M is `plain`, `karatsuba` or `lanes`, and `plain`
+/// where the option does not stand.
 ///
 /// After `rehearse` there stands one word: `-` for a schedule of no steps, or 1 to 65,536 decimals
 /// from 0 to 15 without leading zeros, with a comma between each two.

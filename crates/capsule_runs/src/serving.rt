@@ -25,8 +25,8 @@ pub struct CapsuleAnswers {
     pub replies: CapsuleReplies,
 }
 
-/// Serves a plan of capsules (RFC 9458, 4): all asks, then all answers by several threads, then all
-/// takes.
+/// Serves a plan of capsules (RFC 9458, 4): all asks, then all answers by 16 threads at most, then
+/// all takes.
 ///
 /// The replies are those of one client and one gateway that do the lines in the order of the text,
 /// with each multiplier and however the threads run. Key number k draws its words from stream 2k of

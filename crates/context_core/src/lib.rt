@@ -1,4 +1,4 @@
-//! The core: the lanes of a plan, step by step, on one thread.
+//! The core: the lanes of a plan, step by step, on one thread but for the tests of tags.
 //!
 //! [`rehearse`] lets the lanes take their steps in the order of a schedule and fills the answers that
 //! were made for the plan. What it fills in are the replies, guesses and journals of `rehearsed` of

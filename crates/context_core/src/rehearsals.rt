@@ -207,7 +207,7 @@ fn take_back(alloc: Global, lanes: &mut [Lane], answers: &mut [LaneAnswers])
     }
 }
 
-/// Serves the lanes of a plan on one thread, and fills the answers that were made for the plan and
+/// Serves the lanes of a plan on one thread but for the tests of tags, and fills the answers that were made for the plan and
 /// these contexts.
 ///
 /// Each number of the schedule is that of a lane, which does its next step; one at its end, or that
@@ -215,8 +215,8 @@ fn take_back(alloc: Global, lanes: &mut [Lane], answers: &mut [LaneAnswers])
 /// call are those of core_schedules: Finish for a call that is refused and for an export; Draw and
 /// Finish for a seal; Guess, Check, Commit and Finish for an opening.
 ///
-/// All memory is taken before the first step. Tags are tested ahead by several threads, which are
-/// joined in the same step.
+/// All memory is taken before the first step. The tags of a large opening are tested ahead by several
+/// threads, which are joined in the same step.
 pub fn rehearse<R: Threads + Sync>(
     rt: &R,
     alloc: Global,

@@ -29,8 +29,10 @@ fn hash_of(cts: &[[u8; CIPHERTEXT_SIZE]]) -> [u8; 32]
 /// Seals so many messages in so many lanes, all of them the bytes 00 to 3f, and opens what they were
 /// sealed to: two batches by the rules of `run`.
 ///
-/// The key, the exchange and so the report follow from the seed alone. Each batch takes all its
-/// memory before its own lanes are served. `gate` is told the points of both. It may wait.
+/// The key and the exchange follow from the seed alone, the report from the seed and `messages`.
+/// Where the seed gives no key nothing is sealed, and none is opened. Both batches are served by 4
+/// workers. Each takes all its memory before its own lanes are served. `gate` is told the points of
+/// both. It may wait.
 pub fn demo<R: Threads + Wait + Sync, G: Gate + Sync>(
     rt: &R,
     alloc: Global,

@@ -58,10 +58,7 @@ fn missed(guess: u64, numbers: &[u64]) -> usize
 fn number_at(numbers: &[u64], i: usize) -> u64
     ensures { result ≡ slice_index numbers.now i }
 {
-    match numbers.get(i) {
-        Some(number) => *number,
-        None => 0,
-    }
+    numbers.get(i).copied().unwrap_or(0)
 }
 
 // Whether a guess lies from this number to the first of those that were due, and missed so many.

@@ -301,10 +301,7 @@ fn take_lanes(
 fn left_over(replies: &mut Replies) -> Option<u32>
     ensures { result ≡ wrong_reply_of replies.old [] }
 {
-    match replies.take() {
-        Some(reply) => Some(reply.number),
-        None => None,
-    }
+    replies.take().map(|reply| reply.number)
 }
 
 /// The line of the first reply that isn't the one that is due along the journals.

@@ -19,7 +19,6 @@ use batch_plans::{PlainList, Plan};
 use call_places::Mark;
 use hpke_context::{Context, Sequential};
 use std::alloc::{AllocError, Global};
-use std::mem;
 use std::thread::Threads;
 
 /// A journal along which its context was run: of each place the line of its reply, and the number
@@ -100,7 +99,7 @@ fn take(contexts: &mut [Option<Context>], number: usize) -> Option<Context>
     ensures context { result ≡ standing_at contexts.old number }
     ensures taken { contexts.new ≡ slice_set contexts.old number None }
 {
-    mem::replace(&mut contexts[number], None)
+    contexts[number].take()
 }
 
 // Puts it back.

@@ -3,8 +3,9 @@
 //! A [`LaneWork`] is a lane with its pass of each context, its seat at the counter of stamps, and its
 //! answers. [`serve`] serves lanes by so many workers: each has a group of lanes that stand side by
 //! side, and serves them in order, each lane's calls in order. A seal draws its number and an opening
-//! commits its items while the lane holds the context's turn; all encryption, decryption and testing
-//! of tags is done while it holds none (RFC 9180, 5.2).
+//! commits its items while the lane holds the context's turn, in which the tags that the guess missed
+//! are tested too; encryption, decryption and the tests of tags ahead are done while it holds none
+//! (RFC 9180, 5.2).
 //!
 //! [`take_passes`] hands a lane its passes of all contexts, and [`put_passes`] puts them back, as
 //! `specs/Handing.antt` says, so that each context can be closed over the passes that it gave.

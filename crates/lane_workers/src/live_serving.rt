@@ -31,7 +31,7 @@ impl<R: Threads + Wait + Sync, G: Gate + Sync> ServesLanes<LiveLane> for LiveSer
     }
 }
 
-/// Serves the lanes of a plan that add and retire contexts, by so many workers.
+/// Serves the lanes of a plan that add and retire contexts, by so many workers, from 1 to 16.
 ///
 /// `contexts` has the contexts of the `add` lines behind those of the context lines, and `table` a name
 /// for each. The lanes are divided among the workers as by [`serve`](crate::serve), and `gate` is told

@@ -101,7 +101,7 @@ fn serve_beside<R: Threads + Sync, L: Send, S: ServesLanes<L> + Sync>(
     );
 }
 
-/// Serves the lanes of a plan by so many workers.
+/// Serves the lanes of a plan by so many workers, from 1 to 16.
 ///
 /// The lanes are divided among the workers in groups that stand side by side, whose sizes differ by
 /// one at most. `gate` is told after each draw, after each guess, and when a call's replies stand.

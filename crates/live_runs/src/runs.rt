@@ -93,8 +93,8 @@ fn serve_shared<R: Threads + Wait + Sync, G: Gate + Sync>(
     serve_lanes(rt, alloc, live, rooms, journals, workers, gate)
 }
 
-/// Serves the lanes of a plan, which may add and retire contexts, by so many workers, on contexts
-/// that they share, and fills the answers that were made for the plan and these contexts.
+/// Serves the lanes of a plan, which may add and retire contexts, by so many workers, from 1 to 16,
+/// on contexts that they share, and fills the answers that were made for the plan and these contexts.
 ///
 /// Behind the contexts of the context lines, `contexts` has one for each `add` line whose psk inputs
 /// are in order (RFC 9180, 5.1). Each worker has lanes that stand side by side, and serves them in

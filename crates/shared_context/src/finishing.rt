@@ -11,8 +11,8 @@ impl SharedContext {
     /// Encrypts a text at a number that was drawn: fills `out` with the ciphertext, as long as
     /// `text`, and the tag of 16 bytes (RFC 9180, 5.2, Seal). It waits for nobody.
     ///
-    /// That no two texts are sealed at one number is the caller's to keep: `draw` gives each number
-    /// once.
+    /// The number is below LIMIT, the text has at most 2^36 - 32 bytes, `aad` fewer than 2^61. That no
+    /// two texts are sealed at one number is the caller's to keep: `draw` gives each number once.
     pub fn finish_seal(&self, number: u64, aad: &[u8], text: &[u8], out: &mut [u8])
         requires cipher { HasCipher self.now.context }
         requires number { number < self.now.context.limit }

@@ -83,8 +83,8 @@ fn serve_shared<R: Threads + Wait + Sync, G: Gate + Sync>(
     serve_table(rt, alloc, table, rooms, journals, workers, gate)
 }
 
-/// Serves the lanes of a plan by so many workers, on contexts that they share, and fills the answers
-/// that were made for the plan and these contexts.
+/// Serves the lanes of a plan by so many workers, from 1 to 16, on contexts that they share, and
+/// fills the answers that were made for the plan and these contexts.
 ///
 /// Each worker has lanes that stand side by side, and serves them in order (lane_workers). `gate` is
 /// told after each draw, after each guess, and when a call's replies stand. All memory is taken

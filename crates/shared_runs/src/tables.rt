@@ -36,7 +36,9 @@ pub struct Table<'a> {
 
 impl<'a> Table<'a> {
     /// The contexts that stand, shared by these lanes, and a seat from which so many other stamps
-    /// may be drawn.
+    /// may be drawn, 65,536 at most.
+    ///
+    /// The contexts are taken out of their slots, some of them also where memory runs out.
     pub fn new(
         alloc: Global,
         plan: &'a Plan,
