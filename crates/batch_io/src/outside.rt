@@ -14,14 +14,14 @@ pub enum Got {
 pub enum Took {
     /// So many bytes, from the front of the piece.
     Bytes(usize),
-    /// A fault: nothing was added to the sink.
+    /// A fault. Nothing was added to a sink that tells its bytes; another may have taken some.
     Failed,
 }
 
 /// Where input comes from.
 ///
 /// A contract sees the bytes that are left, where the source tells them, and a count of faults,
-/// which rises with each `Failed` and with nothing else.
+/// which rises with each `Failed`, up to the greatest `u64`, and with nothing else.
 pub trait Source {
     ghost use Rattle.std.specs.Prelude.{ℕ, List, Option, ◌≡◌, ◌≤◌};
     ghost use Rattle.batch_io.specs.Outside.{Rose, Gives};
@@ -46,7 +46,7 @@ pub trait Source {
 /// Where output goes.
 ///
 /// A contract sees the bytes that were written, where the sink tells them, and a count of faults,
-/// which rises with each `Failed` and with nothing else.
+/// which rises with each `Failed`, up to the greatest `u64`, and with nothing else.
 pub trait Sink {
     ghost use Rattle.std.specs.Prelude.{ℕ, List, Option, ◌≡◌, ◌≤◌};
     ghost use Rattle.batch_io.specs.Outside.{Rose, Takes};

@@ -12,9 +12,9 @@ use key_schedule::Role;
 
 /// Why a call is refused from the batch and its set-up alone; without a refusal it is served.
 ///
-/// The first cause that holds is answered, in the order of [`CallRefusal`]. `export_limits` has for
-/// each context the most bytes that it exports, 255·Nh (RFC 9180, 5.3), and 0 where it was refused.
-/// Takes no memory.
+/// The first cause that holds is answered, in the order of [`CallRefusal`]; for an `Add` or a `Retire`,
+/// which no context serves, it is `NoContext`. `export_limits` has for each context the most bytes
+/// that it exports, 255·Nh (RFC 9180, 5.3), and 0 where it was refused. Takes no memory.
 pub fn call_refusal(
     contexts: &[ContextLine],
     export_limits: &[u32],
@@ -31,7 +31,8 @@ pub fn call_refusal(
 /// Why a context of this role and cipher, which exports `export_limit` bytes at most, refuses a
 /// call that names it. Without a refusal the call is served.
 ///
-/// The first cause that holds is answered, in the order of [`CallRefusal`]. Takes no memory.
+/// The first cause that holds is answered, in the order of [`CallRefusal`]; for an `Add` or a `Retire`,
+/// which no context serves, it is `NoContext`. Takes no memory.
 pub fn refusal_by(role: Role, aead: Aead, export_limit: u32, call: &CallLine) -> Option<CallRefusal>
     ensures { result ≡ refusal_by role aead export_limit call.now }
 {

@@ -6,7 +6,7 @@ pub const MOST_INPUT: usize = 67_108_864;
 /// The key lines.
 pub const MOST_KEYS: usize = 64;
 
-/// The context lines.
+/// The context lines and the lines that add contexts, together.
 pub const MOST_CONTEXTS: usize = 256;
 
 /// The lanes.

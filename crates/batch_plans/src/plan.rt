@@ -14,7 +14,7 @@ pub type ByteList = PlainList<u8>;
 /// The key lines of a batch, which are numbered from 0.
 pub type KeyLines = PlainList<KeyLine>;
 
-/// The context lines of a batch, which are numbered from 0.
+/// The context lines of a batch, which are numbered from 0, and behind them those that add contexts.
 pub type ContextLines = PlainList<ContextLine>;
 
 /// The items of all calls that open several, in the order of the text.
@@ -30,7 +30,7 @@ pub struct Plan {
     pub version: u8,
     /// The seed of all random bytes, where the batch gives one.
     pub seed: Option<[u8; 32]>,
-    /// The bytes of all bytes fields, one after the other in the order of the text.
+    /// The bytes of all bytes fields but the seed's, one after the other in the order of the text.
     pub pool: ByteList,
     pub keys: KeyLines,
     pub contexts: ContextLines,
@@ -58,12 +58,12 @@ pub enum KeyLine {
     Peer857(Span),
 }
 
-/// Where a recipient finds the encapsulation that it decapsulates.
+/// Where a line finds a message: the encapsulation of a recipient's context, or a capsule.
 #[derive(Clone, Copy, Debug, PartialEq, Eq)]
 pub enum EncField {
     /// The line gives its bytes.
     Bytes(Span),
-    /// It is that of the sender's context of this number.
+    /// It is that of the line of this number: of a sender's context, or of what made the capsule.
     Of(u32),
 }
 

@@ -7,7 +7,7 @@ use call_places::{Entry, Mark, Span};
 /// The replies to the key lines, in their order.
 pub type KeyReplies = PlainList<KeyReply>;
 
-/// The replies to the context lines, in their order.
+/// The replies to the context lines, in their order, and then to the lines that add contexts.
 pub type ContextReplies = PlainList<ContextReply>;
 
 /// The replies of a lane, in the order of its calls and of the items of each call. A call that was
@@ -21,7 +21,7 @@ pub type BatchList = PlainList<Batch>;
 /// The answers of the lanes, in their order.
 pub type LaneAnswerList = PlainList<LaneAnswers>;
 
-/// The journals of the contexts, in the order of the context lines.
+/// The journals of the contexts, in the order of the context lines and of those that add contexts.
 pub type JournalList = PlainList<PlainList<Mark>>;
 
 /// Entries, the oldest first.
@@ -85,10 +85,11 @@ pub enum ContextRefusal {
     PskMissing,
 }
 
-/// Why a call is not served, from the batch alone, in the order in which the causes are tested.
+/// Why a call is not served, in the order in which the causes are tested: it follows from the batch
+/// and its set-up, and where lanes add and retire contexts from the table too.
 #[derive(Clone, Copy, Debug, PartialEq, Eq)]
 pub enum CallRefusal {
-    /// No context has the number that is named, or that context was refused.
+    /// No context has the number that is named, that context was refused, or it isn't live there.
     NoContext,
     /// A recipient was to seal, or a sender to open.
     Role,

@@ -8,6 +8,6 @@ use Rattle.std.specs.Simd.Lanes.{zip2}
 abbrev pub i2osp : ℕ → ℕ → List ℕ
 i2osp n k = bytes_high_first k n
 
--- a XOR b, byte by byte, of two byte strings of one length
+-- a XOR b, byte by byte, up to the end of the shorter; an exclusive or in the standards has one length
 abbrev pub xor_bytes : List ℕ → List ℕ → List ℕ
 xor_bytes a b = zip2 bit_xor a b

@@ -138,16 +138,16 @@ impl CapsuleDraft {
     pub fn finish(self) -> CapsulePlan
         ensures { result ≡ plan_of self }
     {
-        let none = self.alloc;
+        let alloc = self.alloc;
         CapsulePlan {
             plan: Plan {
                 version: 2,
                 seed: self.seed,
                 pool: PlainList::from_vec(self.pool),
                 keys: PlainList::from_vec(self.keys),
-                contexts: PlainList::from_vec(Vec::new(none)),
-                items: PlainList::from_vec(Vec::new(none)),
-                lanes: PlainList::from_vec(Vec::new(none)),
+                contexts: PlainList::from_vec(Vec::new(alloc)),
+                items: PlainList::from_vec(Vec::new(alloc)),
+                lanes: PlainList::from_vec(Vec::new(alloc)),
                 added: 0,
             },
             lines: PlainList::from_vec(self.lines),

@@ -64,8 +64,9 @@ fn last(entries: &[Entry]) -> Option<Entry>
 }
 
 impl Book {
-    /// A book with no entries. `limit` is LIMIT: the numbers 0 to LIMIT - 1 are used. Lane l may
-    /// have `quotas[l]` entries, and all the memory that they need is taken here.
+    /// A book with no entries. `limit` is LIMIT, 1 at least: the numbers 0 to LIMIT - 1 are used. Lane
+    /// l may have `quotas[l]` entries, all lanes 65,536, and all the memory that they need is taken
+    /// here.
     pub fn new(alloc: Global, limit: u64, quotas: &[u32]) -> Result<Book, OutOfMemory>
         requires limit { 1 ≤ limit }
         requires sum { sum quotas.now ≤ 65536 }

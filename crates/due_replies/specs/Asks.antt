@@ -1,5 +1,5 @@
 -- What the calls of a plan ask of the contexts that stand (RFC 9180, 5.2). A call that is refused
--- asks nothing, and neither does an export, which changes no context.
+-- asks nothing, nor does one that adds or retires a context, nor an export, which changes none.
 use Rattle.std.specs.Prelude.{ℕ, List, [], map, false, Option, Some, None}
 use Rattle.call_places.specs.Spans.{span_bytes}
 use Rattle.call_places.specs.Messages.{sealed_messages}

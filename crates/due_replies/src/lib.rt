@@ -3,7 +3,8 @@
 //! `specs/Asks.antt` says what the calls of a plan ask of the contexts that stand, and
 //! `specs/Runs.antt` which lines reply to them: along given journals each item is answered at its
 //! place as HPKE's sequential context answers there (RFC 9180, 5.2), and a refused call and an
-//! export by itself. `IsAllowed` says which journals and guesses there may be.
+//! export by itself. `IsAllowed` says which journals and guesses there may be. `specs/Live.antt` says
+//! the same of lanes that add and retire contexts, with the table besides.
 //!
 //! How keys and contexts are set up is not known here: the contexts that stand are an argument.
 //! [`standing`] looks one up, and [`refusal_of`] tells which calls they refuse.

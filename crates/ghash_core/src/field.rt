@@ -18,8 +18,8 @@ fn by_u(a: u128) -> u128
 
 /// The product of two blocks in GCM's field (SP 800-38D, 6.3). The highest bit is the leftmost.
 ///
-/// This is the standard's algorithm, one bit of `a` at a time. Hashes are taken by tables, which
-/// this call makes.
+/// This is the standard's algorithm, one bit of `a` at a time. Hashes are taken by tables, of which
+/// this call makes the first row.
 #[tactic(auto, using(crate::proofs::Linear::product_steps))]
 pub fn field_mul(a: u128, b: u128) -> u128
     ensures { result ≡ product a b }

@@ -59,7 +59,7 @@ fn expanded_key(secrets: &CipherSecrets) -> Option<GcmKey>
 
 impl Context {
     /// A context of what KeySchedule gave. `limit` is LIMIT: the numbers 0 to LIMIT - 1 are used,
-    /// where the RFC uses all that its nonce can count.
+    /// where the RFC uses all but the last that its nonce can count (RFC 9180, 5.2).
     pub fn new(role: Role, suite: Suite, secrets: Secrets, limit: u64) -> Context
         requires limit { 1 ≤ limit }
         requires suite { aead_of secrets.cipher ≡ suite.aead }

@@ -15,7 +15,8 @@ pub enum CallFault {
     NoCipher = 2,
     /// The sequence number has come to LIMIT.
     Limit = 3,
-    /// The tag doesn't hold at the number that is due: the bytes were changed, or are out of order.
+    /// The tag doesn't hold at the number that is due: the bytes were changed, are too few for a tag,
+    /// are out of order, or are of another context.
     Failed = 4,
     /// More than 255 Nh bytes are asked for.
     ExportSize = 5,

@@ -27,7 +27,7 @@ fn seed(alloc: Global, piece: &[u8]) -> Result<[u8; 32], Stop>
     Ok(seed)
 }
 
-/// What is behind the word of `rand H64`: the seed.
+/// What is behind the word of `rand H64`: the seed. Bytes of another length are refused as `Size`.
 #[tactic(auto, unfolding(crate::specs::Forms::rand, field_text::specs::Fields::next))]
 pub fn read_rand(alloc: Global, fields: &mut Pieces) -> Result<[u8; 32], Stop>
     requires room { sum_by length fields.old < 2 ^ 32 }

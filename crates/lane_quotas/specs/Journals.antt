@@ -9,7 +9,7 @@ abbrev pub written : Option BookView → List Mark → List Mark
 written None journal = journal
 written (Some book) journal = map mark_of book.entries
 
--- there is room for a mark of each entry
+-- there is room for a mark of each entry, and for no more
 abbrev pub HasRoom : Option BookView → List Mark → Type 0
 HasRoom None journal = length journal ≡ length journal
 HasRoom (Some book) journal = length journal ≡ length book.entries

@@ -28,7 +28,8 @@ fn write_book(book: &Option<Book>, journal: &mut PlainList<Mark>)
     }
 }
 
-/// Writes the journals of the contexts that stand, each into the room that was made for it.
+/// Writes the journals of the contexts that stand, each over a list of just as many marks as the book
+/// of its context has entries.
 ///
 /// Where no context stands the journal stays as it was.
 pub fn write_journals(books: &[Option<Book>], journals: &mut [PlainList<Mark>])

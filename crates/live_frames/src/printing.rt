@@ -45,13 +45,10 @@ fn line_count(plan: &Plan) -> usize
     ensures lines { result ≡ lines_in plan.now }
     ensures few { result ≤ length plan.now.contexts }
 {
-    let contexts = plan.contexts.as_slice().len();
-    let added = plan.added as usize;
-    if added < contexts {
-        contexts - added
-    } else {
-        0
-    }
+    plan.contexts
+        .as_slice()
+        .len()
+        .saturating_sub(plan.added as usize)
 }
 
 fn put_answers<K: Sink>(out: &mut Buffer, sink: &mut K, plan: &Plan, answers: &Answers)

@@ -87,8 +87,9 @@ fn asked_by(
 /// Encapsulates a request (RFC 9458, 4.3): the text, sealed to a public key in a context of its own,
 /// behind the header and the encapsulation, of which p random words are the secret.
 ///
-/// `id` is the key identifier, by which the gateway finds its key. After `OutOfMemory` some of the
-/// words may have been taken, and never more.
+/// `id` is the key identifier, by which the gateway finds its key. `text` has at most 2^20 bytes, and
+/// `aead` isn't export-only. After `OutOfMemory` some of the words may have been taken, and never
+/// more.
 pub fn ask<S: KemParams, R: Words, M: Multiplier>(
     alloc: Global,
     words: &mut R,

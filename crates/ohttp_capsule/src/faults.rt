@@ -7,7 +7,7 @@ use std::alloc::AllocError as OutOfMemory;
 use std::error::Error;
 use std::fmt;
 
-/// Why a capsule is refused, in the order in which it is tested.
+/// Why a capsule is refused, in the order in which it is tested; memory may run out before `Failed`.
 #[derive(Clone, Copy, Debug, PartialEq, Eq)]
 pub enum CapsuleFault {
     /// The message is too short for what must stand in it.

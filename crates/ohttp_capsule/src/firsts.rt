@@ -30,8 +30,8 @@ pub(crate) fn sealed_first(
 
 /// ContextR.Open("", ct), at number 0 (RFC 9180, 5.2): the text of a request's ciphertext.
 ///
-/// Refused as [`CapsuleFault::Failed`] where the tag doesn't hold, and as nothing else. The context
-/// isn't changed, and `checks` counts the tag.
+/// Refused as [`CapsuleFault::Failed`] where the tag doesn't hold; else only memory can run out. The
+/// context isn't changed, and `checks` counts the tag.
 pub fn opened_first(
     alloc: Global,
     context: &Context,

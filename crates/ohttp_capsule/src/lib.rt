@@ -9,8 +9,8 @@
 //! another: the header ([`headers`]), the contexts of both ends ([`setups`]), and the first message
 //! of one, opened ([`firsts`]).
 //!
-//! Not here: binary HTTP messages, key configurations and media types (RFC 9458, 3), and where the
-//! nonce of a response comes from, which must be random. Nothing is constant time or wiped.
+//! Not here: binary HTTP messages, key configurations (RFC 9458, 3), media types (3.2 and 4.5), and
+//! where the nonce of a response comes from, which must be random. Nothing is constant time or wiped.
 #![tactic(auto)]
 
 mod answering;

@@ -16,9 +16,12 @@ use std::thread::Threads;
 /// Decapsulates a response (RFC 9458, 4.4) to a request that [`ask`](crate::ask) made: gives its
 /// text.
 ///
+/// `response` has at most 1,048,624 bytes: a nonce of 32, a text of 2^20 and a tag. The suite of
+/// `asked` has a cipher, and its enc at most 1,184 bytes.
+///
 /// Refused as [`CapsuleFault::Short`] where the nonce or the tag isn't there, and then as
-/// [`CapsuleFault::Failed`] where the tag doesn't hold, and as nothing else. `rt` starts no thread: a
-/// count of checked tags is made from it.
+/// [`CapsuleFault::Failed`] where the tag doesn't hold; else only memory can run out. `rt` starts no
+/// thread: a count of checked tags is made from it.
 pub fn take<R: Threads + Sync>(
     rt: &R,
     alloc: Global,

@@ -25,7 +25,7 @@ fn digits_of(alloc: Global, values: &[u16], radices: &[u16]) -> Result<Vec<Digit
 
 /// Encode (NTRU Prime round 3): the bytes of these digits, each below the radix at its place.
 ///
-/// Each radix is from 1 to 16383. The number of bytes depends on the radices alone.
+/// There is a radix, and each is from 1 to 16383. The number of bytes depends on the radices alone.
 pub fn encode(alloc: Global, digits: &[u16], radices: &[u16]) -> Result<ByteList, OutOfMemory>
     requires some { 0 < length radices.now }
     requires radices { AreRadices radices.now }
@@ -39,9 +39,9 @@ pub fn encode(alloc: Global, digits: &[u16], radices: &[u16]) -> Result<ByteList
 
 /// Decode (NTRU Prime round 3): the digits below these radices that `bytes` stand for.
 ///
-/// Each radix is from 1 to 16383. Every byte string of the length that [`encode`] gives for these
-/// radices decodes, so several may decode to the same digits. It takes the memory of the digits,
-/// and a scratch of twice as much for the radices of all levels, which it gives back.
+/// There is a radix, and each is from 1 to 16383. Every byte string of the length that [`encode`]
+/// gives for these radices decodes, so several may decode to the same digits. It takes the memory of
+/// the digits, and a scratch of twice as much for the radices of all levels, which it gives back.
 pub fn decode(alloc: Global, bytes: &[u8], radices: &[u16]) -> Result<DigitList, OutOfMemory>
     requires some { 0 < length radices.now }
     requires radices { AreRadices radices.now }

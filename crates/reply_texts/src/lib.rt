@@ -4,7 +4,8 @@
 //! and reasons, `specs/Lines.antt` the lines of keys, contexts, replies and guesses, and
 //! `specs/ReplyText.antt` which of a lane's replies are whose, and the whole text, for version 1
 //! and version 2 of the batch text. `answers_text` is the text of given answers to a plan, which
-//! request_frames prints. Which answers a plan is due is not known here.
+//! request_frames prints, and `live_text` of `specs/LiveText.antt` that of a plan whose lanes add and
+//! retire contexts, which live_frames prints. Which answers a plan is due is not known here.
 //!
 //! `proofs/Calls.antt` adds the lines of one call more to those of the calls before it, and
 //! `proofs/Pools.antt` says that bytes written behind the replies' spans change no line.

@@ -30,8 +30,8 @@ pub fn read_number(field: &[u8], least: u64, most: u64) -> Result<u64, Reason>
 /// A bytes field of at most `most` bytes, which go to the end of `pool`: the span that names them
 /// there, or the first reason why it is none.
 ///
-/// For `-` it is an empty span at the pool's end. After a refusal, and for want of memory, the pool
-/// has the bytes that it had.
+/// For `-` it is an empty span at the pool's end. The pool's bytes and `most` are below 2^32 together.
+/// After a refusal, and for want of memory, the pool has the bytes that it had.
 pub fn read_bytes(
     _alloc: Global,
     field: &[u8],

@@ -110,7 +110,7 @@ impl<'a> Told<'a> {
         &self.journals
     }
 
-    // The next line has to be this one.
+    /// The next line has to be this one.
     #[tactic(auto, unfolding(crate::specs::Told::with_line))]
     pub fn expect(&mut self, due: &[u8]) -> Result<(), Stop>
         ensures { Tells (λ _. self.new) result (with_line due.now self.old) }
@@ -118,7 +118,7 @@ impl<'a> Told<'a> {
         self.lines.expect(due)
     }
 
-    // The next line has to be a word and a number.
+    /// The next line has to be a word and a number.
     pub fn expect_numbered(&mut self, alloc: Global, word: &[u8], number: u64) -> Result<(), Stop>
         ensures { Tells (λ _. self.new) result
             (with_line (word.now ++ decimal number ++ codes "\n") self.old) }

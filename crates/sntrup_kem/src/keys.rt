@@ -14,7 +14,7 @@ use std::error::Error;
 use std::fmt;
 use std::marker::{Model, PhantomData};
 
-/// Why bytes are no key, in the order in which it is tested.
+/// Why bytes give no key, in the order in which it is tested; memory may run out before `Form`.
 #[derive(Clone, Copy, Debug, PartialEq, Eq)]
 pub enum KeyBytesFault {
     /// They are too few or too many.

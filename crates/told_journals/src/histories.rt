@@ -112,11 +112,7 @@ fn are_within(history: &[Spot], contexts: usize, lanes: usize) -> bool
 fn places_of(alloc: Global, history: &[Spot]) -> Result<Vec<Place>, AllocError>
     ensures { IfOk result (λ places. places.items ≡ map (λ s. s.place) history.now) }
 {
-    let mut places = Vec::new(alloc);
-    'history: for spot in history {
-        places.push(spot.place())?;
-    }
-    Ok(places)
+    history.iter().map(|spot| spot.place()).collect(alloc)
 }
 
 // Whether a list of places of so many contexts is a history of the batch.
