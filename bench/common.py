@@ -10,10 +10,27 @@ HOME = os.path.dirname(os.path.dirname(os.path.abspath(__file__)))
 RUNS = 5
 
 
-def build(folder, program, crates, uses):
-    """Puts the program of bench/PROGRAM_main.txt beside the crates into a folder, has it proved and
-    built there as the gate builds its programs, and gives its path."""
-    for name in crates:
+def rows_of(names):
+    """The lines of crates.txt for these crates and all that they use, by their names, in its order."""
+    rows, needed, left = {}, set(), [*names]
+    with open(os.path.join(HOME, "crates.txt")) as file:
+        for line in file:
+            if ":" in line.partition("#")[0]:
+                rows[line.partition(":")[0].split()[0]] = line
+    while left:
+        name = left.pop()
+        if name in rows and name not in needed:
+            needed.add(name)
+            left += rows[name].partition(":")[2].split()
+    return {name: row for name, row in rows.items() if name in needed}
+
+
+def build(folder, program, uses):
+    """Puts the program of bench/PROGRAM_main.txt into a folder, beside the crates that it uses and those
+    below them, has it proved and built there by `rt ci`, over what that has kept on the machine, and gives
+    its path. There it is run with nothing on standard input, and has to print nothing."""
+    rows = rows_of(uses)
+    for name in rows:
         for part in ["src", "specs", "proofs"]:
             source = os.path.join(HOME, "crates", name, part)
             if os.path.isdir(source):
@@ -22,11 +39,9 @@ def build(folder, program, crates, uses):
     os.makedirs(os.path.join(crate, "src"))
     shutil.copy(os.path.join(HOME, "bench", f"{program}_main.txt"), os.path.join(crate, "src/main.rt"))
     shutil.copy(os.path.join(HOME, "HANDLES"), folder)
-    with open(os.path.join(HOME, "crates.txt")) as file:
-        lines = [line for line in file if line.split(":")[0].split(" ")[0] in crates]
     with open(os.path.join(folder, "crates.txt"), "w") as file:
-        file.writelines(lines + [f"{program}: {' '.join(uses)}\n"])
-    built = subprocess.run(["rt", "run"], cwd=crate, stdout=subprocess.PIPE, stderr=subprocess.STDOUT)
+        file.writelines([*rows.values(), f"{program}: {' '.join(uses)}\n"])
+    built = subprocess.run(["rt", "ci"], cwd=folder, stdout=subprocess.PIPE, stderr=subprocess.STDOUT)
     if built.returncode != 0:
         sys.exit(f"bench: the build failed:\n{built.stdout.decode()[-2000:]}")
     return os.path.join(crate, "out", program)
@@ -36,7 +51,7 @@ def rounds(program):
     """The lines that the program prints in all its runs, one for each round of a work."""
     lines = []
     for _ in range(RUNS):
-        ended = subprocess.run([program], stdout=subprocess.PIPE, check=True)
+        ended = subprocess.run([program], input=b"\n", stdout=subprocess.PIPE, check=True)
         lines += ended.stdout.decode().splitlines()
     return lines
 
