@@ -7,30 +7,20 @@ import subprocess
 import sys
 
 HOME = os.path.dirname(os.path.dirname(os.path.abspath(__file__)))
+sys.path.insert(0, os.path.join(HOME, "tools"))
+from crate_rows import rows_in, with_those_below  # noqa: E402
+
 RUNS = 5
-
-
-def rows_of(names):
-    """The lines of crates.txt for these crates and all that they use, by their names, in its order."""
-    rows, needed, left = {}, set(), [*names]
-    with open(os.path.join(HOME, "crates.txt")) as file:
-        for line in file:
-            if ":" in line.partition("#")[0]:
-                rows[line.partition(":")[0].split()[0]] = line
-    while left:
-        name = left.pop()
-        if name in rows and name not in needed:
-            needed.add(name)
-            left += rows[name].partition(":")[2].split()
-    return {name: row for name, row in rows.items() if name in needed}
 
 
 def build(folder, program, uses):
     """Puts the program of bench/PROGRAM_main.txt into a folder, beside the crates that it uses and those
     below them, has it proved and built there by `rt ci`, over what that has kept on the machine, and gives
     its path. There it is run with nothing on standard input, and has to print nothing."""
-    rows = rows_of(uses)
-    for name in rows:
+    with open(os.path.join(HOME, "crates.txt")) as file:
+        rows = rows_in(file.read())
+    needed = with_those_below(uses, rows)
+    for name in needed:
         for part in ["src", "specs", "proofs"]:
             source = os.path.join(HOME, "crates", name, part)
             if os.path.isdir(source):
@@ -40,7 +30,8 @@ def build(folder, program, uses):
     shutil.copy(os.path.join(HOME, "bench", f"{program}_main.txt"), os.path.join(crate, "src/main.rt"))
     shutil.copy(os.path.join(HOME, "HANDLES"), folder)
     with open(os.path.join(folder, "crates.txt"), "w") as file:
-        file.writelines([*rows.values(), f"{program}: {' '.join(uses)}\n"])
+        file.writelines(f"{rows[name]}\n" for name in rows if name in needed)
+        file.write(f"{program}: {' '.join(uses)}\n")
     built = subprocess.run(["rt", "ci"], cwd=folder, stdout=subprocess.PIPE, stderr=subprocess.STDOUT)
     if built.returncode != 0:
         sys.exit(f"bench: the build failed:\n{built.stdout.decode()[-2000:]}")
