@@ -4,7 +4,8 @@ for the key of stream 0 of the seed of 32 zero bytes, by the definitions of sntr
 SHA-512.
 
 The ciphertexts are that of stream 1 with one bit flipped, and what Hide makes of an r of weight
-w - 1: ones followed by zeros. That one is decrypted to its r, and its hash is right.
+w - 1: ones followed by zeros. There e/g is that r again, and for its weight alone Decrypt gives w
+ones and zeros in its place; the hash is right.
 
     python3 tools/vectors/sntrup_reject.py
 

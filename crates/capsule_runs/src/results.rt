@@ -122,7 +122,5 @@ pub(crate) type TakeResult = Result<ByteList, CapsuleRefusal>;
 pub(crate) fn copied(alloc: Global, bytes: &[u8]) -> Result<ByteList, OutOfMemory>
     ensures { IfOk result (λ b. b ≡ bytes.now) }
 {
-    let mut copy = Vec::with_capacity(alloc, bytes.len())?;
-    copy.extend_from_slice(bytes)?;
-    Ok(PlainList::from_vec(copy))
+    Ok(PlainList::from_vec(Vec::from_slice(alloc, bytes)?))
 }

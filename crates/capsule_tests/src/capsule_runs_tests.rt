@@ -109,6 +109,7 @@ fn hash_of_reply<R: Threads + Abort + Sync>(rt: &R, alloc: Global, text: &[u8]) 
         panic!(rt; "a batch");
     };
     let answers = serve_capsules(rt, alloc, &plan, &Plain).expect(rt, "memory");
+    // The largest reply here has about 9 MB.
     let room = vec![in alloc; 0u8; 12_000_000].expect(rt, "memory");
     let mut sink = MemorySink::new(room, 65_536, Vec::new(alloc));
     let printed = print_capsules(&answers.keys, answers.replies.as_slice(), &mut sink);
@@ -177,16 +178,16 @@ fn large_batch(alloc: Global) -> Result<Vec<u8>, Fail> {
     Ok(text)
 }
 
-// The hash: as above.
+// Own, by tools/vectors/capsule_replies.py large.
 #[test]
-fn a_large_batch(rt: HostRuntime) -> Result<(), Fail> {
+fn the_largest_texts_and_256_lines_of_each_kind_are_answered(rt: HostRuntime) -> Result<(), Fail> {
     let text = large_batch(rt.alloc())?;
     let got = hash_of_reply(&rt, rt.alloc(), &text);
     assert_same(
         &rt,
         got,
         <[u8; 32]>::from_hex("7e0f38ef629822b925dfd66c09226ce5be1bc3a1e9e3206bd59c27fecffa6c95")?,
-        "got",
+        "the reply",
     );
     Ok(())
 }

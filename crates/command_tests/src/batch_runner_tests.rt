@@ -1,5 +1,6 @@
 //! Whole runs over memory: tests of batch_runner.
 
+mod faults;
 mod hostile;
 mod live;
 mod other_runs;
@@ -7,7 +8,7 @@ mod runs;
 mod threads;
 
 use crate::batch_runner_tests::other_runs::{BAD, EXCHANGES, Exchange, OTHERS};
-use crate::batch_runner_tests::runs::{RUNS, Run, SCHEDULED};
+use crate::batch_runner_tests::runs::{OPENINGS_AND_SCHEDULES, RUNS, Run};
 use crate::expected::assert_same;
 use batch_io::{FreeGate, Gate, MemorySink, MemorySource, PureSink, PureSource};
 use batch_runner::{Outcome, serve_pure, serve_words, status};
@@ -19,92 +20,8 @@ use std::sync::Wait;
 use std::test::Fail;
 use std::thread::Threads;
 
-// A run whose source or sink fails in the calls of these numbers, counted from 1.
-struct Fault {
-    name: &'static str,
-    input: &'static str,
-    failing_reads: &'static [u32],
-    failing_writes: &'static [u32],
-    sink_step: usize,
-    outcome: Outcome,
-    written: &'static str,
-}
-
-const EMPTY: &'static str = "hpkebatch 1\nend\n";
-
-// Rows: own, by hand. Reads give 4 bytes a call.
-const FAULTS: [Fault; 6] = [
-    Fault {
-        name: "the third read fails",
-        input: EMPTY,
-        failing_reads: &[3],
-        failing_writes: &[],
-        sink_step: 4,
-        outcome: Outcome::ReadFault,
-        written: "",
-    },
-    Fault {
-        name: "the read at the end fails",
-        input: EMPTY,
-        failing_reads: &[5],
-        failing_writes: &[],
-        sink_step: 4,
-        outcome: Outcome::ReadFault,
-        written: "",
-    },
-    Fault {
-        name: "the first write fails",
-        input: EMPTY,
-        failing_reads: &[],
-        failing_writes: &[1],
-        sink_step: 4,
-        outcome: Outcome::WriteFault,
-        written: "",
-    },
-    Fault {
-        name: "the second write fails",
-        input: EMPTY,
-        failing_reads: &[],
-        failing_writes: &[2],
-        sink_step: 4,
-        outcome: Outcome::WriteFault,
-        written: "hpke",
-    },
-    Fault {
-        name: "the first write of a bad line fails",
-        input: "",
-        failing_reads: &[],
-        failing_writes: &[1],
-        sink_step: 4,
-        outcome: Outcome::WriteFault,
-        written: "",
-    },
-    Fault {
-        name: "a byte a write, and no fault",
-        input: EMPTY,
-        failing_reads: &[],
-        failing_writes: &[],
-        sink_step: 1,
-        outcome: Outcome::Done,
-        written: EMPTY,
-    },
-];
-
-// Words outside the command grammar.
-const USAGE: [&'static [&'static str]; 12] = [
-    &[],
-    &["Run"],
-    &["run", "run"],
-    &["run", "--workers", "0"],
-    &["run", "--workers", "17"],
-    &["run", "--workers", "04"],
-    &["run", "--mult", "fast"],
-    &["run", "--"],
-    &["rehearse"],
-    &["rehearse", "16"],
-    &["rehearse", "0,"],
-    &["--help"],
-];
+// The shortest batch, which is its own reply.
+pub const EMPTY: &'static str = "hpkebatch 1\nend\n";
 
 // Words that ask for a run.
 const RUN_WORDS: [&'static [&'static str]; 4] = [
@@ -183,13 +100,13 @@ fn assert_runs<R: Abort + Threads + Wait + Sync>(rt: &R, alloc: Global, runs: &[
 }
 
 #[test]
-fn each_batch_of_one_lane_gets_its_text(rt: HostRuntime) {
+fn each_batch_of_at_most_one_lane_gets_its_text(rt: HostRuntime) {
     assert_runs(&rt, rt.alloc(), RUNS.as_slice());
 }
 
 #[test]
-fn each_batch_of_lanes_gets_its_text(rt: HostRuntime) {
-    assert_runs(&rt, rt.alloc(), SCHEDULED.as_slice());
+fn each_batch_with_an_opening_or_a_schedule_gets_its_text(rt: HostRuntime) {
+    assert_runs(&rt, rt.alloc(), OPENINGS_AND_SCHEDULES.as_slice());
 }
 
 #[test]
@@ -257,49 +174,6 @@ fn pure_ends_are_served(rt: HostRuntime) -> Result<(), Fail> {
     let gate = FreeGate::new();
     let outcome = serve_pure(&rt, alloc, &words, &mut source, &mut sink, &gate);
     assert_same(&rt, outcome, Outcome::Done, "outcome");
-    Ok(())
-}
-
-fn end_with<R: Abort + Threads + Wait + Sync>(
-    rt: &R,
-    alloc: Global,
-    fault: &Fault,
-) -> (Outcome, MemorySink) {
-    let input = fault.input.as_bytes().to_vec(alloc).expect(rt, "memory");
-    let failing_reads = fault.failing_reads.to_vec(alloc).expect(rt, "memory");
-    let failing_writes = fault.failing_writes.to_vec(alloc).expect(rt, "memory");
-    let room = vec![in alloc; 0; 64].expect(rt, "memory");
-    let source = MemorySource::new(input, 4, failing_reads);
-    let mut sink = MemorySink::new(room, fault.sink_step.max(1), failing_writes);
-    let outcome = outcome_of(rt, alloc, &["run"], source, &mut sink, &FreeGate::new());
-    (outcome, sink)
-}
-
-#[test]
-fn a_fault_leaves_a_front_of_the_text(rt: HostRuntime) {
-    for case in &FAULTS {
-        let end = end_with(&rt, rt.alloc(), case);
-        assert_end(&rt, &end, case.outcome, case.written.as_bytes(), case.name);
-    }
-}
-
-// The outcome where a call of either end would be a fault.
-fn untouched<R: Abort + Threads + Wait + Sync>(
-    rt: &R,
-    alloc: Global,
-    words: &[&str],
-) -> Result<Outcome, AllocError> {
-    let source = MemorySource::new(Vec::new(alloc), 1, [1].to_vec(alloc)?);
-    let mut sink = MemorySink::new(Vec::new(alloc), 1, [1].to_vec(alloc)?);
-    Ok(outcome_of(rt, alloc, words, source, &mut sink, &FreeGate::new()))
-}
-
-#[test]
-fn other_words_read_and_write_nothing(rt: HostRuntime) -> Result<(), Fail> {
-    for words in &USAGE {
-        let outcome = untouched(&rt, rt.alloc(), words)?;
-        assert_same(&rt, outcome, Outcome::Usage, "outcome");
-    }
     Ok(())
 }
 

@@ -17,7 +17,7 @@ use turn_lock::{Pass, PassList};
 
 // Own: an act on a name, and whether the name was live before. It is live from its Add to the next
 // Retire, whatever is done to another.
-const NOTES: [(Act, u32, bool); 9] = [
+const NOTES: [(Act, u32, bool); 14] = [
     (Act::Look, 0, false),
     (Act::Add, 0, false),
     (Act::Look, 0, true),
@@ -27,6 +27,11 @@ const NOTES: [(Act, u32, bool); 9] = [
     (Act::Look, 0, false),
     (Act::Add, 0, false),
     (Act::Look, 1, true),
+    (Act::Add, 0, true),
+    (Act::Look, 0, true),
+    (Act::Retire, 255, false),
+    (Act::Add, 255, false),
+    (Act::Look, 255, true),
 ];
 
 // Notes each case at a call of its own, and compares the answers.
@@ -36,15 +41,15 @@ fn note_cases<R: Wait>(
     counter: &StampCounter,
     lane: (Pass, StampSeat),
 ) -> Result<Pass, Fail>
-    requires names { table.now.names ≡ 2 }
+    requires names { table.now.names ≡ 256 }
     requires counter { table.now.lock.terms.counter ≡ counter.now.id }
-    requires ready { MayDraw table.now.lock 0 9 lane.0 × IsNote counter.now.id lane.1 }
+    requires ready { MayDraw table.now.lock 0 14 lane.0 × IsNote counter.now.id lane.1 }
     ensures { IfOk result (λ p. p.lock ≡ table.now.lock) }
 {
     let (mut pass, mut seat) = lane;
-    for call in 0..9u32 {
+    for call in 0..14u32 {
         let (act, name, live) = NOTES[call as usize];
-        if name > 1 {
+        if name > 255 {
             return Err("a name of the table".into());
         }
         let (told, next, note) = table.note(rt, pass, counter, seat, call, name, act);
@@ -59,10 +64,10 @@ fn note_cases<R: Wait>(
 
 // The entries of a new table once each case is noted, and how many stamps were drawn.
 fn entries_of_cases<R: Wait>(rt: &R, alloc: Global) -> Result<(Vec<Entry>, u64), Fail> {
-    let (counter, mut seats) = StampCounter::new(alloc, &[9, 0])?;
+    let (counter, mut seats) = StampCounter::new(alloc, &[14, 0])?;
     let seat = seats.take().ok_or("the table's seat")?;
     let lane_seat = seats.take().ok_or("the lane's seat")?;
-    let (table, mut passes) = LiveTable::new(alloc, 2, &[9], seat)?;
+    let (table, mut passes) = LiveTable::new(alloc, 256, &[14], seat)?;
     let pass = passes.take().ok_or("the pass")?;
     let pass = note_cases(rt, &table, &counter, (pass, lane_seat))?;
     passes.put(pass);
@@ -89,7 +94,7 @@ fn a_look_finds_what_was_added_and_not_retired(rt: HostRuntime) -> Result<(), Fa
         assert_same(&rt, entries.get(call as usize), Some(&wanted), "entry");
         call = call.wrapping_add(1);
     }
-    assert_same(&rt, stamps, 9, "stamps");
+    assert_same(&rt, stamps, 14, "stamps");
     Ok(())
 }
 

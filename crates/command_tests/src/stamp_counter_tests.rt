@@ -8,6 +8,7 @@ use stamp_counter::{
     SeatList, StampCounter, StampSeat, each_step_keeps_the_rule, the_rule_tells_stamps_apart,
 };
 use std::alloc::{AllocError as OutOfMemory, Global};
+use std::sync::atomic::{AtomicBool, Ordering};
 use std::test::Fail;
 use std::thread::{Threads, for_each_mut};
 
@@ -42,22 +43,33 @@ fn stamps_are_drawn_once_each(rt: HostRuntime) -> Result<(), Fail> {
     Ok(())
 }
 
-// Draws 250 stamps, one after another.
-fn draw_each(counter: &StampCounter, seat: &mut StampSeat)
+fn set_mark(marks: &[AtomicBool], stamp: u64) {
+    if let Some(mark) = marks.get(stamp as usize) {
+        mark.store(true, Ordering::SeqCst);
+    }
+}
+
+// Draws 250 stamps, one after another, and marks each.
+fn draw_each(counter: &StampCounter, marks: &[AtomicBool], seat: &mut StampSeat)
     requires { MayDraw counter.now.id seat.old }
     ensures { Holds counter.now.id seat.new }
 {
     for _ in 0..250u32 {
-        counter.draw(seat, 1);
+        set_mark(marks, counter.draw(seat, 1));
     }
 }
 
 // Eight threads draw from one counter.
-fn draw_all<R: Threads + Sync>(rt: &R, counter: &StampCounter, seats: &mut [StampSeat])
+fn draw_all<R: Threads + Sync>(
+    rt: &R,
+    counter: &StampCounter,
+    marks: &[AtomicBool],
+    seats: &mut [StampSeat],
+)
     requires { All (MayDraw counter.now.id) seats.old }
     ensures { All (Holds counter.now.id) seats.new × (length seats.new ≡ length seats.old) }
 {
-    for_each_mut(rt, seats, 8, &|_, seat| draw_each(counter, seat));
+    for_each_mut(rt, seats, 8, &|_, seat| draw_each(counter, marks, seat));
 }
 
 // The seats of a new counter.
@@ -71,7 +83,7 @@ fn hand_out(alloc: Global, mut list: SeatList) -> Result<Vec<StampSeat>, OutOfMe
     Ok(seats)
 }
 
-// All that these seats drew and have left, with one.
+// One seat, with all that these drew and have left.
 fn join_all(counter: &StampCounter, mut seats: Vec<StampSeat>) -> Option<StampSeat>
     requires { All (Holds counter.now.id) seats.items }
     ensures { IfSome result (λ s. (s.counter ≡ counter.now.id)
@@ -84,11 +96,23 @@ fn join_all(counter: &StampCounter, mut seats: Vec<StampSeat>) -> Option<StampSe
     Some(all)
 }
 
+// So many marks, and none is set.
+fn no_marks(alloc: Global, count: usize) -> Result<Vec<AtomicBool>, OutOfMemory> {
+    let mut marks = Vec::new(alloc);
+    for _ in 0..count {
+        marks.push(AtomicBool::new(false))?;
+    }
+    Ok(marks)
+}
+
+// 2000 draws mark 2000 numbers: so each of them is drawn once.
 #[test]
 fn eight_threads_draw_each_stamp_once(rt: HostRuntime) -> Result<(), Fail> {
     let (counter, list) = StampCounter::new(rt.alloc(), &[250; 8])?;
     let mut seats = hand_out(rt.alloc(), list)?;
-    draw_all(&rt, &counter, seats.as_mut_slice());
+    let marks = no_marks(rt.alloc(), 2000)?;
+    draw_all(&rt, &counter, &marks, seats.as_mut_slice());
+    assert!(rt; marks.iter().all(|mark| mark.load(Ordering::SeqCst)));
     let seat = join_all(&counter, seats).ok_or("a seat")?;
     assert_same(&rt, counter.close(seat), 2000, "stamps drawn");
     Ok(())

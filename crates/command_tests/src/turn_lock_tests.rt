@@ -205,12 +205,14 @@ fn the_lowest_pass_is_taken_first(rt: HostRuntime) -> Result<(), Fail> {
         );
     }
     let _ = lock;
+    // The laws, at a concrete type.
     the_rule_tells_seats_apart::<Log>();
     each_step_keeps_the_rule::<Log>();
     Ok(())
 }
 
-// Two threads share the lock of any value that may be sent, and passes are sent to them.
+// Two threads share the lock of any value that may be sent, and passes are sent to them. Never run:
+// that it is proved and compiled shows that any such lock may be shared and a pass sent.
 fn visit_both<V: Listed + Send, R: Threads + Wait + Sync>(
     rt: &R,
     lock: &TurnLock<V>,

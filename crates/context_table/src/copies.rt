@@ -9,7 +9,5 @@ use std::alloc::{AllocError, Global};
 pub(crate) fn copied(alloc: Global, bytes: &[u8]) -> Result<ByteList, AllocError>
     ensures { IfOk result (λ b. b ≡ bytes.now) }
 {
-    let mut copy = Vec::with_capacity(alloc, bytes.len())?;
-    copy.extend_from_slice(bytes)?;
-    Ok(PlainList::from_vec(copy))
+    Ok(PlainList::from_vec(Vec::from_slice(alloc, bytes)?))
 }

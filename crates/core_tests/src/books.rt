@@ -1,8 +1,10 @@
 //! Books over published messages: numbers that are drawn, and openings with verdicts that were found
 //! ahead of time.
 
-use crate::expected::assert_same;
-use crate::messages::{Message, POOL, Settled, context_of, items_of, settle_three};
+use crate::expected::{assert_at, assert_same};
+use crate::messages::{
+    CALL, FIRST_STAMP, LANE, Message, POOL, Settled, context_of, items_of, settle_three,
+};
 use call_places::{Entry, Listed, Place, Step};
 use context_books::{Book, Draw};
 use hex::FromHex;
@@ -74,8 +76,24 @@ fn expect(rt: &impl Abort, settled: &Settled, case: &OpeningCase) {
     let name = case.name;
     assert_same(rt, settled.steps, case.steps, name);
     assert_same(rt, settled.missed, case.missed, name);
-    assert!(rt; settled.checked <= u64::from(settled.missed), "{name}");
+    assert_same(rt, settled.checked, u64::from(settled.missed), name);
     assert_same(rt, settled.due, case.seq, name);
+}
+
+fn expect_entries(rt: &impl Abort, entries: &[Entry], case: &OpeningCase) {
+    assert_same(rt, entries.len(), 3, case.name);
+    for (i, (entry, step)) in entries.iter().zip(&case.steps).enumerate() {
+        let want = Entry {
+            place: Place {
+                lane: LANE,
+                call: CALL,
+                item: i as u32,
+            },
+            stamp: FIRST_STAMP.wrapping_add(i as u64),
+            step: *step,
+        };
+        assert_at(rt, *entry, want, case.name, i);
+    }
 }
 
 #[test]
@@ -88,6 +106,7 @@ fn items_are_opened_one_after_another(rt: HostRuntime) -> Result<(), Fail> {
         let items = items_of(case.messages);
         let settled = settle_three(&rt, rt.alloc(), &context, &pool, &items, guess)?;
         expect(&rt, &settled, case);
+        expect_entries(&rt, settled.entries.as_slice(), case);
     }
     Ok(())
 }

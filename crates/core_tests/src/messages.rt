@@ -10,7 +10,7 @@ ghost use Rattle.batch_plans.specs.Room.{opened_room};
 ghost use Rattle.core_tests.specs.SmallPlans.{IsOfTests};
 
 use aes_gcm::Checks;
-use call_places::{Item, Span, Step};
+use call_places::{Entry, Item, Span, Step};
 use context_books::Book;
 use hex::FromHex;
 use hkdf_labelled::{Aead, Kdf, Prk, Suite};
@@ -111,13 +111,22 @@ pub(crate) fn items_of(messages: [Message; 3]) -> [Item; 3]
     [item(first), item(second), item(third)]
 }
 
+// The lane and the call that three items are opened in, and the stamp of the first of them.
+pub(crate) const LANE: u32 = 0;
+
+pub(crate) const CALL: u32 = 4;
+
+pub(crate) const FIRST_STAMP: u64 = 7;
+
 /// What became of three items, opened one after another.
-#[derive(Clone, Copy)]
+#[derive(Drop)]
 pub(crate) struct Settled {
     /// The number that was due before them, and the one that is due after them.
     pub(crate) first: u64,
     pub(crate) due: u64,
     pub(crate) steps: [Step; 3],
+    /// What the book has written down.
+    pub(crate) entries: Vec<Entry>,
     /// How many of their numbers the guess missed, and how many tags were checked again.
     pub(crate) missed: u32,
     pub(crate) checked: u64,
@@ -148,9 +157,9 @@ pub(crate) fn settle_three<R: Threads + Sync>(
         context,
         pool,
         items,
-        0,
-        4,
-        7,
+        LANE,
+        CALL,
+        FIRST_STAMP,
         &table,
         &mut steps,
         &mut checks,
@@ -159,6 +168,7 @@ pub(crate) fn settle_three<R: Threads + Sync>(
         first,
         due: book.seq(),
         steps,
+        entries: Vec::from_slice(alloc, book.entries())?,
         missed,
         checked: checks.count(),
     })

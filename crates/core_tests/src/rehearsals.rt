@@ -4,7 +4,10 @@ mod plans;
 mod rows;
 mod wants;
 
-use plans::{A0, A1, C0, C1, P, X1, rehearsed, seal, unseal, unseal_all};
+use plans::{
+    A0, A1, C0, C1, CHANGED_TAG_AT, FIVE_CHANGED_TAGS_AT, P, REPLAY_AT, STALE_GUESS_AT,
+    TWO_CONTEXTS_AT, X1, rehearsed, seal, unseal, unseal_all,
+};
 use rows::{
     CHANGED_TAG, FIVE_CHANGED_TAGS, LANE_1_FIRST, LANES_NOT_THERE, LIMIT_1, REPLAY, STALE_GUESS,
     TWO_CONTEXTS,
@@ -32,12 +35,19 @@ fn seals_take_numbers_in_the_order_of_the_schedule(rt: HostRuntime) {
 }
 
 fn changed_tag<R: Threads + Sync + Abort>(rt: &R, alloc: Global) {
-    let answers = rehearsed(rt, alloc, 9, &[unseal_all(0, 3)], &[], &[]);
+    let answers = rehearsed(rt, alloc, 9, &[unseal_all(CHANGED_TAG_AT, 3)], &[], &[]);
     expect(rt, alloc, &answers, &CHANGED_TAG);
 }
 
 fn five_changed_tags<R: Threads + Sync + Abort>(rt: &R, alloc: Global) {
-    let answers = rehearsed(rt, alloc, 9, &[unseal_all(3, 6)], &[], &[]);
+    let answers = rehearsed(
+        rt,
+        alloc,
+        9,
+        &[unseal_all(FIVE_CHANGED_TAGS_AT, 6)],
+        &[],
+        &[],
+    );
     expect(rt, alloc, &answers, &FIVE_CHANGED_TAGS);
 }
 
@@ -46,7 +56,7 @@ fn stale_guess<R: Threads + Sync + Abort>(rt: &R, alloc: Global) {
         rt,
         alloc,
         9,
-        &[unseal_all(9, 1)],
+        &[unseal_all(STALE_GUESS_AT, 1)],
         &[unseal(A0, C0)],
         &[0, 1, 1, 1, 1],
     );
@@ -54,7 +64,7 @@ fn stale_guess<R: Threads + Sync + Abort>(rt: &R, alloc: Global) {
 }
 
 fn replay<R: Threads + Sync + Abort>(rt: &R, alloc: Global) {
-    let answers = rehearsed(rt, alloc, 9, &[unseal_all(10, 2)], &[], &[]);
+    let answers = rehearsed(rt, alloc, 9, &[unseal_all(REPLAY_AT, 2)], &[], &[]);
     expect(rt, alloc, &answers, &REPLAY);
 }
 
@@ -72,7 +82,7 @@ fn two_contexts<R: Threads + Sync + Abort>(rt: &R, alloc: Global) {
         rt,
         alloc,
         9,
-        &[seal(A0, P), unseal_all(12, 2)],
+        &[seal(A0, P), unseal_all(TWO_CONTEXTS_AT, 2)],
         &[seal(A1, P)],
         &[0, 0, 0, 0, 1, 0],
     );

@@ -40,7 +40,7 @@ fn room_for(alloc: Global, bytes: usize, replies: usize) -> Result<LaneProgress,
 }
 
 // RFC 9180, A.1.1.1, the ciphertexts of the sequence numbers 0 and 1; own: nothing for a seal at
-// LIMIT; RFC 9180, A.1.1.2, the export of an empty context.
+// LIMIT; RFC 9180, A.1.1.2, the export for an empty exporter_context.
 const SEALED: &str = "\
     f938558b5d72f1a23810b4be2ab4f84331acc02fc97babc53a52ae8218a355a96d8770ac83d07bea87e13c512a\
     af2d7e9ac9ae7e270f46ba1f975be53c09f8d875bdc8535458c2494e8a6eab251c03d0c22a56b8ca42c2063b84\

@@ -18,7 +18,7 @@ const KEY: &str = "4531685d41d65f03dc48f6b8302c05b0";
 
 const BASE_NONCE: &str = "56d890e5accaaf011cff4b7d";
 
-// A table that was filled at another guess before.
+// A table that was filled at LIMIT before.
 fn table_of<R: Threads + Sync>(
     rt: &R,
     alloc: Global,

@@ -141,10 +141,8 @@ fn decode_blocks(digits: &[u8], room: &mut [u8]) -> Option<usize>
 {
     let mut done = 0usize;
     'lanes: while room.len() - done >= 16 {
-        match block(digits, 2 * done) {
-            Some(bytes) => u8x16::from_array(bytes).copy_to_slice(&mut room[done..]),
-            None => return None,
-        }
+        let bytes = block(digits, 2 * done)?;
+        u8x16::from_array(bytes).copy_to_slice(&mut room[done..]);
         done += 16;
     }
     Some(done)

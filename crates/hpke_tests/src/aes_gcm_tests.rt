@@ -20,8 +20,8 @@ struct SealCase {
     tag: &'static str,
 }
 
-// McGrew and Viega, The Galois/Counter Mode of Operation (GCM), appendix B.
-const SEALS: [SealCase; 8] = [
+// McGrew and Viega, The Galois/Counter Mode of Operation (GCM), appendix B, and one of our own.
+const SEALS: [SealCase; 9] = [
     SealCase {
         source: "GCM specification, test case 1",
         key: "00000000000000000000000000000000",
@@ -93,6 +93,15 @@ const SEALS: [SealCase; 8] = [
         aad: "feedfacedeadbeeffeedfacedeadbeefabaddad2",
         ciphertext: "522dc1f099567d07f47f37a32a84427d643a8cdcbfe5c0c97598a2bd2555d1aa8cb08e48590dbb3da7b08b1056828838c5f61e6393ba7a0abcc9f662",
         tag: "76fc6ece0f4e1768cddf8853bb2d551b",
+    },
+    SealCase {
+        source: "own, by Python's cryptography 48.0.0: test case 4 with an aad of two whole blocks",
+        key: "feffe9928665731c6d6a8f9467308308",
+        iv: "cafebabefacedbaddecaf888",
+        plaintext: "d9313225f88406e5a55909c5aff5269a86a7a9531534f7da2e4c303d8a318a721c3c0c95956809532fcf0e2449a6b525b16aedf5aa0de657ba637b39",
+        aad: "feedfacedeadbeeffeedfacedeadbeeffeedfacedeadbeeffeedfacedeadbeef",
+        ciphertext: "42831ec2217774244b7221b784d0d49ce3aa212f2c02a4e035c17e2329aca12e21d514b25466931c7d8f6a5aac84aa051ba30b396a0aac973d58e091",
+        tag: "c172dcce9d29246094573ba67787ace6",
     },
 ];
 
@@ -219,7 +228,7 @@ fn assert_opens<R: Threads + Abort>(
 }
 
 #[test]
-fn texts_of_all_lengths_open(rt: HostRuntime) -> Result<(), Fail> {
+fn texts_of_many_lengths_open(rt: HostRuntime) -> Result<(), Fail> {
     let key = GcmKey::new128(&KEY);
     for case in &SEALED {
         let length = case.length;
@@ -235,20 +244,21 @@ fn texts_of_all_lengths_open(rt: HostRuntime) -> Result<(), Fail> {
     Ok(())
 }
 
-// Each bit of the tag is flipped once.
+// Each bit of the text and of the tag is flipped once.
 fn assert_changed_bits<R: Threads + Abort>(rt: &R, key: &GcmKey, sealed: &mut [u8; 32]) {
-    for bit in 0..128usize {
+    for bit in 0..256usize {
         let mut checks = Checks::new(rt);
-        sealed[16 + bit / 8] ^= 1 << (bit % 8);
+        sealed[bit / 8] ^= 1 << (bit % 8);
         assert!(rt;
             !key.check_tag(&[0; 12], &[], sealed, &mut checks),
             "bit {bit}"
         );
-        sealed[16 + bit / 8] ^= 1 << (bit % 8);
+        sealed[bit / 8] ^= 1 << (bit % 8);
     }
 }
 
-// The tag of test case 2 with each of its bits flipped, and texts that are too short for a tag.
+// Text and tag of test case 2 with each of their bits flipped, another aad, and texts that are too short
+// for a tag.
 #[test]
 fn changed_tags_do_not_hold(rt: HostRuntime) -> Result<(), Fail> {
     let key = GcmKey::new128(&[0; 16]);

@@ -74,7 +74,7 @@ fn products_are_those_published(rt: HostRuntime) -> Result<(), Fail> {
     let product = field_mul(0x0388dace60b6a392f328c2b971b2fe78, h);
     assert_same(&rt, product, 0x5e2ec746917062882c85b0685353deb7, "product");
     let key = GhashKey::new(&<[u8; 16]>::from_hex("66e94bd4ef8a2c3b884cfa59ca342b2e")?);
-    assert_same(&rt, key.products()[8], h, "H times x^8");
-    assert_same(&rt, key.products()[0], 0, "H");
+    assert_same(&rt, key.products()[8], h, "H times the unit");
+    assert_same(&rt, key.products()[0], 0, "H times 0");
     Ok(())
 }

@@ -1,4 +1,4 @@
-//! Published messages and exports, the numbers of sequences, and refusals in their order.
+//! Published messages and exports, sequence numbers, and refusals in their order.
 
 ghost use Rattle.std.specs.Prelude.{◌≤◌, length};
 
@@ -209,7 +209,7 @@ fn assert_message<R: Threads + Abort>(
 }
 
 #[test]
-fn messages_are_those_published(rt: HostRuntime) -> Result<(), Fail> {
+fn messages_are_those_of_the_tables(rt: HostRuntime) -> Result<(), Fail> {
     for case in [A_1_1, A_6_1] {
         let mut sender = sequential_of(rt.alloc(), Role::Sender, case, u64::MAX)?;
         let mut recipient = sequential_of(rt.alloc(), Role::Recipient, case, u64::MAX)?;
@@ -244,7 +244,7 @@ struct OpeningCase {
 }
 
 // Own, by hand: the number rises where a message opens, and nowhere else; at LIMIT a tag is still
-// checked. Each row opens one message more; a new context begins where LIMIT changes.
+// checked. Each row is one more call; a new context begins where LIMIT changes.
 const OPENINGS: [OpeningCase; 8] = [
     OpeningCase {
         limit: 1,
@@ -426,7 +426,7 @@ fn exports_are_those_published_at_both_ends(rt: HostRuntime) -> Result<(), Fail>
                 &out,
                 want,
                 "RFC 9180, A.1.1.2",
-                "by number",
+                "in sequence",
             );
             let mut out = [0u8; 32];
             let again = sequential.context().export_into(exporter_context, &mut out);
@@ -436,7 +436,7 @@ fn exports_are_those_published_at_both_ends(rt: HostRuntime) -> Result<(), Fail>
                 &out,
                 want,
                 "RFC 9180, A.1.1.2",
-                "by context",
+                "by the context alone",
             );
             assert_same(&rt, (answer, again), (Ok(()), Ok(())), "answers");
         }
@@ -455,29 +455,36 @@ fn export(
     Ok((answer, out.iter().all(|byte| *byte == 0xee)))
 }
 
+// RFC 9180, 5.3: at most 255 Nh bytes.
+const EXPORT_LIMITS: [(Kdf, usize); 3] = [
+    (Kdf::Sha256, 8_160),
+    (Kdf::Sha384, 12_240),
+    (Kdf::Sha512, 16_320),
+];
+
+fn assert_export_limit(rt: &impl Abort, alloc: Global, kdf: Kdf, limit: usize) -> Result<(), Fail> {
+    let suite = Suite {
+        kdf,
+        aead: Aead::ExportOnly,
+        ..A_1_1.suite
+    };
+    let context = context_of(alloc, Role::Sender, &suite, A_1_1.shared_secret, 1)?;
+    assert_same(rt, context.export_limit(), limit, "export limit");
+    let answer = export(alloc, &context, 0)?;
+    assert_at(rt, answer, (Ok(()), true), "0 bytes", kdf);
+    let answer = export(alloc, &context, limit)?;
+    assert_at(rt, answer, (Ok(()), false), "255 Nh bytes", kdf);
+    let answer = export(alloc, &context, limit.wrapping_add(1))?;
+    let refused = (Err(CallFault::ExportSize), true);
+    assert_at(rt, answer, refused, "one byte more", kdf);
+    Ok(())
+}
+
 #[test]
 fn an_export_has_255_hashes_at_most(rt: HostRuntime) -> Result<(), Fail> {
-    let context = context_for(rt.alloc(), Role::Sender, Aead::ExportOnly, 1)?;
-    assert_same(&rt, context.export_limit(), 8160, "export limit");
-    assert_same(
-        &rt,
-        export(rt.alloc(), &context, 0)?,
-        (Ok(()), true),
-        "0 bytes",
-    );
-    assert_same(
-        &rt,
-        export(rt.alloc(), &context, 8160)?,
-        (Ok(()), false),
-        "8160 bytes",
-    );
-    let refused = (Err(CallFault::ExportSize), true);
-    assert_same(
-        &rt,
-        export(rt.alloc(), &context, 8161)?,
-        refused,
-        "8161 bytes",
-    );
+    for (kdf, limit) in EXPORT_LIMITS {
+        assert_export_limit(&rt, rt.alloc(), kdf, limit)?;
+    }
     Ok(())
 }
 

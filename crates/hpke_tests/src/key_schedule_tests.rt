@@ -1,6 +1,6 @@
 //! Published vectors: the key schedule, exports and nonces.
 
-use crate::expected::{assert_bytes, assert_same};
+use crate::expected::{assert_at, assert_bytes, assert_same};
 use hex::{FromHex, decode};
 use hkdf_labelled::{Aead, Kdf, Suite, labeled_expand_into};
 use key_schedule::{CipherSecrets, Mode, PskFault, Secrets, nonce_at, schedule, verify_psk_inputs};
@@ -308,9 +308,70 @@ fn a_fault_is_told_by_its_number_and_in_words(rt: HostRuntime) -> Result<(), Fai
     Ok(())
 }
 
+struct PskCase {
+    mode: Mode,
+    psk: &'static [u8],
+    psk_id: &'static [u8],
+    answer: Result<(), PskFault>,
+}
+
+// RFC 9180, 5.1: VerifyPSKInputs(mode, psk, psk_id).
+const PSK_INPUTS: [PskCase; 8] = [
+    PskCase {
+        mode: Mode::Base,
+        psk: b"",
+        psk_id: b"",
+        answer: Ok(()),
+    },
+    PskCase {
+        mode: Mode::Base,
+        psk: b"psk",
+        psk_id: b"",
+        answer: Err(PskFault::Inconsistent),
+    },
+    PskCase {
+        mode: Mode::Base,
+        psk: b"",
+        psk_id: b"id",
+        answer: Err(PskFault::Inconsistent),
+    },
+    PskCase {
+        mode: Mode::Base,
+        psk: b"psk",
+        psk_id: b"id",
+        answer: Err(PskFault::Unneeded),
+    },
+    PskCase {
+        mode: Mode::Psk,
+        psk: b"",
+        psk_id: b"",
+        answer: Err(PskFault::Missing),
+    },
+    PskCase {
+        mode: Mode::Psk,
+        psk: b"psk",
+        psk_id: b"",
+        answer: Err(PskFault::Inconsistent),
+    },
+    PskCase {
+        mode: Mode::Psk,
+        psk: b"",
+        psk_id: b"id",
+        answer: Err(PskFault::Inconsistent),
+    },
+    PskCase {
+        mode: Mode::Psk,
+        psk: b"psk",
+        psk_id: b"id",
+        answer: Ok(()),
+    },
+];
+
 #[test]
-fn a_psk_and_its_id_go_with_mode_psk(rt: HostRuntime) -> Result<(), Fail> {
-    assert!(rt; verify_psk_inputs(Mode::Base, &[], &[]).is_ok());
-    assert!(rt; verify_psk_inputs(Mode::Psk, b"psk", b"id").is_ok());
-    Ok(())
+fn a_psk_and_its_id_go_with_mode_psk(rt: HostRuntime) {
+    for case in &PSK_INPUTS {
+        let inputs = (case.mode, case.psk, case.psk_id);
+        let answer = verify_psk_inputs(case.mode, case.psk, case.psk_id);
+        assert_at(&rt, answer, case.answer, "psk inputs", inputs);
+    }
 }

@@ -15,7 +15,7 @@ use std::alloc::{AllocError, Global};
 use std::test::Fail;
 use std::thread::Threads;
 
-// The verdict on a row's text; none where its batch is none.
+// The verdict on a row's text; none where its batch isn't one.
 fn verdict_of<R: Threads>(rt: &R, alloc: Global, row: &Row) -> Result<Option<Verdict>, AllocError> {
     match read_front(alloc, row.batch.as_bytes()) {
         Ok((plan, _)) => {

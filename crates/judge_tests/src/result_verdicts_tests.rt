@@ -6,7 +6,7 @@ use field_text::Printed;
 use result_verdicts::{Verdict, print_verdict};
 use std::test::Fail;
 
-// Own, by hand: each form of the line once, with the least and the greatest numbers.
+// Own, by hand: each form of the line; numbers from the least to the greatest.
 const LINES: [(Verdict, &str); 7] = [
     (Verdict::Legal, "legal\n"),
     (Verdict::Form { line: 1 }, "broken form 1\n"),

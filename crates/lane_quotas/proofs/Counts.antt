@@ -1,5 +1,5 @@
 -- How many items a call asks of a context, and what quotas come to.
-use Rattle.std.proofs.Common.{◌≡◌, ◌≢◌, ◌<◌, ◌≤◌, ◌+◌, ◌^◌, ℕ, All, zero, suc, List, map, refl, ap, ◌∙◌, arith, Option, Some, None, inl, inr, if◌then◌else◌, eq-eqb, ne_eqb}
+use Rattle.std.proofs.Common.{◌≡◌, ◌≢◌, ◌<◌, ◌≤◌, ◌+◌, ◌^◌, ℕ, All, zero, suc, List, map, refl, sym, ap, ◌∙◌, arith, Option, Some, None, inl, inr, if◌then◌else◌, eq-eqb, ne_eqb, is_some, true, false, true≢false}
 use Rattle.std.specs.Prelude.{sum, sum_by}
 use Rattle.std.specs.List.{range_with_len}
 use Rattle.std.proofs.lemmas.Bool.{cases_eq}
@@ -64,24 +64,30 @@ module _ (lines : List ContextLine) (contexts : List (Option ContextView))
   other_context (calls.Add name) ne = refl
   other_context (calls.Retire name) ne = refl
 
-  pub refused_call : (call : CallLine) (why : CallRefusal) → call_refusal contexts call ≡ Some why
-      → items_on lines limits number call ≡ 0
-  refused_call (calls.Seal c item) why is =
-      counted (calls.Seal c item) tt ∙ ap (λ r. items_at (if_served r c) number 1) is
-  refused_call (calls.Unseal c item) why is =
-      counted (calls.Unseal c item) tt ∙ ap (λ r. items_at (if_served r c) number 1) is
-  refused_call (calls.UnsealAll c first count) why is =
-      counted (calls.UnsealAll c first count) tt ∙ ap (λ r. items_at (if_served r c) number count) is
-  refused_call (calls.Export c exporter size) why is = refl
-  refused_call (calls.Add name) why is = refl
-  refused_call (calls.Retire name) why is = refl
+  refused : (o : Option CallRefusal) (c items : ℕ) → is_some o ≡ true
+      → items_at (if_served o c) number items ≡ 0
+  refused None c items is = absurd (true≢false (sym is))
+  refused (Some why) c items is = refl
 
-  pub served_call : (call : CallLine) → IsCounted call → call_refusal contexts call ≡ None
+  pub refused_call : (call : CallLine) → is_some (call_refusal contexts call) ≡ true
+      → items_on lines limits number call ≡ 0
+  refused_call (calls.Seal c item) is = counted (calls.Seal c item) tt ∙ refused _ c 1 is
+  refused_call (calls.Unseal c item) is = counted (calls.Unseal c item) tt ∙ refused _ c 1 is
+  refused_call (calls.UnsealAll c first count) is =
+      counted (calls.UnsealAll c first count) tt ∙ refused _ c count is
+  refused_call (calls.Export c exporter size) is = refl
+  refused_call (calls.Add name) is = refl
+  refused_call (calls.Retire name) is = refl
+
+  served : (o : Option CallRefusal) (c items : ℕ) → is_some o ≡ false → c ≡ number
+      → items_at (if_served o c) number items ≡ items
+  served None c items is same = ap (λ b. if b then items else 0) (eq-eqb c number same)
+  served (Some why) c items is same = absurd (true≢false is)
+
+  pub served_call : (call : CallLine) → IsCounted call → is_some (call_refusal contexts call) ≡ false
       → context_of call ≡ number → items_on lines limits number call ≡ items_of call
   served_call call is free same =
-      counted call is
-      ∙ ap (λ r. items_at (if_served r (context_of call)) number (items_of call)) free
-      ∙ ap (λ b. if b then items_of call else 0) (eq-eqb (context_of call) number same)
+      counted call is ∙ served _ (context_of call) (items_of call) free same
 
 -- ---- sums
 

@@ -1,5 +1,5 @@
 -- How many places the lanes have in the journal of a context.
-use Rattle.std.proofs.Common.{◌≡◌, ◌<◌, ◌≤◌, ℕ, ◌+◌, ◌==◌, Bool, true, false, cond, List, [], ◌∷◌, length, map, sym, refl, ap, ◌∙◌, subst, arith, Option, Some, None, inl, inr, length-append, if◌then◌else◌}
+use Rattle.std.proofs.Common.{◌≡◌, ◌<◌, ◌≤◌, ℕ, ◌+◌, ◌==◌, Bool, true, false, cond, List, [], ◌∷◌, length, map, sym, refl, ap, ◌∙◌, subst, arith, Option, Some, None, is_some, inl, inr, length-append, if◌then◌else◌}
 use Rattle.std.specs.Prelude.{slice_index_or, sum_by}
 use Rattle.std.specs.List.{All}
 use Rattle.std.proofs.lemmas.Bool.{cases_lt}
@@ -51,7 +51,7 @@ module _ (plan : Plan) (contexts : List (Option ContextView)) (t : AreOfLines pl
       → IsCallWithin (length plan.items) (length plan.pool) call
       → length (on number (asked l k (ask_unless refusal (asked_by plan call)))) ≡ count call
   on_call l k call (Some why) is within =
-      sym (refused_call plan.contexts contexts t number call why is)
+      sym (refused_call plan.contexts contexts t number call (ap is_some is))
   on_call l k (calls.Seal c item) None is within =
       on_block l k c 1 1 refl
       ∙ ap (λ r. items_at (if_served r c) number 1) (sym is)

@@ -21,7 +21,7 @@ fn items_on(contexts: &[Option<Context>], number: u32, call: &CallLine) -> u32
     if context_of(call) != number {
         return 0;
     }
-    if let Some(_) = refusal_of(contexts, call) {
+    if refusal_of(contexts, call).is_some() {
         return 0;
     }
     match call {

@@ -1,11 +1,12 @@
 //! Products worked out by hand: the table that the test of each multiplier goes through, by
-//! [`assert_products`].
+//! [`assert_products`], and those of elements without a coefficient 0, by [`assert_dense`].
 
-ghost use Rattle.std.specs.Prelude.{◌≡◌, map, IfOk};
+ghost use Rattle.std.specs.Prelude.{◌≡◌, ◌*◌, ◌-◌, ◌<◌, ◌≤◌, map, IfOk, unsigned_abs, vec_len};
+ghost use Rattle.ring_core.specs.Bounds.{IsWithin};
 ghost use Rattle.lattice_tests.specs.Examples.{placed, placed_at};
 ghost use Rattle.ring_core.specs.Product.{centred};
 
-use crate::expected::assert_at;
+use crate::expected::{assert_at, assert_same};
 use ring_core::{Multiplier, Params, Rq, Small};
 use std::alloc::{AllocError as OutOfMemory, Global};
 use std::process::Abort;
@@ -228,5 +229,77 @@ pub fn assert_products<S: Params, M: Multiplier>(
         assert_product_in_q::<S, M>(rt, alloc, mult, example)?;
         assert_product_in_3::<S, M>(rt, alloc, mult, example)?;
     }
+    Ok(())
+}
+
+/// The same number at each of p places.
+pub fn filled(alloc: Global, number: i8, p: usize) -> Result<Vec<i8>, OutOfMemory>
+    requires { unsigned_abs number ≤ 1 }
+    ensures { IfOk result (λ v. IsWithin 1 v.items × (vec_len v ≡ p)) }
+{
+    vec![in alloc; number; p]
+}
+
+// How many products of two coefficients meet at place k.
+fn terms_at<S: Params>(k: usize) -> usize
+    requires { k < S.set.p }
+    ensures { result < 2048 }
+{
+    if k == 0 { S::P } else { 2 * S::P - k }
+}
+
+// So many times (q - 1)/2 in R/q, where 2 (q - 1)/2 = -1.
+fn times_largest<S: Params>(terms: usize) -> i32
+    requires { terms < 2048 }
+{
+    let pairs = (terms / 2) as i32;
+    if terms % 2 == 0 {
+        -pairs
+    } else {
+        S::Q / 2 - pairs
+    }
+}
+
+fn assert_dense_in_q<S: Params, M: Multiplier>(
+    rt: &impl Abort,
+    alloc: Global,
+    mult: &M,
+    ones: &Small<S>,
+) -> Result<(), OutOfMemory> {
+    let a: Rq<S> = Rq::from_coefficients(alloc, &vec![in alloc; S::Q / 2; S::P]?)?;
+    let in_q = mult.mul_q_small(alloc, &a, ones)?;
+    for k in 0..S::P {
+        let want = times_largest::<S>(terms_at::<S>(k));
+        assert_at(rt, in_q.coefficient(k), want, "dense, in R/q", k);
+    }
+    Ok(())
+}
+
+fn assert_dense_in_3<S: Params, M: Multiplier>(
+    rt: &impl Abort,
+    alloc: Global,
+    mult: &M,
+    ones: &Small<S>,
+) -> Result<(), OutOfMemory> {
+    let in_3 = mult.mul_3(alloc, ones, ones)?;
+    for k in 0..S::P {
+        let want = [0i8, 1, -1][terms_at::<S>(k) % 3];
+        assert_at(rt, in_3.coefficient(k), want, "dense, in R/3", k);
+    }
+    Ok(())
+}
+
+/// Asserts the product of the largest coefficients (q - 1)/2 and ones, and that of ones and ones.
+///
+/// Own, by hand: 2p - k products meet at place k, and p at place 0.
+pub fn assert_dense<S: Params, M: Multiplier>(
+    rt: &impl Abort,
+    alloc: Global,
+    mult: &M,
+) -> Result<(), OutOfMemory> {
+    let ones: Small<S> = Small::from_vec(filled(alloc, 1, S::P)?);
+    assert_same(rt, ones.weight(), S::P, "weight");
+    assert_dense_in_q::<S, M>(rt, alloc, mult, &ones)?;
+    assert_dense_in_3::<S, M>(rt, alloc, mult, &ones)?;
     Ok(())
 }

@@ -71,9 +71,12 @@ impl Words for Always {
     }
 }
 
+// A word in the middle third of 30 bits, which Small makes 0.
+const MIDDLE: u32 = 1 << 29;
+
 fn assert_zeros<S: Params>(rt: &impl Abort, alloc: Global) -> Result<(), OutOfMemory> {
     let mut words = Always {
-        word: 536_870_912,
+        word: MIDDLE,
         place: 0,
     };
     let zeros: Small<S> = small_random(alloc, &mut words)?;

@@ -55,7 +55,7 @@ const RECIPROCALS_857: [ReciprocalCase; 1] = [ReciprocalCase {
 
 // A factor of x^761 - x - 1 modulo 3, of the least degree that one has, from x^0 on. Found by the
 // distinct degrees of its factors in Python 3.11.7, and checked by sympy 1.14.0, which divides
-// Poly(x**761 - x - 1, x, modulus=3) by it without a rest.
+// Poly(x**761 - x - 1, x, modulus=3) by it without remainder.
 const FACTOR_761: [i8; 20] = [
     -1, -1, 0, -1, -1, -1, 1, -1, 1, -1, 0, -1, 1, 1, 1, 1, -1, 0, 1, 1,
 ];
@@ -78,7 +78,7 @@ const DENSE_MODULO_Q: Places = &[
     (760, 2036),
 ];
 
-// The element whose coefficient at k is what (k k + k / 7) mod 3 is, less 1.
+// The element whose coefficient at k is (k k + k / 7) mod 3, less 1.
 fn dense() -> [i8; 761] {
     let mut list = [0i8; P];
     for k in 0..P {
@@ -197,7 +197,7 @@ fn assert_annihilated<S: Params>(
 }
 
 #[test]
-fn a_multiple_of_a_factor_has_an_annihilator(rt: HostRuntime) -> Result<(), Fail> {
+fn a_factor_of_the_modulus_has_an_annihilator(rt: HostRuntime) -> Result<(), Fail> {
     assert_annihilated::<Sntrup761>(&rt, rt.alloc(), &FACTOR_761)?;
     assert_annihilated::<Sntrup857>(&rt, rt.alloc(), &FACTOR_857)?;
     Ok(())

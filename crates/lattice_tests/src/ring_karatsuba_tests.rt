@@ -1,4 +1,4 @@
-use crate::examples::{PRODUCTS_761, PRODUCTS_857, assert_products};
+use crate::examples::{PRODUCTS_761, PRODUCTS_857, assert_dense, assert_products};
 use ring_core::{Sntrup761, Sntrup857};
 use ring_karatsuba::Karatsuba;
 use std::test::Fail;
@@ -7,5 +7,12 @@ use std::test::Fail;
 fn products_are_those_of_the_ring(rt: HostRuntime) -> Result<(), Fail> {
     assert_products::<Sntrup761, Karatsuba>(&rt, rt.alloc(), &Karatsuba, &PRODUCTS_761)?;
     assert_products::<Sntrup857, Karatsuba>(&rt, rt.alloc(), &Karatsuba, &PRODUCTS_857)?;
+    Ok(())
+}
+
+#[test]
+fn the_largest_coefficients_are_multiplied(rt: HostRuntime) -> Result<(), Fail> {
+    assert_dense::<Sntrup761, Karatsuba>(&rt, rt.alloc(), &Karatsuba)?;
+    assert_dense::<Sntrup857, Karatsuba>(&rt, rt.alloc(), &Karatsuba)?;
     Ok(())
 }

@@ -1,4 +1,4 @@
-use crate::examples::{PRODUCTS_761, PRODUCTS_857, Places, assert_products};
+use crate::examples::{PRODUCTS_761, PRODUCTS_857, Places, assert_dense, assert_products};
 use crate::expected::assert_at;
 use ring_core::{Multiplier, Plain, Rq, Small, Sntrup761, Sntrup857};
 use ring_lanes::Lanes;
@@ -13,7 +13,14 @@ fn products_are_those_of_the_ring(rt: HostRuntime) -> Result<(), Fail> {
     Ok(())
 }
 
-// Its eighth power has coefficients other than 0 at most places.
+#[test]
+fn the_largest_coefficients_are_multiplied(rt: HostRuntime) -> Result<(), Fail> {
+    assert_dense::<Sntrup761, Lanes>(&rt, rt.alloc(), &Lanes)?;
+    assert_dense::<Sntrup857, Lanes>(&rt, rt.alloc(), &Lanes)?;
+    Ok(())
+}
+
+// Most coefficients of its eighth power aren't 0.
 const SPARSE: Places = Places {
     ones: &[0, 3, 17, 54, 121, 300, 455, 601, 702],
     minus_ones: &[1, 30, 77, 200, 333, 500, 650, 760],

@@ -170,7 +170,7 @@ fn keys_are_those_of_the_standard_and_decrypt_exactly(rt: HostRuntime) -> Result
 }
 
 // A word in the middle third of 30 bits, which Small makes 0.
-const MIDDLE: u32 = 536_870_912;
+const MIDDLE: u32 = 1 << 29;
 
 // A source that gives so many middle words, and then those of stream 0 of the zero seed.
 #[derive(Drop)]

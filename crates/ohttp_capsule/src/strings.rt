@@ -9,9 +9,7 @@ use std::alloc::{AllocError as OutOfMemory, Global};
 pub(crate) fn copied(alloc: Global, bytes: &[u8]) -> Result<ByteList, OutOfMemory>
     ensures { IfOk result (λ b. b ≡ bytes.now) }
 {
-    let mut copy = Vec::with_capacity(alloc, bytes.len())?;
-    copy.extend_from_slice(bytes)?;
-    Ok(ByteList::from_vec(copy))
+    Ok(ByteList::from_vec(Vec::from_slice(alloc, bytes)?))
 }
 
 /// One string behind another.

@@ -99,10 +99,7 @@ impl<'a> Lines<'a> {
     {
         let number = self.number;
         let line = self.line()?;
-        match read_guess(line) {
-            Ok(guess) => Ok(guess),
-            Err(_) => Err(Stop::Wrong(number)),
-        }
+        read_guess(line).map_err(|_| Stop::Wrong(number))
     }
 
     // The next line as a place of a journal. Another line is left.

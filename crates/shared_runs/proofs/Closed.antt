@@ -1,6 +1,6 @@
 -- The contexts of a table that are closed one after another, and what is said of all of them.
 use Rattle.std.proofs.Common.{◌≡◌, ℕ, zero, suc, ◌+◌, ◌<◌, ◌≤◌, List, [], ◌∷◌, ◌++◌, length, map, Option, Some, None, inl, inr, sym, refl, ap, ◌∙◌, subst, arith, length-append, append-nil, append_assoc}
-use Rattle.std.specs.Prelude.{flat_map, sum, sum_by, slice_index_or, IsPermutation}
+use Rattle.std.specs.Prelude.{flat_map, is_some, sum, sum_by, slice_index_or, IsPermutation}
 use Rattle.std.specs.List.{All, range_with_len}
 use Rattle.std.proofs.Math.ListN.{get_or-map}
 use Rattle.std.proofs.Math.Seq.{get_or-append_seam}
@@ -18,7 +18,6 @@ use Rattle.context_books.specs.Books.{BookView}
 use Rattle.shared_context.specs.Calls.{SharedView}
 use Rattle.gathered_lanes.specs.Lanes.{Closes}
 use Rattle.batch_plans.specs.declared.plan.Plan.{Plan}
-use Rattle.batch_plans.specs.declared.replies.CallRefusal.TheVariants.{NoContext}
 use Rattle.batch_plans.specs.Calls.{context_of, items_on}
 use Rattle.due_replies.specs.Standing.{AreOfLines, standing_at, refusal_on, export_limits}
 use Rattle.lane_quotas.specs.Quotas.{lane_quota}
@@ -49,8 +48,8 @@ no_quotas plan contexts t number none =
     ∙ no_sum (lane_quota plan contexts number) plan.lanes (λ calls.
     no_sum (items_on plan.contexts (export_limits contexts) number) calls (λ call.
     elim (cases_eq (context_of call) number) [
-      | inl same ↦ refused_call plan.contexts contexts t number call NoContext
-          (ap (λ s. refusal_on s call) (ap (standing_at contexts) same ∙ none))
+      | inl same ↦ refused_call plan.contexts contexts t number call
+          (ap (λ s. is_some (refusal_on s call)) (ap (standing_at contexts) same ∙ none))
       | inr ne ↦ other_context plan.contexts contexts t number call ne
     ]))
 

@@ -116,9 +116,8 @@ fn find_invertible<S: Params, R: Words, M: Multiplier>(
 {
     for _draw in 0..MOST_DRAWS {
         let drawn = draw_invertible::<S, R, M>(alloc, words, mult)?;
-        match drawn {
-            Some(found) => return Ok(Some(found)),
-            None => {}
+        if let Some(found) = drawn {
+            return Ok(Some(found));
         }
     }
     Ok(None)

@@ -59,9 +59,7 @@ impl From<OutOfMemory> for KeyBytesFault {
 fn copied(alloc: Global, bytes: &[u8]) -> Result<ByteList, OutOfMemory>
     ensures { IfOk result (λ b. b ≡ bytes.now) }
 {
-    let mut copy = Vec::with_capacity(alloc, bytes.len())?;
-    copy.extend_from_slice(bytes)?;
-    Ok(ByteList::from_vec(copy))
+    Ok(ByteList::from_vec(Vec::from_slice(alloc, bytes)?))
 }
 
 /// A public key: the coding of h (NTRU Prime round 3, KeyGen), of `S::PUBLIC` bytes. Contracts see

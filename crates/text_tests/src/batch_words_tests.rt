@@ -9,8 +9,8 @@ use std::alloc::{AllocError, Global};
 use std::process::Abort;
 use std::test::Fail;
 
-// Own, by hand, from the rules of the command grammar: words that spell a run or, with another first
-// word, a run of `live`, and what they say.
+// Own, by hand, from the rules of the command grammar: words that spell `run` or `live`, and what
+// they say.
 const RUNS: [(&[&str], u32, Mult); 20] = [
     (&["run"], 4, Mult::Plain),
     (&["run", "--workers", "1"], 1, Mult::Plain),
@@ -227,7 +227,8 @@ fn other_words_spell_no_command(rt: HostRuntime) -> Result<(), Fail> {
     Ok(())
 }
 
-// How many lanes a rehearsal of so many steps has, each of them lane 15, where there is one.
+// How many steps are read of a schedule of so many, each of lane 15; none where the words spell no
+// command.
 fn steps_read(alloc: Global, steps: usize) -> Result<Option<usize>, AllocError> {
     let mut text = String::from_str(alloc, "15")?;
     for _ in 1..steps {

@@ -1,203 +1,109 @@
 //! Texts that are read, texts that are bad, and replies that are printed.
 
-use crate::bad_case::BadCase;
+mod bad_texts;
+mod limits;
+
+use crate::bad_cases::{expect_bad, expect_limit, long_text, text_with};
+use crate::capsule_frames_tests::bad_texts::BAD;
+use crate::capsule_frames_tests::limits::{COUNTS, FIELDS};
 use crate::expected::assert_same;
 use crate::sinks::sink_of;
+use batch_plans::{EncField, KeyLine, KeyReply, PlainList, Plan};
 use call_places::Span;
 use capsule_frames::{CapsuleLine, CapsuleRefusal, CapsuleReply, print_capsules, read_capsules};
-use field_text::{BadBatch, Printed, ReadBatchFault, Reason};
+use field_text::{BadBatch, Printed, ReadBatchFault};
 use hkdf_labelled::{Aead, Kdf};
-use request_frames::{EncField, KeyReply, PlainList};
+use std::alloc::Global;
+use std::process::Abort;
 use std::test::Fail;
 
-// Texts that are no batch of capsules. All are own, made by hand from the grammar.
-const BAD: [BadCase; 18] = [
-    BadCase {
-        what: "version 1",
-        text: b"hpkebatch 1\nend\n",
-        line: 1,
-        reason: Reason::Header,
-    },
-    BadCase {
-        what: "a context line",
-        text: b"hpkebatch 2\nshare\nend\n",
-        line: 2,
-        reason: Reason::Word,
-    },
-    BadCase {
-        what: "a lane",
-        text: b"hpkebatch 2\nlane\nend\n",
-        line: 2,
-        reason: Reason::Word,
-    },
-    BadCase {
-        what: "an ask without a seed",
-        text: b"hpkebatch 2\nask 0 7 1 1 00\nend\n",
-        line: 2,
-        reason: Reason::Order,
-    },
-    BadCase {
-        what: "a pair without a seed",
-        text: b"hpkebatch 2\nkeygen\nend\n",
-        line: 2,
-        reason: Reason::Order,
-    },
-    BadCase {
-        what: "a key behind a capsule line",
-        text: b"hpkebatch 2\ntake 0 00\npeer 00\nend\n",
-        line: 3,
-        reason: Reason::Order,
-    },
-    BadCase {
-        what: "an ask with 4 fields",
-        text: b"hpkebatch 2\nrand 0000000000000000000000000000000000000000000000000000000000000000\nask 0 7 1 1\nend\n",
-        line: 3,
-        reason: Reason::Fields,
-    },
-    BadCase {
-        what: "key 65536",
-        text: b"hpkebatch 2\nrand 0000000000000000000000000000000000000000000000000000000000000000\nask 65536 7 1 1 -\nend\n",
-        line: 3,
-        reason: Reason::Range,
-    },
-    BadCase {
-        what: "identifier 256",
-        text: b"hpkebatch 2\nrand 0000000000000000000000000000000000000000000000000000000000000000\nask 0 256 1 1 -\nend\n",
-        line: 3,
-        reason: Reason::Range,
-    },
-    BadCase {
-        what: "kdf 4",
-        text: b"hpkebatch 2\nrand 0000000000000000000000000000000000000000000000000000000000000000\nask 0 7 4 1 -\nend\n",
-        line: 3,
-        reason: Reason::Range,
-    },
-    BadCase {
-        what: "an export-only suite",
-        text: b"hpkebatch 2\nrand 0000000000000000000000000000000000000000000000000000000000000000\nask 0 7 1 65535 -\nend\n",
-        line: 3,
-        reason: Reason::Range,
-    },
-    BadCase {
-        what: "aead 0",
-        text: b"hpkebatch 2\nrand 0000000000000000000000000000000000000000000000000000000000000000\nask 0 7 1 0 -\nend\n",
-        line: 3,
-        reason: Reason::Range,
-    },
-    BadCase {
-        what: "a text of half a byte",
-        text: b"hpkebatch 2\nrand 0000000000000000000000000000000000000000000000000000000000000000\nask 0 7 1 1 0\nend\n",
-        line: 3,
-        reason: Reason::Hex,
-    },
-    BadCase {
-        what: "a request that is no bytes field",
-        text: b"hpkebatch 2\nanswer 0 7 x - -\nend\n",
-        line: 2,
-        reason: Reason::Hex,
-    },
-    BadCase {
-        what: "a request by no number",
-        text: b"hpkebatch 2\nanswer 0 7 @ - -\nend\n",
-        line: 2,
-        reason: Reason::Number,
-    },
-    BadCase {
-        what: "a request by number 65536",
-        text: b"hpkebatch 2\nanswer 0 7 @65536 - -\nend\n",
-        line: 2,
-        reason: Reason::Range,
-    },
-    BadCase {
-        what: "a take with 3 fields",
-        text: b"hpkebatch 2\ntake 0 00 -\nend\n",
-        line: 2,
-        reason: Reason::Fields,
-    },
-    BadCase {
-        what: "a take of no number",
-        text: b"hpkebatch 2\ntake @0 00\nend\n",
-        line: 2,
-        reason: Reason::Number,
-    },
-];
+fn refusal_of(alloc: Global, text: &[u8]) -> Option<BadBatch> {
+    match read_capsules(alloc, text) {
+        Err(ReadBatchFault::Bad(bad)) => Some(bad),
+        _ => None,
+    }
+}
 
 #[test]
 fn bad_texts_have_their_first_reason(rt: HostRuntime) -> Result<(), Fail> {
     for case in &BAD {
-        let (what, line, reason) = (case.what, case.line, case.reason);
-        match read_capsules(rt.alloc(), case.text) {
-            Ok(_plan) => panic!(rt; "a batch: {what}"),
-            Err(ReadBatchFault::OutOfMemory) => panic!(rt; "memory"),
-            Err(ReadBatchFault::Bad(bad)) => {
-                assert_same(&rt, bad, BadBatch { line, reason }, what)
-            }
-        }
+        let refusal = refusal_of(rt.alloc(), case.text);
+        expect_bad(&rt, refusal, case.line, case.reason, case.what);
     }
     Ok(())
 }
 
-// The 257th line of one kind is one too many, and one of another kind isn't.
 #[test]
 fn each_kind_is_counted_by_itself(rt: HostRuntime) -> Result<(), Fail> {
-    let mut text = Vec::from_slice(rt.alloc(), b"hpkebatch 2\nanswer 0 7 00 - -\n")?;
-    for _line in 0..256 {
-        text.extend_from_slice(b"take 0 @0\n")?;
-    }
-    let end = text.len();
-    text.extend_from_slice(b"end\n")?;
-    match read_capsules(rt.alloc(), &text) {
-        Ok(batch) => assert_same(&rt, batch.lines.as_slice().len(), 257, "how many lines"),
-        Err(_fault) => panic!(rt; "256 lines of one kind"),
-    }
-    text.truncate(end);
-    text.extend_from_slice(b"take 0 @0\nend\n")?;
-    match read_capsules(rt.alloc(), &text) {
-        Err(ReadBatchFault::Bad(bad)) => assert_same(
-            &rt,
-            bad,
-            BadBatch {
-                line: 259,
-                reason: Reason::Count,
-            },
-            "bad",
-        ),
-        _ => panic!(rt; "257 lines of one kind"),
+    for case in &COUNTS {
+        let text = long_text(rt.alloc(), case)?;
+        let refusal = refusal_of(rt.alloc(), &text);
+        expect_bad(&rt, refusal, case.line, case.reason, case.what);
     }
     Ok(())
 }
 
+#[test]
+fn each_bytes_field_has_its_limit(rt: HostRuntime) -> Result<(), Fail> {
+    let alloc = rt.alloc();
+    for case in &FIELDS {
+        let text = text_with(alloc, case, case.most)?;
+        let at_limit = refusal_of(alloc, &text);
+        let text = text_with(alloc, case, case.most.saturating_add(1))?;
+        expect_limit(&rt, at_limit, refusal_of(alloc, &text), case);
+    }
+    Ok(())
+}
+
+const SEED: [u8; 32] = [
+    0, 1, 2, 3, 4, 5, 6, 7, 8, 9, 10, 11, 12, 13, 14, 15, 16, 17, 18, 19, 20, 21, 22, 23, 24, 25,
+    26, 27, 28, 29, 30, 31,
+];
+
+// The plan of the batch below: its seed, its keys, and the bytes of all its lines.
+fn expect_keys(rt: &impl Abort, plan: &Plan) {
+    assert_same(rt, plan.version, 2, "version");
+    assert_same(rt, plan.seed, Some(SEED), "seed");
+    assert_same(
+        rt,
+        plan.pool.as_slice(),
+        [0x0c, 0x42, 0x65, 0xaa, 0xaa, 0x00, 0xff].as_slice(),
+        "pool",
+    );
+    let keys = [
+        KeyLine::Generate,
+        KeyLine::Peer857(Span { start: 0, len: 1 }),
+    ];
+    assert_same(rt, plan.keys.as_slice(), keys.as_slice(), "keys");
+}
+
+// Own, by hand: a batch with a key that is made, one that is given, and a line of each kind.
 #[test]
 fn a_batch_is_read(rt: HostRuntime) -> Result<(), Fail> {
     let text =
-        b"hpkebatch 2\nrand 0000000000000000000000000000000000000000000000000000000000000000\nkeygen\nask 0 7 1 2 4265\nanswer 0 7 @0 aaaa -\ntake 0 00ff\nend\n";
+        b"hpkebatch 2\nrand 000102030405060708090a0b0c0d0e0f101112131415161718191a1b1c1d1e1f\nkeygen\npeer857 0c\nask 0 7 1 2 4265\nanswer 0 7 @0 aaaa -\ntake 0 00ff\nend\n";
     let Ok(batch) = read_capsules(rt.alloc(), text) else {
-        panic!(rt; "a batch");
+        panic!(rt; "not read");
     };
-    assert_same(
-        &rt,
-        batch.plan.pool.as_slice(),
-        &[0x42, 0x65, 0xaa, 0xaa, 0x00, 0xff][..],
-        "pool",
-    );
+    expect_keys(&rt, &batch.plan);
     let want = [
         CapsuleLine::Ask {
             key: 0,
             id: 7,
             kdf: Kdf::Sha256,
             aead: Aead::Aes256,
-            text: Span { start: 0, len: 2 },
+            text: Span { start: 1, len: 2 },
         },
         CapsuleLine::Answer {
             key: 0,
             id: 7,
             request: EncField::Of(0),
-            nonce: Span { start: 2, len: 2 },
-            text: Span { start: 4, len: 0 },
+            nonce: Span { start: 3, len: 2 },
+            text: Span { start: 5, len: 0 },
         },
         CapsuleLine::Take {
             ask: 0,
-            response: EncField::Bytes(Span { start: 4, len: 2 }),
+            response: EncField::Bytes(Span { start: 5, len: 2 }),
         },
     ];
     assert_same(&rt, batch.lines.as_slice(), &want[..], "lines");
@@ -234,6 +140,6 @@ fn replies_are_printed(rt: HostRuntime) -> Result<(), Fail> {
     );
     let want =
         b"hpkebatch 2\nkey 0 peer\nasked 01\nanswered 02 03\ntook -\nrefused noncesize\nend\n";
-    assert!(rt; sink.bytes() == want.as_slice(), "the reply");
+    assert_same(&rt, sink.bytes(), want.as_slice(), "the reply");
     Ok(())
 }

@@ -1,4 +1,4 @@
-use crate::expected::assert_same;
+use crate::expected::{assert_at, assert_same};
 use decimal_text::{decimal_from_to, is_decimal, value_of};
 use std::test::Fail;
 
@@ -18,7 +18,8 @@ const NUMBERS: [(&'static [u8], Option<u64>); 9] = [
 #[test]
 fn a_decimal_writes_its_number(rt: HostRuntime) -> Result<(), Fail> {
     for (text, want) in &NUMBERS {
-        assert_same(&rt, decimal_from_to(text, 1, 65_535), *want, "number");
+        let text = *text;
+        assert_at(&rt, decimal_from_to(text, 1, 65_535), *want, "number", text);
     }
     let greatest: &[u8] = b"18446744073709551615";
     assert!(rt; is_decimal(greatest));

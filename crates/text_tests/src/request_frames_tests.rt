@@ -1,9 +1,13 @@
-//! Batch texts that are read, and replies that are printed.
+//! Batch texts that are read, the refusals of calls and the room for replies, and replies that are
+//! printed.
 
 mod answers;
+mod bad_calls;
+mod bad_contexts;
 mod bad_set_ups;
 mod bad_texts;
 mod expected;
+mod long_fields;
 mod long_texts;
 mod plan;
 mod printing;

@@ -22,8 +22,8 @@ struct ExchangeCase {
     sha256_response: &'static str,
 }
 
-// tools/vectors/ohttp_capsules.py, by hashlib, hmac, `cryptography` and a KEM of its own: the key of
-// stream 0 of the zero seed, r from stream 1, key identifier 7, and a nonce of bytes aa.
+// tools/vectors/ohttp_capsules.py, by hashlib, hmac, `cryptography` and the KEM of tools/reference: the
+// key of stream 0 of the zero seed, r from stream 1, key identifier 7, and a nonce of bytes aa.
 const EXCHANGES_761: [ExchangeCase; 6] = [
     ExchangeCase {
         kdf: Kdf::Sha256,
@@ -157,7 +157,7 @@ fn exchanges_are_those_of_another_program(rt: HostRuntime) -> Result<(), Fail> {
 
 // Texts of no byte, and of the most that there may be.
 #[test]
-fn texts_of_all_lengths_are_exchanged(rt: HostRuntime) -> Result<(), Fail> {
+fn texts_of_the_least_and_the_most_bytes_are_exchanged(rt: HostRuntime) -> Result<(), Fail> {
     let alloc = rt.alloc();
     let (public, secret) = keys_of::<Sntrup761>(&rt, alloc);
     let suite = Suite {
@@ -171,12 +171,7 @@ fn texts_of_all_lengths_are_exchanged(rt: HostRuntime) -> Result<(), Fail> {
         let (asked, request) = asked(&rt, alloc, &public, &suite, &text);
         let answer = answered(&rt, alloc, &secret, request.as_slice(), &[3; 32], &text);
         let (question, response) = answer.expect(&rt, "an answer");
-        assert_same(
-            &rt,
-            question.as_slice().len(),
-            length,
-            "size of the question",
-        );
+        assert!(rt; question.as_slice() == text.as_slice(), "the question");
         assert_same(
             &rt,
             response.as_slice().len(),
@@ -184,12 +179,7 @@ fn texts_of_all_lengths_are_exchanged(rt: HostRuntime) -> Result<(), Fail> {
             "size of the response",
         );
         let reply = taken(&rt, alloc, &asked, response.as_slice()).expect(&rt, "a reply");
-        assert_same(
-            &rt,
-            Sha256::digest(reply.as_slice()),
-            Sha256::digest(&text),
-            "reply",
-        );
+        assert!(rt; reply.as_slice() == text.as_slice(), "the reply");
     }
     Ok(())
 }

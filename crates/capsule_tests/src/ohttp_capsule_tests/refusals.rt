@@ -5,23 +5,23 @@ use crate::expected::assert_same;
 use hkdf_labelled::{Aead, Kdf, Suite};
 use ohttp_capsule::{Asked, CapsuleFault};
 use radix_pack::ByteList;
-use ring_core::Sntrup761;
-use sntrup_kem::SecretKey;
+use ring_core::{Sntrup761, Sntrup857};
+use sntrup_kem::{KemParams, SecretKey};
 use std::alloc::Global;
 use std::process::Abort;
 use std::test::Fail;
 use std::thread::Threads;
 
-// What is spoilt, by which length the message is cut to and which masks are then flipped at which
-// places; the size of the nonce; and the refusal.
+// What is spoilt; the length that the message is cut to, or filled up to with zeros; the masks that are
+// then added, each at its place; the size of the nonce; and the refusal.
 struct Spoilt(&'static str, usize, [(usize, u8); 2], usize, CapsuleFault);
 
 const NONE: [(usize, u8); 2] = [(0, 0), (0, 0)];
 
 fn spoil(rt: &impl Abort, alloc: Global, bytes: &[u8], case: &Spoilt) -> ByteList {
-    let cut = case.1;
-    assert!(rt; cut <= bytes.len(), "a cut");
-    let mut copy = Vec::from_slice(alloc, &bytes[..cut]).expect(rt, "memory");
+    let front = &bytes[..case.1.min(bytes.len())];
+    let mut copy = Vec::from_slice(alloc, front).expect(rt, "memory");
+    copy.resize(case.1, 0).expect(rt, "memory");
     for (place, mask) in case.2 {
         if place < copy.len() {
             copy[place] ^= mask;
@@ -32,14 +32,14 @@ fn spoil(rt: &impl Abort, alloc: Global, bytes: &[u8], case: &Spoilt) -> ByteLis
 
 // Of a request to key 7 of sntrup761 with HKDF-SHA256 and AES-128-GCM: 7 bytes of header, 1,039 of
 // the encapsulation, and 45 of the ciphertext.
-const REQUESTS: [Spoilt; 26] = [
+const REQUESTS: [Spoilt; 27] = [
     Spoilt("no byte", 0, NONE, 16, CapsuleFault::Short),
-    Spoilt("half a header", 6, NONE, 16, CapsuleFault::Short),
+    Spoilt("6 bytes of a header", 6, NONE, 16, CapsuleFault::Short),
     Spoilt("a header", 7, NONE, 16, CapsuleFault::Short),
     Spoilt("15 bytes of a tag", 1_061, NONE, 16, CapsuleFault::Short),
     Spoilt("a tag alone", 1_062, NONE, 16, CapsuleFault::Failed),
     Spoilt(
-        "short, other key",
+        "short, other key, a nonce of 15 bytes",
         1_061,
         [(0, 1), (0, 0)],
         15,
@@ -53,14 +53,14 @@ const REQUESTS: [Spoilt; 26] = [
         CapsuleFault::Header,
     ),
     Spoilt(
-        "other kem",
+        "kem 0xf661",
         1_091,
         [(1, 1), (0, 0)],
         16,
         CapsuleFault::Header,
     ),
     Spoilt(
-        "other kem",
+        "kem 0xf760",
         1_091,
         [(2, 1), (0, 0)],
         16,
@@ -87,30 +87,42 @@ const REQUESTS: [Spoilt; 26] = [
         CapsuleFault::Header,
     ),
     Spoilt(
-        "aead 2, 16 bytes",
+        "aead 2, a nonce of 16 bytes",
         1_091,
         [(6, 3), (0, 0)],
         16,
         CapsuleFault::NonceSize,
     ),
     Spoilt(
-        "aead 2, 32 bytes",
+        "aead 2, a nonce of 32 bytes",
         1_091,
         [(6, 3), (0, 0)],
         32,
         CapsuleFault::Failed,
     ),
     Spoilt(
-        "other key, 15 bytes",
+        "other key, a nonce of 15 bytes",
         1_091,
         [(0, 15), (0, 0)],
         15,
         CapsuleFault::Header,
     ),
-    Spoilt("15 bytes", 1_091, NONE, 15, CapsuleFault::NonceSize),
-    Spoilt("17 bytes", 1_091, NONE, 17, CapsuleFault::NonceSize),
     Spoilt(
-        "15 bytes, last bit",
+        "a nonce of 15 bytes",
+        1_091,
+        NONE,
+        15,
+        CapsuleFault::NonceSize,
+    ),
+    Spoilt(
+        "a nonce of 17 bytes",
+        1_091,
+        NONE,
+        17,
+        CapsuleFault::NonceSize,
+    ),
+    Spoilt(
+        "a nonce of 15 bytes, last bit of the tag",
         1_091,
         [(1_090, 1), (0, 0)],
         15,
@@ -137,10 +149,17 @@ const REQUESTS: [Spoilt; 26] = [
         16,
         CapsuleFault::Failed,
     ),
+    Spoilt("a byte behind it", 1_092, NONE, 16, CapsuleFault::Failed),
+];
+
+// The same of sntrup857, whose encapsulations have 1,184 bytes.
+const REQUESTS_857: [Spoilt; 2] = [
+    Spoilt("15 bytes of a tag", 1_206, NONE, 16, CapsuleFault::Short),
+    Spoilt("a tag alone", 1_207, NONE, 16, CapsuleFault::Failed),
 ];
 
 // Of a response with AES-128-GCM: 16 bytes of nonce, and 36 of the ciphertext.
-const RESPONSES: [Spoilt; 7] = [
+const RESPONSES: [Spoilt; 8] = [
     Spoilt("no byte", 0, NONE, 16, CapsuleFault::Short),
     Spoilt("a nonce", 16, NONE, 16, CapsuleFault::Short),
     Spoilt("15 bytes of a tag", 31, NONE, 16, CapsuleFault::Short),
@@ -166,15 +185,16 @@ const RESPONSES: [Spoilt; 7] = [
         16,
         CapsuleFault::Failed,
     ),
+    Spoilt("a byte behind it", 53, NONE, 16, CapsuleFault::Failed),
 ];
 
 // A response that isn't spoilt, taken with another encapsulation.
 const WHOLE: Spoilt = Spoilt("another encapsulation", 52, NONE, 16, CapsuleFault::Failed);
 
-fn assert_request_refused<R: Abort + Threads + Sync>(
+fn assert_request_refused<R: Abort + Threads + Sync, S: KemParams>(
     rt: &R,
     alloc: Global,
-    secret: &SecretKey<Sntrup761>,
+    secret: &SecretKey<S>,
     request: &[u8],
     case: &Spoilt,
 ) {
@@ -239,4 +259,18 @@ fn responses_are_refused_by_the_first_cause(rt: HostRuntime) -> Result<(), Fail>
     };
     assert_response_refused(&rt, alloc, &other, response.as_slice(), &WHOLE);
     Ok(())
+}
+
+// The response is of zeros.
+#[test]
+fn the_shortest_messages_of_sntrup857_are_read(rt: HostRuntime) {
+    let alloc = rt.alloc();
+    let (public, secret) = keys_of::<Sntrup857>(&rt, alloc);
+    let (asked, request) = asked(&rt, alloc, &public, &SUITE, QUESTION);
+    for case in &REQUESTS_857 {
+        assert_request_refused(&rt, alloc, &secret, request.as_slice(), case);
+    }
+    for case in &RESPONSES[2..4] {
+        assert_response_refused(&rt, alloc, &asked, &[], case);
+    }
 }

@@ -1,6 +1,6 @@
-//! Ends that give and take in pieces, faults in each place, batches that are cut, and lines of malice.
+//! Ends that give and take in pieces, faults in each place, batches that are cut, and malformed lines.
 
-use crate::batch_runner_tests::runs::SCHEDULED;
+use crate::batch_runner_tests::runs::OPENINGS_AND_SCHEDULES;
 use crate::batch_runner_tests::{assert_end, outcome_of};
 use crate::expected::{assert_at, assert_same};
 use batch_io::{FreeGate, MemorySink, MemorySource};
@@ -40,7 +40,7 @@ fn answer_by_steps<R: Abort + Threads + Wait + Sync>(
 
 #[test]
 fn pieces_of_each_size_are_the_same_batch(rt: HostRuntime) {
-    let row = &SCHEDULED[OPENING];
+    let row = &OPENINGS_AND_SCHEDULES[OPENING];
     let text = row.reply.as_bytes();
     for read in STEPS {
         for written in STEPS {
@@ -53,8 +53,8 @@ fn pieces_of_each_size_are_the_same_batch(rt: HostRuntime) {
 
 #[test]
 fn each_read_fails_in_turn(rt: HostRuntime) {
-    let input = SCHEDULED[OPENING].input.as_bytes();
-    let text = SCHEDULED[OPENING].reply.as_bytes();
+    let input = OPENINGS_AND_SCHEDULES[OPENING].input.as_bytes();
+    let text = OPENINGS_AND_SCHEDULES[OPENING].reply.as_bytes();
     let reads = input.len().div_ceil(16) as u32 + 1;
     for read in 1..=reads {
         let end = answer_by_steps(&rt, rt.alloc(), input, (16, 16), &[read], &[]);
@@ -64,10 +64,10 @@ fn each_read_fails_in_turn(rt: HostRuntime) {
     assert_end(&rt, &end, Outcome::Done, text, "no read that fails");
 }
 
-// The writes are as many as fail, one after another, until there is none to fail.
+// Each write fails once, until a run has no such write.
 #[test]
 fn each_write_fails_in_turn(rt: HostRuntime) {
-    let row = &SCHEDULED[OPENING];
+    let row = &OPENINGS_AND_SCHEDULES[OPENING];
     let whole = row.reply.as_bytes();
     let mut failed = 0;
     for write in 1..1_000 {
@@ -87,7 +87,7 @@ fn each_write_fails_in_turn(rt: HostRuntime) {
         assert_at(&rt, outcome, Outcome::WriteFault, "failed write", write);
         failed = write;
     }
-    assert!(rt; failed as usize >= whole.len() / 16);
+    assert_same(&rt, failed as usize, whole.len().div_ceil(16), "writes");
 }
 
 // The line that a front of a batch is answered: it has no `end`, or not even its first line.
@@ -102,12 +102,19 @@ fn cut_reply(alloc: Global, front: &[u8]) -> Result<String, AllocError> {
 #[test]
 fn a_cut_batch_is_named(rt: HostRuntime) -> Result<(), Fail> {
     let alloc = rt.alloc();
-    let input = SCHEDULED[OPENING].input.as_bytes();
+    let input = OPENINGS_AND_SCHEDULES[OPENING].input.as_bytes();
     for size in 0..input.len() {
         let front = &input[..size];
-        let (_, sink) = answer_by_steps(&rt, alloc, front, (4096, 4096), &[], &[]);
+        let (outcome, sink) = answer_by_steps(&rt, alloc, front, (4096, 4096), &[], &[]);
+        assert!(rt; matches!(outcome, Outcome::BadBatch { .. }), "{size}");
         let wanted = cut_reply(alloc, front)?;
-        assert_at(&rt, sink.bytes(), wanted.as_bytes(), "piece size", size);
+        assert_at(
+            &rt,
+            sink.bytes(),
+            wanted.as_bytes(),
+            "bytes of the batch",
+            size,
+        );
     }
     Ok(())
 }
@@ -139,7 +146,7 @@ fn outcome_with<R: Abort + Threads + Wait + Sync>(rt: &R, alloc: Global, line: &
 }
 
 #[test]
-fn lines_of_malice_are_named(rt: HostRuntime) {
+fn malformed_lines_are_named(rt: HostRuntime) {
     for (line, reason) in &LINES {
         let (line, reason) = (*line, *reason);
         let bad = Outcome::BadBatch { line: 3, reason };

@@ -4,40 +4,99 @@
 use crate::batch_runner_tests::threads::{MOST_TURNS, sealed_numbers};
 use crate::batch_runner_tests::{answer_to, gated_answer_to};
 use crate::expected::{assert_at, assert_same};
-use batch_io::{HoldGate, MemorySink, Point};
+use batch_io::{Gate, MemorySink, Point};
 use batch_runner::Outcome;
 use std::alloc::Global;
 use std::process::Abort;
 use std::sync::Wait;
+use std::sync::atomic::{AtomicBool, Ordering};
 use std::test::Fail;
-use std::thread::Threads;
+use std::thread::{self, Threads};
 
 // Two lanes that seal the same text on one context, and then on one that each adds.
 const ADDS: &str =
     "hpkebatch 2\nshare send 32 1 1 fe0e18c9f024ce43799ae393c7e8fe8fce9d218875e8227b0187c04e7d2ea1fc base 4f6465206f6e2061204772656369616e2055726e - - 9\nlane\nseal 0 436f756e742d30 4265617574792069732074727574682c20747275746820626561757479\nadd send 32 1 1 fe0e18c9f024ce43799ae393c7e8fe8fce9d218875e8227b0187c04e7d2ea1fc base 4f6465206f6e2061204772656369616e2055726e - - 9\nseal +0 436f756e742d30 4265617574792069732074727574682c20747275746820626561757479\nlane\nseal 0 436f756e742d30 4265617574792069732074727574682c20747275746820626561757479\nadd send 32 1 1 fe0e18c9f024ce43799ae393c7e8fe8fce9d218875e8227b0187c04e7d2ea1fc base 4f6465206f6e2061204772656369616e2055726e - - 9\nseal +1 436f756e742d30 4265617574792069732074727574682c20747275746820626561757479\nend\n";
 
-// What one lane adds and the first of its calls answers (RFC 9180, A.1.1.1).
+// The replies to a lane's `add`, and to its seal on the added context (RFC 9180, A.1.1.1).
 const ADDED: &str =
     "added\nsealed 0 f938558b5d72f1a23810b4be2ab4f84331acc02fc97babc53a52ae8218a355a96d8770ac83d07bea87e13c512a\n";
 
-// Whichever lane is held at its first draw, the other one answers meanwhile, and adds a context: so no
-// lane waits for the other's call to end.
+// A gate over `ADDS` that holds a lane at its first draw until the other one's `add` is answered, and
+// that one at its own first draw until the lane is held.
+#[derive(Drop)]
+struct AddGate {
+    held: u32,
+    is_held: AtomicBool,
+    is_added: AtomicBool,
+    gave_up: AtomicBool,
+}
+
+impl AddGate {
+    fn new(held: u32) -> AddGate {
+        AddGate {
+            held,
+            is_held: AtomicBool::new(false),
+            is_added: AtomicBool::new(false),
+            gave_up: AtomicBool::new(false),
+        }
+    }
+
+    fn gave_up(&self) -> bool {
+        self.gave_up.load(Ordering::SeqCst)
+    }
+
+    // Waits until the sign is set, for so many turns at most.
+    fn wait(&self, sign: &AtomicBool) {
+        for turn in 0..MOST_TURNS {
+            if sign.load(Ordering::SeqCst) {
+                return;
+            }
+            if turn % 1024 == 0 {
+                thread::yield_now();
+            }
+        }
+        self.gave_up.store(true, Ordering::SeqCst);
+    }
+}
+
+impl Gate for AddGate {
+    fn reached(&self, lane: u32, call: u32, point: Point) {
+        let is_held = lane == self.held;
+        match (call, point) {
+            (0, Point::Drawn) if is_held => {
+                self.is_held.store(true, Ordering::SeqCst);
+                self.wait(&self.is_added);
+            }
+            (0, Point::Drawn) => self.wait(&self.is_held),
+            (1, Point::Answered) if !is_held => self.is_added.store(true, Ordering::SeqCst),
+            _ => {}
+        }
+    }
+}
+
+// Whichever lane is held at its first draw, the other one adds a context meanwhile: so no lane waits
+// for the other's call to end.
 #[test]
 fn a_lane_that_is_held_up_holds_no_add_up(rt: HostRuntime) -> Result<(), Fail> {
     let alloc = rt.alloc();
-    for (held, other) in [(0, 1), (1, 0)] {
-        let gate = HoldGate::new(held, Point::Drawn, other, MOST_TURNS);
+    for held in 0..2 {
+        let gate = AddGate::new(held);
         let words = ["live", "--workers", "2"];
         let (outcome, sink) = gated_answer_to(&rt, alloc, &words, ADDS, 4096, &gate);
         assert_same(&rt, outcome, Outcome::Done, "outcome");
         assert!(rt; !gate.gave_up());
         let text = str::from_utf8(sink.bytes())?;
-        assert_same(&rt, text.split(ADDED).count(), 3, "what was added");
+        assert_same(&rt, count_in(text, ADDED), 2, "what was added");
         let mut numbers = sealed_numbers(alloc, sink.bytes())?;
         numbers.sort_unstable();
         assert!(rt; numbers.iter().copied().eq([0, 0, 0, 1]));
     }
     Ok(())
+}
+
+// How often a piece stands in a text: `split` gives one part more.
+fn count_in(text: &str, piece: &str) -> usize {
+    text.split(piece).count().wrapping_sub(1)
 }
 
 // A lane that adds a context, seals on it 50 times, retires it, and seals 50 times more; and one that
@@ -62,7 +121,7 @@ fn racing_lanes(alloc: Global) -> Result<String, Fail> {
 }
 
 // Of the notes of racing lanes, how many of lane 1 found the name live; none where a note doesn't tell
-// what those before it left.
+// what those before it left. Lane 0's call 0 is the add, and its call 51 the retire.
 fn found_by_lane_1(text: &str) -> Option<usize> {
     let (_, table) = text.split_once("table\n")?;
     let mut live = false;
@@ -101,24 +160,11 @@ fn done_run<R: Abort + Threads + Wait + Sync>(
 
 fn assert_refusals(rt: &impl Abort, text: &str, found: usize, workers: &str) -> Result<(), Fail> {
     let (first, second) = text.split_once("lane 1\n").ok_or("two lanes")?;
-    assert_at(rt, first.split("\nsealed ").count(), 51, "workers", workers);
-    assert_at(
-        rt,
-        first.split("refused nocontext\n").count(),
-        51,
-        "workers",
-        workers,
-    );
-    assert_at(
-        rt,
-        second
-            .split("refused nocontext\n")
-            .count()
-            .wrapping_add(found),
-        101,
-        "workers",
-        workers,
-    );
+    let sealed = count_in(first, "\nsealed ");
+    let refused = count_in(first, "refused nocontext\n");
+    assert_at(rt, (sealed, refused), (50, 50), "workers", workers);
+    let refused = count_in(second, "refused nocontext\n");
+    assert_at(rt, refused.wrapping_add(found), 100, "workers", workers);
     Ok(())
 }
 
@@ -168,9 +214,10 @@ fn adding_lanes(alloc: Global) -> Result<String, Fail> {
 }
 
 fn assert_all_added(rt: &impl Abort, text: &str) -> Result<(), Fail> {
-    assert_same(rt, text.split("added\n").count(), 257, "lines of adds");
-    assert_same(rt, text.split("\njournal +").count(), 257, "journals");
+    assert_same(rt, count_in(text, "added\n"), 256, "lines of adds");
+    assert_same(rt, count_in(text, "\njournal +"), 256, "journals");
     let (_, table) = text.split_once("table\n").ok_or("a table")?;
+    // Each call has a note, and `end` is the last line.
     assert_same(rt, table.lines().count(), 16 * 18 + 1, "lines of the table");
     Ok(())
 }

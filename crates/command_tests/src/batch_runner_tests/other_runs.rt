@@ -6,7 +6,8 @@ use request_frames::Reason;
 use result_verdicts::Verdict;
 
 // A batch with keys. Its reply has so many bytes and ends with the lanes and the journals; the bytes of
-// keys and encapsulations before them are those of the stored examples.
+// keys and encapsulations before them are compared in lattice_tests and core_tests; here only that each
+// multiplier gives the same.
 pub struct Exchange {
     pub source: &'static str,
     pub input: &'static str,
@@ -158,7 +159,7 @@ pub const BAD: [BadRun; 15] = [
     },
 ];
 
-// Another command than `run` and `rehearse`, its input and the text that it writes.
+// Another command that reads an input, the input, and the text that it writes.
 pub struct Other {
     pub source: &'static str,
     pub words: &'static [&'static str],
@@ -167,7 +168,7 @@ pub struct Other {
     pub text: &'static str,
 }
 
-pub const OTHERS: [Other; 11] = [
+pub const OTHERS: [Other; 10] = [
     Other {
         source: "RFC 9180, A.1.1.1; the batch and its reply",
         words: &["check"],
@@ -210,13 +211,6 @@ pub const OTHERS: [Other; 11] = [
             reason: Reason::Header,
         },
         text: "bad 1 header\n",
-    },
-    Other {
-        source: "tools/reference: one message, one lane",
-        words: &["demo", "0", "1", "1"],
-        input: "no input is read",
-        outcome: Outcome::Done,
-        text: "messages 1 opened 1 refused 0\nsha256 e2949e0ada9610f5a9a3f86ed8b2874de13668035dbe1b48d2f75e748c416ad0\n",
     },
     Other {
         source: "RFC 9180, A.1.1.1: a context is called before it is added, then, and after it is retired",

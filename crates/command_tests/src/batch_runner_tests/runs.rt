@@ -10,8 +10,8 @@ pub struct Run {
     pub reply: &'static str,
 }
 
-// One lane, and no opening of several messages.
-pub const RUNS: [Run; 13] = [
+// At most one lane, and no opening of several messages.
+pub const RUNS: [Run; 14] = [
     Run {
         source: "own: the shortest batch, a byte a call",
         words: &["run"],
@@ -78,7 +78,7 @@ pub const RUNS: [Run; 13] = [
         reply: "hpkebatch 1\ncontext 0 shared\njournal 0\nend\n",
     },
     Run {
-        source: "own: each refusal of a context, and a call on one of them",
+        source: "own: each refusal of a context by its psk inputs, and a call on one of them",
         words: &["run"],
         input: "hpkebatch 1\nshare recv 32 1 1 fe0e18c9f024ce43799ae393c7e8fe8fce9d218875e8227b0187c04e7d2ea1fc psk 4f6465206f6e2061204772656369616e2055726e aa - 1\nshare recv 32 1 1 fe0e18c9f024ce43799ae393c7e8fe8fce9d218875e8227b0187c04e7d2ea1fc base 4f6465206f6e2061204772656369616e2055726e aa bb 1\nshare recv 32 1 1 fe0e18c9f024ce43799ae393c7e8fe8fce9d218875e8227b0187c04e7d2ea1fc psk 4f6465206f6e2061204772656369616e2055726e - - 1\nlane\nunseal 0 436f756e742d30 f938558b5d72f1a23810b4be2ab4f84331acc02fc97babc53a52ae8218a355a96d8770ac83d07bea87e13c512a\nend\n",
         step: 4096,
@@ -105,10 +105,17 @@ pub const RUNS: [Run; 13] = [
         step: 4096,
         reply: "hpkebatch 1\ncontext 0 shared\nlane 0\nrefused role\njournal 0\nend\n",
     },
+    Run {
+        source: "own: the shortest batch of version 2",
+        words: &["run"],
+        input: "hpkebatch 2\nend\n",
+        step: 4096,
+        reply: "hpkebatch 2\nend\n",
+    },
 ];
 
-// Several lanes, openings of several messages, both versions, and rehearsals.
-pub const SCHEDULED: [Run; 10] = [
+// Openings of several messages, and rehearsals, in both versions.
+pub const OPENINGS_AND_SCHEDULES: [Run; 9] = [
     Run {
         source: "RFC 9180, A.1.1.1; two lanes, the second first",
         words: &["rehearse", "1,0"],
@@ -164,13 +171,6 @@ pub const SCHEDULED: [Run; 10] = [
         input: "hpkebatch 2\nshare send 32 1 1 fe0e18c9f024ce43799ae393c7e8fe8fce9d218875e8227b0187c04e7d2ea1fc base 4f6465206f6e2061204772656369616e2055726e - - 9\nshare recv 32 1 1 fe0e18c9f024ce43799ae393c7e8fe8fce9d218875e8227b0187c04e7d2ea1fc base 4f6465206f6e2061204772656369616e2055726e - - 9\nlane\nseal 0 436f756e742d30 4265617574792069732074727574682c20747275746820626561757479\nunsealall 1 436f756e742d30 f938558b5d72f1a23810b4be2ab4f84331acc02fc97babc53a52ae8218a355a96d8770ac83d07bea87e13c512a 436f756e742d31 af2d7e9ac9ae7e270f46ba1f975be53c09f8d875bdc8535458c2494e8a6eab251c03d0c22a56b8ca42c2063b84\nlane\nseal 0 436f756e742d31 4265617574792069732074727574682c20747275746820626561757479\nend\n",
         step: 4096,
         reply: "hpkebatch 2\ncontext 0 shared\ncontext 1 shared\nlane 0\nsealed 0 f938558b5d72f1a23810b4be2ab4f84331acc02fc97babc53a52ae8218a355a96d8770ac83d07bea87e13c512a\nopened 0 4265617574792069732074727574682c20747275746820626561757479\nopened 1 4265617574792069732074727574682c20747275746820626561757479\nbatch 0 0\nlane 1\nsealed 1 af2d7e9ac9ae7e270f46ba1f975be53c09f8d875bdc8535458c2494e8a6eab251c03d0c22a56b8ca42c2063b84\njournal 0\n0 0 0 0\n1 0 0 1\njournal 1\n0 1 0 2\n0 1 1 3\nend\n",
-    },
-    Run {
-        source: "own: the shortest batch of version 2",
-        words: &["run"],
-        input: "hpkebatch 2\nend\n",
-        step: 4096,
-        reply: "hpkebatch 2\nend\n",
     },
     Run {
         source: "own: the shortest batch, rehearsed",

@@ -10,8 +10,8 @@ use std::test::Fail;
 // A turn of a gate that holds a lane is one load: so many are enough on a busy machine.
 pub const MOST_TURNS: u64 = 1_000_000_000;
 
-// Source: RFC 9180, A.1.1.1. Lane 0 is held when it has guessed 0, until lane 1 has opened message 0:
-// so its own message 1 is opened at the number 1, outside of its table.
+// Source: RFC 9180, A.1.1.1. Lane 0 is held where it has guessed. If it guessed 0, its message is opened
+// outside of its table; if lane 1 was quicker, it guessed 1. The text is the same.
 const OPENINGS: &str =
     "hpkebatch 1\nshare recv 32 1 1 fe0e18c9f024ce43799ae393c7e8fe8fce9d218875e8227b0187c04e7d2ea1fc base 4f6465206f6e2061204772656369616e2055726e - - 9\nlane\nunseal 0 436f756e742d31 af2d7e9ac9ae7e270f46ba1f975be53c09f8d875bdc8535458c2494e8a6eab251c03d0c22a56b8ca42c2063b84\nlane\nunseal 0 436f756e742d30 f938558b5d72f1a23810b4be2ab4f84331acc02fc97babc53a52ae8218a355a96d8770ac83d07bea87e13c512a\nend\n";
 
@@ -67,7 +67,7 @@ fn one_worker_serves_the_lanes_in_order(rt: HostRuntime) {
 
 // ---- sixteen lanes
 
-// Sixteen lanes that seal one text each on one context, and open it on another.
+// Sixteen lanes that seal two texts each on one context.
 fn sixteen_lanes(alloc: Global) -> Result<String, Fail> {
     let mut text = String::from_str(
         alloc,

@@ -49,20 +49,36 @@ pub(crate) const X1: Span = Span {
 
 const NONE: Span = Span { start: 0, len: 0 };
 
-// The items of the openings of several messages.
+// Where the items of each opening of several messages begin.
+pub(crate) const CHANGED_TAG_AT: u32 = 0;
+
+pub(crate) const FIVE_CHANGED_TAGS_AT: u32 = 3;
+
+pub(crate) const STALE_GUESS_AT: u32 = 9;
+
+pub(crate) const REPLAY_AT: u32 = 10;
+
+pub(crate) const TWO_CONTEXTS_AT: u32 = 12;
+
+// The items of those openings.
 const ITEMS: [Item; 14] = [
+    // a changed tag between two messages
     Item { aad: A0, text: C0 },
     Item { aad: A1, text: X1 },
     Item { aad: A1, text: C1 },
+    // five changed tags before a message
     Item { aad: A0, text: X0 },
     Item { aad: A0, text: X0 },
     Item { aad: A0, text: X0 },
     Item { aad: A0, text: X0 },
     Item { aad: A0, text: X0 },
     Item { aad: A0, text: C0 },
+    // a stale guess
     Item { aad: A1, text: C1 },
+    // a replay
     Item { aad: A0, text: C0 },
     Item { aad: A0, text: C0 },
+    // two contexts
     Item { aad: A0, text: C0 },
     Item { aad: A1, text: C1 },
 ];
@@ -146,7 +162,7 @@ fn items(rt: &impl Abort, alloc: Global) -> PlainList<Item>
     PlainList::from_vec(Vec::from_slice(alloc, &ITEMS).expect(rt, "memory"))
 }
 
-// The pool has bytes for each call of its own, as each line of a text has.
+// The pool is as long as if each call had bytes of its own.
 fn plan_of(
     rt: &impl Abort,
     alloc: Global,
@@ -192,7 +208,9 @@ pub(crate) fn rehearsed<R: Abort + Threads + Sync>(
     let keys = PlainList::from_vec(Vec::new(alloc));
     let replies = [ContextReply::Shared, ContextReply::Shared];
     let replies = PlainList::from_vec(Vec::from_array(alloc, replies).expect(rt, "memory"));
-    let Ok(mut answers) = Answers::for_plan(alloc, &plan, keys, replies, &[8160, 8160]) else {
+    // 255 Nh of each context.
+    let limits = [8160, 8160];
+    let Ok(mut answers) = Answers::for_plan(alloc, &plan, keys, replies, &limits) else {
         panic!(rt; "memory");
     };
     rehearse(rt, alloc, &plan, &contexts, schedule, &mut answers).expect(rt, "memory");

@@ -37,7 +37,7 @@ const SHORT_SECRET: Span = Span {
     len: 1762,
 };
 
-const LONG_SECRET: Span = Span {
+const SECRET_OF_761: Span = Span {
     start: 1,
     len: 1763,
 };
@@ -67,7 +67,7 @@ const KEY_REFUSALS: [(KeyLine, Option<KeyRefusal>); 7] = [
     (KeyLine::Secret(FORMLESS), Some(KeyRefusal::Form)),
     (KeyLine::Peer(SHORT_PUBLIC), Some(KeyRefusal::Length)),
     (KeyLine::Peer(ANY_PUBLIC), None),
-    (KeyLine::Secret857(LONG_SECRET), Some(KeyRefusal::Length)),
+    (KeyLine::Secret857(SECRET_OF_761), Some(KeyRefusal::Length)),
     (KeyLine::Peer857(ANY_PUBLIC), Some(KeyRefusal::Length)),
     (KeyLine::Generate857, None),
 ];

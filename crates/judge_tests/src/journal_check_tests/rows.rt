@@ -10,8 +10,8 @@ pub struct Row {
     pub verdict: Verdict,
 }
 
-// Two seals on one context.
-pub const SEALS: [Row; 9] = [
+// The shortest batch, and two seals on one context.
+pub const SEALS: [Row; 11] = [
     Row {
         source: "own: the shortest batch",
         batch: "hpkebatch 1\nend\n",
@@ -65,6 +65,18 @@ pub const SEALS: [Row; 9] = [
         batch: "hpkebatch 1\nshare send 32 1 1 fe0e18c9f024ce43799ae393c7e8fe8fce9d218875e8227b0187c04e7d2ea1fc base 4f6465206f6e2061204772656369616e2055726e - - 2\nlane\nseal 0 436f756e742d30 4265617574792069732074727574682c20747275746820626561757479\nseal 0 436f756e742d31 4265617574792069732074727574682c20747275746820626561757479\nend\n",
         result: "hpkebatch 1\ncontext 0 shared\nlane 0\nsealed 0 f938558b5d72f1a23810b4be2ab4f84331acc02fc97babc53a52ae8218a355a96d8770ac83d07bea87e13c512b\nsealed 1 af2d7e9ac9ae7e270f46ba1f975be53c09f8d875bdc8535458c2494e8a6eab251c03d0c22a56b8ca42c2063b84\njournal 0\n0 1 0\n0 0 0\nend\n",
         verdict: Verdict::Journal { context: 0 },
+    },
+    Row {
+        source: "RFC 9180, A.1.1.1, with lane 1 first",
+        batch: "hpkebatch 1\nshare send 32 1 1 fe0e18c9f024ce43799ae393c7e8fe8fce9d218875e8227b0187c04e7d2ea1fc base 4f6465206f6e2061204772656369616e2055726e - - 2\nlane\nseal 0 436f756e742d31 4265617574792069732074727574682c20747275746820626561757479\nlane\nseal 0 436f756e742d30 4265617574792069732074727574682c20747275746820626561757479\nend\n",
+        result: "hpkebatch 1\ncontext 0 shared\nlane 0\nsealed 1 af2d7e9ac9ae7e270f46ba1f975be53c09f8d875bdc8535458c2494e8a6eab251c03d0c22a56b8ca42c2063b84\nlane 1\nsealed 0 f938558b5d72f1a23810b4be2ab4f84331acc02fc97babc53a52ae8218a355a96d8770ac83d07bea87e13c512a\njournal 0\n1 0 0\n0 0 0\nend\n",
+        verdict: Verdict::Legal,
+    },
+    Row {
+        source: "own: the same replies, with lane 0 first",
+        batch: "hpkebatch 1\nshare send 32 1 1 fe0e18c9f024ce43799ae393c7e8fe8fce9d218875e8227b0187c04e7d2ea1fc base 4f6465206f6e2061204772656369616e2055726e - - 2\nlane\nseal 0 436f756e742d31 4265617574792069732074727574682c20747275746820626561757479\nlane\nseal 0 436f756e742d30 4265617574792069732074727574682c20747275746820626561757479\nend\n",
+        result: "hpkebatch 1\ncontext 0 shared\nlane 0\nsealed 1 af2d7e9ac9ae7e270f46ba1f975be53c09f8d875bdc8535458c2494e8a6eab251c03d0c22a56b8ca42c2063b84\nlane 1\nsealed 0 f938558b5d72f1a23810b4be2ab4f84331acc02fc97babc53a52ae8218a355a96d8770ac83d07bea87e13c512a\njournal 0\n0 0 0\n1 0 0\nend\n",
+        verdict: Verdict::Reply { line: 4 },
     },
 ];
 

@@ -13,7 +13,7 @@ fn public_fault<S: KemParams>(alloc: Global, bytes: &[u8]) -> Option<KeyBytesFau
     PublicKey::<S>::from_bytes(alloc, bytes).err()
 }
 
-// The secret key's bytes with all polynomials -1, and the byte ff at a place.
+// A secret key of zero bytes, so that each coefficient of f and 1/g is -1, with the byte ff at a place.
 fn secret_with<S: KemParams>(alloc: Global, place: usize) -> Result<Vec<u8>, OutOfMemory> {
     let mut bytes = vec![in alloc; 0u8; S::SECRET]?;
     if let Some(byte) = bytes.get_mut(place) {

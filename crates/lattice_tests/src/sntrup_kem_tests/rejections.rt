@@ -12,8 +12,8 @@ use std::process::Abort;
 use std::test::Fail;
 
 // Rejection keys: with bit 0 of the byte at a place flipped, of the rounded part or of the hash;
-// and of what Hide makes of an r of weight w - 1, which is decrypted to that r. Its coding begins
-// with so many bytes of four ones.
+// and of what Hide makes of an r of weight w - 1: e/g is that r again, and for its weight alone
+// Decrypt gives w ones and zeros in its place. The coding of r begins with so many bytes of four ones.
 struct RejectedCase {
     spoilt: [(usize, &'static str); 4],
     whole_bytes: usize,
@@ -79,7 +79,7 @@ fn spoilt(alloc: Global, enc: &[u8], place: usize) -> Result<Vec<u8>, OutOfMemor
     Ok(bytes)
 }
 
-// Makes the small coding of w - 1 ones followed by zeros of bytes 0x55: w - 1 is one more than a
+// Makes the small coding of w - 1 ones followed by zeros, out of bytes 0x55: w - 1 is one more than a
 // multiple of 4 in both sets, and so is p.
 fn write_light(coding: &mut [u8], whole_bytes: usize) {
     for (k, byte) in coding.iter_mut().enumerate() {

@@ -113,14 +113,16 @@ fn assert_session<S: KemParams>(
     assert_bytes(rt, &key, case.shared_secret, "decapsulated", case.seed);
 }
 
-// The keys are read again from their bytes, and the public key from the secret one.
+// The secret key is read again from its bytes, and the public key is the one in it, read from its
+// bytes as a peer reads it.
 fn assert_case<S: KemParams>(rt: &impl Abort, alloc: Global, case: &KemCase) {
     let (public, made) = keys_of::<S>(rt, alloc, &bytes_of(rt, case.seed));
     assert_keys(rt, case, &public, &made);
     let secret = SecretKey::<S>::from_bytes(alloc, made.as_slice()).expect(rt, "a secret key");
     let held = secret.public(alloc).expect(rt, "a public key");
     assert!(rt; held.as_slice() == public.as_slice());
-    assert_session(rt, alloc, case, &held, &secret);
+    let read = PublicKey::<S>::from_bytes(alloc, held.as_slice()).expect(rt, "a public key");
+    assert_session(rt, alloc, case, &read, &secret);
 }
 
 #[test]

@@ -1,25 +1,41 @@
 //! The gate that holds a lane until another has answered.
 
 use batch_io::{Gate, HoldGate, Point};
+use std::sync::atomic::{AtomicBool, Ordering};
 use std::thread;
 
 // Far more turns than another thread needs to come.
 const TURNS: u64 = 1_000_000_000;
 
+// Turns of lane 1 before it answers: so many that a lane that isn't held is past its point by then.
+const LATE: u32 = 1_000;
+
+// Lane 1 raises the flag before it answers, and lane 0 looks at it once it is past its point.
 #[test]
 fn a_lane_is_held_until_the_other_has_answered(rt: HostRuntime) {
     let gate = HoldGate::new(0, Point::Drawn, 1, TURNS);
-    let shared = &gate;
-    thread::join(
+    let flag = AtomicBool::new(false);
+    let (shared, answers) = (&gate, &flag);
+    let (was_held, ()) = thread::join(
         &rt,
-        || shared.reached(0, 0, Point::Drawn),
-        || shared.reached(1, 0, Point::Answered),
+        || {
+            shared.reached(0, 0, Point::Drawn);
+            answers.load(Ordering::SeqCst)
+        },
+        || {
+            for _ in 0..LATE {
+                thread::yield_now();
+            }
+            answers.store(true, Ordering::SeqCst);
+            shared.reached(1, 0, Point::Answered)
+        },
     );
+    assert!(rt; was_held);
     assert!(rt; !gate.gave_up());
 }
 
 #[test]
-fn a_lane_is_held_at_its_first_point_of_a_kind_alone(rt: HostRuntime) {
+fn one_lane_is_held_and_at_one_kind_of_point_alone(rt: HostRuntime) {
     let gate = HoldGate::new(0, Point::Guessed, 1, 10);
     gate.reached(0, 0, Point::Drawn);
     gate.reached(2, 0, Point::Guessed);

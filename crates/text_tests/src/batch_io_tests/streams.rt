@@ -5,21 +5,34 @@ ghost use Rattle.std.specs.Prelude.{◌≤◌, IfOk};
 use crate::batch_io_tests::{expect_reads, expect_writes};
 use crate::expected::assert_same;
 use batch_io::{Got, Sink, Source, StdSink, StdSource, Took};
+use std::alloc::{AllocError, Global};
 use std::io;
 use std::io::{ErrorKind, Read, Write};
+use std::process::Abort;
 use std::test::Fail;
 
 // A reader and a writer that answer as they are told, by one number a call: how many bytes are
-// moved, or none for an error.
+// moved, or none for an error. What is read is `x`, and what is written is kept.
 #[derive(Drop)]
 struct Script {
     moves: &'static [Option<usize>],
     flushes: &'static [bool],
     at: usize,
     flushed: usize,
+    written: Vec<u8>,
 }
 
 impl Script {
+    fn new(alloc: Global, moves: &'static [Option<usize>], flushes: &'static [bool]) -> Script {
+        Script {
+            moves,
+            flushes,
+            at: 0,
+            flushed: 0,
+            written: Vec::new(alloc),
+        }
+    }
+
     fn next(&mut self, len: usize) -> io::Result<usize>
         ensures { IfOk result (λ n. n ≤ len) }
     {
@@ -42,7 +55,11 @@ impl Read for Script {
 
 impl Write for Script {
     fn write(&mut self, buf: &[u8]) -> io::Result<usize> {
-        self.next(buf.len())
+        let count = self.next(buf.len())?;
+        match self.written.extend_from_slice(&buf[..count]) {
+            Ok(()) => Ok(count),
+            Err(_) => Err(ErrorKind::OutOfMemory.into()),
+        }
     }
 
     fn flush(&mut self) -> io::Result<()> {
@@ -58,12 +75,8 @@ impl Write for Script {
 
 #[test]
 fn the_std_source_answers_failed_at_an_error_and_goes_on(rt: HostRuntime) {
-    let mut reader = Script {
-        moves: &[Some(2), None, Some(4), Some(1), Some(0)],
-        flushes: &[],
-        at: 0,
-        flushed: 0,
-    };
+    let moves = &[Some(2), None, Some(4), Some(1), Some(0)];
+    let mut reader = Script::new(rt.alloc(), moves, &[]);
     let mut source = StdSource::new(&mut reader);
     let gives = [
         Got::Bytes(2),
@@ -75,14 +88,13 @@ fn the_std_source_answers_failed_at_an_error_and_goes_on(rt: HostRuntime) {
     expect_reads(&rt, &mut source, &gives, b"xxxxxxx", "std source");
 }
 
+// The second piece that is taken is told as failed, since the flush behind it fails, and so is
+// written twice. An empty piece is no fault.
 #[test]
 fn the_std_sink_flushes_each_write_and_answers_failed_where_one_fails(rt: HostRuntime) {
-    let mut writer = Script {
-        moves: &[Some(2), None, Some(0), Some(2), Some(1)],
-        flushes: &[true, true, true, false, true],
-        at: 0,
-        flushed: 0,
-    };
+    let moves = &[Some(2), None, Some(0), Some(2), Some(1), Some(2), Some(0)];
+    let flushes = &[true, true, true, false];
+    let mut writer = Script::new(rt.alloc(), moves, flushes);
     let mut sink = StdSink::new(&mut writer);
     let takes = [
         Took::Bytes(2),
@@ -90,29 +102,41 @@ fn the_std_sink_flushes_each_write_and_answers_failed_where_one_fails(rt: HostRu
         Took::Failed,
         Took::Failed,
         Took::Bytes(1),
+        Took::Bytes(2),
+        Took::Bytes(0),
     ];
     expect_writes(&rt, &mut sink, &takes, b"batch", "std sink");
     drop(sink);
-    assert_same(&rt, writer.flushed, 5, "flushes");
+    assert_same(&rt, writer.flushed, 7, "flushes");
+    assert_same(
+        &rt,
+        writer.written.as_slice(),
+        b"batctch".as_slice(),
+        "what is written",
+    );
 }
 
-// Reads and writes of so many bytes at once, up to the largest piece that is printed.
-const SIZES: [usize; 4] = [1, 4096, 20_000, 32_768];
+// Reads and writes of so many bytes at once. In a buffer of field_text 32,768 bytes wait at most,
+// and the first read of a run is one of 65,536.
+const SIZES: [usize; 5] = [1, 4096, 20_000, 32_768, 65_536];
+
+// Reads and writes of a piece of this size.
+fn expect_whole(rt: &impl Abort, alloc: Global, size: usize) -> Result<(), AllocError> {
+    let mut piece = vec![in alloc; 0; size]?;
+    let mut script = Script::new(alloc, &[Some(65_536), Some(65_536)], &[]);
+    let got = StdSource::new(&mut script).read(&mut piece);
+    assert_same(rt, got, Got::Bytes(size), "got");
+    assert!(rt; piece.iter().all(|byte| *byte == b'x'), "{size}");
+    let took = StdSink::new(&mut script).write(&piece);
+    assert_same(rt, took, Took::Bytes(size), "took");
+    assert!(rt; script.written == piece, "{size}");
+    Ok(())
+}
 
 #[test]
 fn the_std_ends_move_large_pieces_whole(rt: HostRuntime) -> Result<(), Fail> {
     for size in SIZES {
-        let mut piece = vec![in rt.alloc(); 0; size]?;
-        let mut script = Script {
-            moves: &[Some(32_768), Some(32_768)],
-            flushes: &[],
-            at: 0,
-            flushed: 0,
-        };
-        let got = StdSource::new(&mut script).read(&mut piece);
-        assert_same(&rt, got, Got::Bytes(size), "got");
-        let took = StdSink::new(&mut script).write(&piece);
-        assert_same(&rt, took, Took::Bytes(size), "took");
+        expect_whole(&rt, rt.alloc(), size)?;
     }
     Ok(())
 }

@@ -10,8 +10,8 @@ ru
 --workers|4
 --workers=4|run
 help
-run|run
-run|rehearse|-
+lives
+capsule
 ",
     // other workers
     "\
@@ -27,11 +27,13 @@ run|--workers|160
 run|--workers|4294967300
 run|--workers|18446744073709551620
 run|--workers|four
+run|--workers|plain
 run|--workers|٤
 run|--workers|
 run|--workers=
 run|--workers=0
 run|--workers==4
+live|--workers|17
 ",
     // another multiplier
     "\
@@ -42,7 +44,7 @@ run|--mult|
 run|--mult=
 run|--mult=-
 run|--mult|4
-run|--workers|plain
+live|--mult|fast
 ",
     // another option
     "\
@@ -61,6 +63,8 @@ run|-V
     // a missing or further word, a repeated option
     "\
 run|4
+run|run
+run|rehearse|-
 run|--workers
 run|--mult
 run|--mult|plain|--workers
@@ -71,12 +75,9 @@ run|--workers=4|--workers=4
 run|--workers|--workers=4
 run|--mult=plain|--mult|plain
 run|--mult|plain|--workers=4|--mult=lanes
-live|--workers|17
-live|--mult|fast
 live|run
 live|-
 live|--workers=4|--workers=4
-lives
 ",
     // another schedule
     "\
@@ -121,15 +122,16 @@ demo|--help
     // other words after `check` and `capsules`
     "\
 check|--workers|4
+check|--mult
 check|--mult|fast
 check|--mult|plain|--mult|plain
 check|plain
 check|--help
 capsules|--workers|4
 capsules|--mult
+capsules|--mult|fast
 capsules|--mult|plain|--workers|4
 capsules|lanes
-capsule
 ",
     // a word `--`, which `clap` alone would take
     "\

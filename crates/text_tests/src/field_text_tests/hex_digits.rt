@@ -5,12 +5,12 @@ use batch_io::MemorySink;
 use field_text::{Buffer, Printed, read_bytes};
 use std::test::Fail;
 
-// The plain program is the crate `hex`. Up to 100 bytes, so that there are whole blocks of lanes and
-// rests of each size behind them.
+// The crate `hex` says what is due. From 1 to 100 bytes, so that there are whole blocks of lanes and
+// rests of each size behind them. The factor is odd, so that each byte of a text has another value.
 #[test]
 fn lanes_print_and_read_as_hex_does(rt: HostRuntime) -> Result<(), Fail> {
     let alloc = rt.alloc();
-    for count in 1..100usize {
+    for count in 1..101usize {
         let mut bytes = vec![in alloc; 0u8; count]?;
         for i in 0..count {
             bytes[i] = ((i * 167 + count) % 256) as u8;

@@ -1,6 +1,7 @@
-//! Texts that are no such batch, each with its first bad line and reason.
+//! Texts that are no batch whose lanes add and retire contexts, each with its first bad line and
+//! reason.
 
-use crate::bad_case::BadCase;
+use crate::bad_cases::{BadCase, LongCase};
 use field_text::Reason;
 
 // What follows the first line `hpkebatch 2`. All are own, made by hand from the grammar.
@@ -163,38 +164,32 @@ pub const BAD: [BadCase; 26] = [
     },
 ];
 
-// A long one: lines `before`, and then a line so many times.
-pub struct LongCase {
-    pub what: &'static str,
-    pub before: &'static [u8],
-    pub part: &'static [u8],
-    pub times: usize,
-    pub line: u32,
-    pub reason: Reason,
-}
-
+// Long texts, from their first line on. All are own, as above.
 pub const LONG: [LongCase; 3] = [
     LongCase {
         what: "257 contexts, 256 of which are added",
-        before: b"share send 32 1 1 5e base - - - 9\nlane\n",
+        before: b"hpkebatch 2\nshare send 32 1 1 5e base - - - 9\nlane\n",
         part: b"add send 32 1 1 5e base - - - 9\n",
         times: 256,
+        after: b"",
         line: 259,
         reason: Reason::Count,
     },
     LongCase {
         what: "256 contexts, and no end",
-        before: b"share send 32 1 1 5e base - - - 9\nlane\n",
+        before: b"hpkebatch 2\nshare send 32 1 1 5e base - - - 9\nlane\n",
         part: b"add send 32 1 1 5e base - - - 9\n",
         times: 255,
+        after: b"",
         line: 259,
         reason: Reason::NoEnd,
     },
     LongCase {
         what: "65,537 items",
-        before: b"lane\n",
+        before: b"hpkebatch 2\nlane\n",
         part: b"retire +0\n",
         times: 65_537,
+        after: b"",
         line: 65_539,
         reason: Reason::Count,
     },

@@ -30,6 +30,7 @@ struct Case {
 // What the spans of each reply name.
 const POOL: [u8; 2] = [0xc0, 0xc1];
 
+// The guess of the opening that was served, and the room that the refused one left.
 const GUESSES: [Batch; 2] = [
     Batch {
         guess: 7,
@@ -43,7 +44,7 @@ const GUESSES: [Batch; 2] = [
 
 const CASES: [Case; 2] = [
     Case {
-        source: "own: a context is called before it is added, while it may be, and when it is retired",
+        source: "own: a context is called before it is added, while it is live, and after it is retired",
         batch: b"hpkebatch 2\nlane\nseal +0 a0 b0b1\nadd send 32 1 1 5e base 1f - - 9\nseal +0 a0 b0b1\nretire +0\nseal +0 a0 b0b1\nend\n",
         keys: 0,
         replies: &[

@@ -1,5 +1,6 @@
 //! Texts that are read, and texts that are bad.
 
+use crate::bad_cases::{BadCase, LongCase, expect_bad, long_text};
 use crate::expected::assert_same;
 use crate::live_frames_tests::bad_texts::{BAD, LONG};
 use batch_plans::{CallLine, ContextKind, ContextLine, Plan};
@@ -12,41 +13,41 @@ use std::alloc::{AllocError, Global};
 use std::process::Abort;
 use std::test::Fail;
 
-// Whether the text behind the first line is bad at this line, for this reason.
-fn is_bad(alloc: Global, behind: &[u8], line: u32, reason: Reason) -> Result<bool, AllocError> {
-    let mut text = Vec::from_slice(alloc, b"hpkebatch 2\n")?;
-    text.extend_from_slice(behind)?;
-    match read_live(alloc, &text) {
-        Err(ReadBatchFault::Bad(bad)) => Ok(bad == BadBatch { line, reason }),
-        _ => Ok(false),
+fn refusal_of(alloc: Global, text: &[u8]) -> Option<BadBatch> {
+    match read_live(alloc, text) {
+        Err(ReadBatchFault::Bad(bad)) => Some(bad),
+        _ => None,
     }
+}
+
+// The text behind the first line has the bad line and the reason that are due.
+fn expect_behind(rt: &impl Abort, alloc: Global, case: &BadCase) -> Result<(), AllocError> {
+    let mut text = Vec::from_slice(alloc, b"hpkebatch 2\n")?;
+    text.extend_from_slice(case.text)?;
+    let refusal = refusal_of(alloc, &text);
+    expect_bad(rt, refusal, case.line, case.reason, case.what);
+    Ok(())
+}
+
+// The text of these parts has the bad line and the reason that are due.
+fn expect_long(rt: &impl Abort, alloc: Global, case: &LongCase) -> Result<(), AllocError> {
+    let text = long_text(alloc, case)?;
+    let refusal = refusal_of(alloc, &text);
+    expect_bad(rt, refusal, case.line, case.reason, case.what);
+    Ok(())
 }
 
 #[test]
 fn a_bad_text_has_its_first_bad_line_and_reason(rt: HostRuntime) -> Result<(), Fail> {
     let alloc = rt.alloc();
     for case in &BAD {
-        let what = case.what;
-        assert!(rt; is_bad(alloc, case.text, case.line, case.reason)?, "{what}");
+        expect_behind(&rt, alloc, case)?;
     }
     for case in &LONG {
-        let what = case.what;
-        let mut text = Vec::from_slice(alloc, case.before)?;
-        for _ in 0..case.times {
-            text.extend_from_slice(case.part)?;
-        }
-        assert!(rt; is_bad(alloc, &text, case.line, case.reason)?, "{what}");
+        expect_long(&rt, alloc, case)?;
     }
-    match read_live(alloc, b"hpkebatch 1\nlane\nend\n".as_slice()) {
-        Err(ReadBatchFault::Bad(bad)) => {
-            let want = BadBatch {
-                line: 1,
-                reason: Reason::Header,
-            };
-            assert_same(&rt, bad, want, "bad")
-        }
-        _ => panic!(rt; "version 1"),
-    }
+    let refusal = refusal_of(alloc, b"hpkebatch 1\nlane\nend\n");
+    expect_bad(&rt, refusal, 1, Reason::Header, "version 1");
     Ok(())
 }
 
@@ -64,12 +65,12 @@ fn item(aad: u32, text: u32) -> Item {
 // A lane has these calls.
 fn expect_calls(rt: &impl Abort, plan: &Plan, lane: usize, calls: &[CallLine]) {
     match plan.lanes.as_slice().get(lane) {
-        Some(found) => assert_same(rt, found.as_slice(), calls, "found.as_slice()"),
+        Some(found) => assert_same(rt, found.as_slice(), calls, "calls of a lane"),
         None => panic!(rt; "no lane"),
     }
 }
 
-// Own, by hand: a context is called before it is added, while it may be, and when it is retired.
+// Own, by hand: a context is called before it is added, while it is live, and after it is retired.
 #[test]
 fn a_context_is_added_called_and_retired(rt: HostRuntime) -> Result<(), Fail> {
     let text =
@@ -120,6 +121,17 @@ fn a_context_is_added_called_and_retired(rt: HostRuntime) -> Result<(), Fail> {
     Ok(())
 }
 
+// The KEM ids of the contexts, all of whose shared secrets are given.
+fn kems_of(alloc: Global, plan: &Plan) -> Result<Vec<u16>, AllocError> {
+    let mut kems = Vec::new(alloc);
+    for line in plan.contexts.as_slice() {
+        if let ContextKind::Share { kem, .. } = line.kind {
+            kems.push(kem)?;
+        }
+    }
+    Ok(kems)
+}
+
 // Own, by hand: contexts are named in the order of the text, behind those of context lines.
 #[test]
 fn contexts_are_named_over_all_lanes(rt: HostRuntime) -> Result<(), Fail> {
@@ -129,7 +141,8 @@ fn contexts_are_named_over_all_lanes(rt: HostRuntime) -> Result<(), Fail> {
         panic!(rt; "not read");
     };
     assert_same(&rt, plan.added, 2, "contexts added");
-    assert_same(&rt, plan.contexts.as_slice().len(), 3, "how many contexts");
+    let kems = kems_of(rt.alloc(), &plan)?;
+    assert_same(&rt, kems.as_slice(), [7, 8, 9].as_slice(), "KEM ids");
     let first = [
         CallLine::Add { name: 0 },
         CallLine::UnsealAll {

@@ -1,4 +1,4 @@
-//! Answers with each form of a reply once, and a plan for them.
+//! Answers with each form of a reply, and a plan for them.
 
 use call_places::{Item, Mark, Place, Span};
 use hkdf_labelled::{Aead, Kdf};

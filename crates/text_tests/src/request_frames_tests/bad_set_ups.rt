@@ -1,10 +1,10 @@
-//! Texts that are no batch since a line of their seed, their keys or their contexts is bad.
+//! Texts that are no batch because a line of their seed or their keys is bad.
 
-use crate::bad_case::BadCase;
+use crate::bad_cases::BadCase;
 use request_frames::Reason;
 
 // All are own, made by hand from the grammar of the batch text.
-pub static BAD_SET_UPS: [BadCase; 46] = [
+pub static BAD_SET_UPS: [BadCase; 24] = [
     BadCase {
         what: "a word of version 2 in version 1",
         text: b"hpkebatch 1\nrand 0000000000000000000000000000000000000000000000000000000000000000\nkeygen857\nend\n",
@@ -114,6 +114,12 @@ pub static BAD_SET_UPS: [BadCase; 46] = [
         reason: Reason::Fields,
     },
     BadCase {
+        what: "`keygen857` with a field",
+        text: b"hpkebatch 2\nrand 0000000000000000000000000000000000000000000000000000000000000000\nkeygen857 0\nend\n",
+        line: 3,
+        reason: Reason::Fields,
+    },
+    BadCase {
         what: "`secret` without its field",
         text: b"hpkebatch 1\nsecret\nend\n",
         line: 2,
@@ -142,143 +148,5 @@ pub static BAD_SET_UPS: [BadCase; 46] = [
         text: b"hpkebatch 1\nlane\nsecret -\nend\n",
         line: 3,
         reason: Reason::Order,
-    },
-    BadCase {
-        what: "`send` without a seed",
-        text: b"hpkebatch 1\nsend 1 1 0 base - - - 9\nend\n",
-        line: 2,
-        reason: Reason::Order,
-    },
-    BadCase {
-        what: "nine fields of `send`",
-        text: b"hpkebatch 1\nrand 0000000000000000000000000000000000000000000000000000000000000000\nsend 32 1 1 0 base - - - 9\nend\n",
-        line: 3,
-        reason: Reason::Fields,
-    },
-    BadCase {
-        what: "KEY of 65536, before a MODE that is none",
-        text: b"hpkebatch 1\nrand 0000000000000000000000000000000000000000000000000000000000000000\nsend 1 1 65536 x - - - 9\nend\n",
-        line: 3,
-        reason: Reason::Range,
-    },
-    BadCase {
-        what: "`recv` behind a lane",
-        text: b"hpkebatch 1\nlane\nrecv 1 1 0 - base - - - 9\nend\n",
-        line: 3,
-        reason: Reason::Order,
-    },
-    BadCase {
-        what: "eight fields of `recv`",
-        text: b"hpkebatch 1\nrecv 1 1 0 base - - - 9\nend\n",
-        line: 2,
-        reason: Reason::Fields,
-    },
-    BadCase {
-        what: "KEY of `recv` before ENC",
-        text: b"hpkebatch 1\nrecv 1 1 00 x base - - - 9\nend\n",
-        line: 2,
-        reason: Reason::Number,
-    },
-    BadCase {
-        what: "`@` without a number",
-        text: b"hpkebatch 1\nrecv 1 1 0 @ base - - - 9\nend\n",
-        line: 2,
-        reason: Reason::Number,
-    },
-    BadCase {
-        what: "`@` and a leading zero",
-        text: b"hpkebatch 1\nrecv 1 1 0 @00 base - - - 9\nend\n",
-        line: 2,
-        reason: Reason::Number,
-    },
-    BadCase {
-        what: "`@` and 65536",
-        text: b"hpkebatch 1\nrecv 1 1 0 @65536 base - - - 9\nend\n",
-        line: 2,
-        reason: Reason::Range,
-    },
-    BadCase {
-        what: "`@` behind a number",
-        text: b"hpkebatch 1\nrecv 1 1 0 0@ base - - - 9\nend\n",
-        line: 2,
-        reason: Reason::Hex,
-    },
-    BadCase {
-        what: "an empty ENC",
-        text: b"hpkebatch 1\nrecv 1 1 0  base - - - 9\nend\n",
-        line: 2,
-        reason: Reason::Hex,
-    },
-    BadCase {
-        what: "a context behind the lane",
-        text: b"hpkebatch 1\nlane\nshare send 32 1 1 ab base - - - 9\nend\n",
-        line: 3,
-        reason: Reason::Order,
-    },
-    BadCase {
-        what: "a context behind the lane, without its fields",
-        text: b"hpkebatch 1\nlane\nshare\nend\n",
-        line: 3,
-        reason: Reason::Order,
-    },
-    BadCase {
-        what: "nine fields of `share`",
-        text: b"hpkebatch 1\nshare send 32 1 1 ab base - - 9\nend\n",
-        line: 2,
-        reason: Reason::Fields,
-    },
-    BadCase {
-        what: "a ROLE that is none",
-        text: b"hpkebatch 1\nshare sender 32 1 1 ab base - - - 9\nend\n",
-        line: 2,
-        reason: Reason::Word,
-    },
-    BadCase {
-        what: "KEM of 65536",
-        text: b"hpkebatch 1\nshare send 65536 1 1 ab base - - - 9\nend\n",
-        line: 2,
-        reason: Reason::Range,
-    },
-    BadCase {
-        what: "KDF of 0",
-        text: b"hpkebatch 1\nshare send 32 0 1 ab base - - - 9\nend\n",
-        line: 2,
-        reason: Reason::Range,
-    },
-    BadCase {
-        what: "KDF of 4",
-        text: b"hpkebatch 1\nshare send 32 4 1 ab base - - - 9\nend\n",
-        line: 2,
-        reason: Reason::Range,
-    },
-    BadCase {
-        what: "AEAD of 3, ChaCha20Poly1305",
-        text: b"hpkebatch 1\nshare send 32 1 3 ab base - - - 9\nend\n",
-        line: 2,
-        reason: Reason::Range,
-    },
-    BadCase {
-        what: "AEAD of 65536",
-        text: b"hpkebatch 1\nshare send 32 1 65536 ab base - - - 9\nend\n",
-        line: 2,
-        reason: Reason::Range,
-    },
-    BadCase {
-        what: "a MODE that is none",
-        text: b"hpkebatch 1\nshare send 32 1 1 ab auth - - - 9\nend\n",
-        line: 2,
-        reason: Reason::Word,
-    },
-    BadCase {
-        what: "LIMIT of 0",
-        text: b"hpkebatch 1\nshare send 32 1 1 ab base - - - 0\nend\n",
-        line: 2,
-        reason: Reason::Range,
-    },
-    BadCase {
-        what: "LIMIT of 2^64",
-        text: b"hpkebatch 1\nshare send 32 1 1 ab base - - - 18446744073709551616\nend\n",
-        line: 2,
-        reason: Reason::Range,
     },
 ];

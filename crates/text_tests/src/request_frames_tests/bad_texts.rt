@@ -1,10 +1,10 @@
 //! Texts that are no batch, each with its first bad line and reason.
 
-use crate::bad_case::BadCase;
+use crate::bad_cases::BadCase;
 use request_frames::Reason;
 
 // All are own, made by hand from the grammar of the batch text.
-pub static BAD: [BadCase; 62] = [
+pub static BAD: [BadCase; 25] = [
     BadCase {
         what: "no byte",
         text: b"",
@@ -36,13 +36,19 @@ pub static BAD: [BadCase; 62] = [
         reason: Reason::NoEnd,
     },
     BadCase {
+        what: "a second header",
+        text: b"hpkebatch 1\nhpkebatch 1\nend\n",
+        line: 2,
+        reason: Reason::Word,
+    },
+    BadCase {
         what: "an `end` without its line feed",
         text: b"hpkebatch 1\nend",
         line: 2,
         reason: Reason::NoEnd,
     },
     BadCase {
-        what: "a word that is none, without its line feed",
+        what: "a word that is no line's, without its line feed",
         text: b"hpkebatch 1\nende",
         line: 2,
         reason: Reason::NoEnd,
@@ -108,13 +114,13 @@ pub static BAD: [BadCase; 62] = [
         reason: Reason::Word,
     },
     BadCase {
-        what: "a call before the lane",
+        what: "a call before a lane",
         text: b"hpkebatch 1\nexport 0 - 32\nend\n",
         line: 2,
         reason: Reason::Order,
     },
     BadCase {
-        what: "a call before the lane, without its fields",
+        what: "a call before a lane, without its fields",
         text: b"hpkebatch 1\nexport\nend\n",
         line: 2,
         reason: Reason::Order,
@@ -130,222 +136,6 @@ pub static BAD: [BadCase; 62] = [
         text: b"hpkebatch 1\nlane\nlane 0\nend\n",
         line: 3,
         reason: Reason::Fields,
-    },
-    BadCase {
-        what: "two fields of `export`",
-        text: b"hpkebatch 1\nlane\nexport 0 -\nend\n",
-        line: 3,
-        reason: Reason::Fields,
-    },
-    BadCase {
-        what: "a space behind the fields of `export`",
-        text: b"hpkebatch 1\nlane\nexport 0 - 32 \nend\n",
-        line: 3,
-        reason: Reason::Fields,
-    },
-    BadCase {
-        what: "two spaces between fields",
-        text: b"hpkebatch 1\nlane\nexport 0  - 32\nend\n",
-        line: 3,
-        reason: Reason::Fields,
-    },
-    BadCase {
-        what: "two spaces before PT, and so four fields of `seal`",
-        text: b"hpkebatch 1\nlane\nseal 0 -  -\n",
-        line: 3,
-        reason: Reason::Fields,
-    },
-    BadCase {
-        what: "two fields of `seal`",
-        text: b"hpkebatch 1\nlane\nseal 0 -\nend\n",
-        line: 3,
-        reason: Reason::Fields,
-    },
-    BadCase {
-        what: "an empty PT",
-        text: b"hpkebatch 1\nlane\nseal 0 - \nend\n",
-        line: 3,
-        reason: Reason::Hex,
-    },
-    BadCase {
-        what: "a leading zero in the CTX of `seal`",
-        text: b"hpkebatch 1\nlane\nseal 00 - -\nend\n",
-        line: 3,
-        reason: Reason::Number,
-    },
-    BadCase {
-        what: "capital hex digits in PT",
-        text: b"hpkebatch 1\nlane\nseal 0 - AB\nend\n",
-        line: 3,
-        reason: Reason::Hex,
-    },
-    BadCase {
-        what: "a capital letter in `seal`",
-        text: b"hpkebatch 1\nlane\nSeal 0 - -\nend\n",
-        line: 3,
-        reason: Reason::Word,
-    },
-    BadCase {
-        what: "a `seal` before the lane",
-        text: b"hpkebatch 1\nseal 0 - -\nend\n",
-        line: 2,
-        reason: Reason::Order,
-    },
-    BadCase {
-        what: "CTX before AAD",
-        text: b"hpkebatch 1\nlane\nseal 65536 x -\nend\n",
-        line: 3,
-        reason: Reason::Range,
-    },
-    BadCase {
-        what: "four fields of `unseal`",
-        text: b"hpkebatch 1\nlane\nunseal 0 - - -\nend\n",
-        line: 3,
-        reason: Reason::Fields,
-    },
-    BadCase {
-        what: "an `unseal` before the lane, without its fields",
-        text: b"hpkebatch 1\nunseal\nend\n",
-        line: 2,
-        reason: Reason::Order,
-    },
-    BadCase {
-        what: "three hex digits of CT",
-        text: b"hpkebatch 1\nlane\nunseal 0 - 000\nend\n",
-        line: 3,
-        reason: Reason::Hex,
-    },
-    BadCase {
-        what: "an `unsealall` before the lane",
-        text: b"hpkebatch 1\nunsealall 0 - -\nend\n",
-        line: 2,
-        reason: Reason::Order,
-    },
-    BadCase {
-        what: "an `unsealall` without a pair",
-        text: b"hpkebatch 1\nlane\nunsealall 0\nend\n",
-        line: 3,
-        reason: Reason::Fields,
-    },
-    BadCase {
-        what: "an `unsealall` of half a pair",
-        text: b"hpkebatch 1\nlane\nunsealall 0 -\nend\n",
-        line: 3,
-        reason: Reason::Fields,
-    },
-    BadCase {
-        what: "an `unsealall` of a pair and a half",
-        text: b"hpkebatch 1\nlane\nunsealall 0 - - -\nend\n",
-        line: 3,
-        reason: Reason::Fields,
-    },
-    BadCase {
-        what: "an `unsealall` without its fields",
-        text: b"hpkebatch 1\nlane\nunsealall\nend\n",
-        line: 3,
-        reason: Reason::Fields,
-    },
-    BadCase {
-        what: "CTX of `unsealall` before its pairs",
-        text: b"hpkebatch 1\nlane\nunsealall 65536 x x\nend\n",
-        line: 3,
-        reason: Reason::Range,
-    },
-    BadCase {
-        what: "an AAD of the second pair",
-        text: b"hpkebatch 1\nlane\nunsealall 0 - - x -\nend\n",
-        line: 3,
-        reason: Reason::Hex,
-    },
-    BadCase {
-        what: "an empty CT of the second pair",
-        text: b"hpkebatch 1\nlane\nunsealall 0 - - - \nend\n",
-        line: 3,
-        reason: Reason::Hex,
-    },
-    BadCase {
-        what: "an empty CTX",
-        text: b"hpkebatch 1\nlane\nexport  - 32\nend\n",
-        line: 3,
-        reason: Reason::Number,
-    },
-    BadCase {
-        what: "a leading zero",
-        text: b"hpkebatch 1\nlane\nexport 00 - 32\nend\n",
-        line: 3,
-        reason: Reason::Number,
-    },
-    BadCase {
-        what: "a sign",
-        text: b"hpkebatch 1\nlane\nexport +0 - 32\nend\n",
-        line: 3,
-        reason: Reason::Number,
-    },
-    BadCase {
-        what: "an empty LEN",
-        text: b"hpkebatch 1\nlane\nexport 0 - \nend\n",
-        line: 3,
-        reason: Reason::Number,
-    },
-    BadCase {
-        what: "CTX of 65536",
-        text: b"hpkebatch 1\nlane\nexport 65536 - 32\nend\n",
-        line: 3,
-        reason: Reason::Range,
-    },
-    BadCase {
-        what: "CTX of 65536, for no bytes",
-        text: b"hpkebatch 1\nlane\nexport 65536 - 0\n",
-        line: 3,
-        reason: Reason::Range,
-    },
-    BadCase {
-        what: "CTX of 27 digits",
-        text: b"hpkebatch 1\nlane\nexport 999999999999999999999999999 - 32\nend\n",
-        line: 3,
-        reason: Reason::Range,
-    },
-    BadCase {
-        what: "LEN of 65536",
-        text: b"hpkebatch 1\nlane\nexport 0 - 65536\nend\n",
-        line: 3,
-        reason: Reason::Range,
-    },
-    BadCase {
-        what: "CTX before BYTES",
-        text: b"hpkebatch 1\nlane\nexport 65536 x 32\nend\n",
-        line: 3,
-        reason: Reason::Range,
-    },
-    BadCase {
-        what: "BYTES before LEN",
-        text: b"hpkebatch 1\nlane\nexport 0 x 65536\nend\n",
-        line: 3,
-        reason: Reason::Hex,
-    },
-    BadCase {
-        what: "empty BYTES",
-        text: b"hpkebatch 1\nlane\nexport 0  32\nend\n",
-        line: 3,
-        reason: Reason::Hex,
-    },
-    BadCase {
-        what: "capital hex digits",
-        text: b"hpkebatch 1\nlane\nexport 0 AB 32\nend\n",
-        line: 3,
-        reason: Reason::Hex,
-    },
-    BadCase {
-        what: "three hex digits",
-        text: b"hpkebatch 1\nlane\nexport 0 abc 32\nend\n",
-        line: 3,
-        reason: Reason::Hex,
-    },
-    BadCase {
-        what: "two dashes",
-        text: b"hpkebatch 1\nlane\nexport 0 -- 32\nend\n",
-        line: 3,
-        reason: Reason::Hex,
     },
     BadCase {
         what: "a good line before a bad one",
@@ -364,17 +154,5 @@ pub static BAD: [BadCase; 62] = [
         text: b"hpkebatch 2\nlane\nretire +0\nend\n",
         line: 3,
         reason: Reason::Word,
-    },
-    BadCase {
-        what: "a seal on the name of a context",
-        text: b"hpkebatch 2\nlane\nseal +0 - -\nend\n",
-        line: 3,
-        reason: Reason::Number,
-    },
-    BadCase {
-        what: "an opening on the name of a context",
-        text: b"hpkebatch 2\nlane\nunsealall +0 - 00\nend\n",
-        line: 3,
-        reason: Reason::Number,
     },
 ];

@@ -23,7 +23,8 @@ pub fn expect_whole(
     assert_same(rt, sink.bytes(), text, source);
 }
 
-// Where the third call of the sink fails, they are printed as the first 200 bytes of it.
+// Where the third call of the sink fails, the answers are printed as the first 200 bytes of the
+// text.
 pub fn expect_cut_short(
     rt: &impl Abort,
     alloc: Global,

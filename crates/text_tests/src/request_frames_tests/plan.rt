@@ -1,5 +1,6 @@
 //! A batch with a line of each word, and its plan.
 
+use crate::expected::assert_same;
 use call_places::{Item, Span};
 use hkdf_labelled::{Aead, Kdf};
 use key_schedule::{Mode, Role};
@@ -7,6 +8,7 @@ use request_frames::{
     CallLine, ContextKind, ContextLine, EncField, KeyLine, Plan, one_reading, one_spelling,
     read_batch,
 };
+use std::process::Abort;
 use std::test::Fail;
 
 // A batch with a line of each word. Own, made by hand as its plan is.
@@ -52,9 +54,9 @@ const KEYS: [KeyLine; 6] = [
     KeyLine::Peer857(Span { start: 3, len: 2 }),
 ];
 
-const SENT: Span = Span { start: 10, len: 0 };
+const EMPTY_AT_10: Span = Span { start: 10, len: 0 };
 
-const RECEIVED: Span = Span { start: 11, len: 0 };
+const EMPTY_AT_11: Span = Span { start: 11, len: 0 };
 
 const CONTEXTS: [ContextLine; 4] = [
     ContextLine {
@@ -76,9 +78,9 @@ const CONTEXTS: [ContextLine; 4] = [
         kdf: Kdf::Sha256,
         aead: Aead::Aes128,
         mode: Mode::Base,
-        info: SENT,
-        psk: SENT,
-        psk_id: SENT,
+        info: EMPTY_AT_10,
+        psk: EMPTY_AT_10,
+        psk_id: EMPTY_AT_10,
         limit: 9,
     },
     ContextLine {
@@ -89,9 +91,9 @@ const CONTEXTS: [ContextLine; 4] = [
         kdf: Kdf::Sha512,
         aead: Aead::ExportOnly,
         mode: Mode::Base,
-        info: SENT,
-        psk: SENT,
-        psk_id: SENT,
+        info: EMPTY_AT_10,
+        psk: EMPTY_AT_10,
+        psk_id: EMPTY_AT_10,
         limit: u64::MAX,
     },
     ContextLine {
@@ -102,9 +104,9 @@ const CONTEXTS: [ContextLine; 4] = [
         kdf: Kdf::Sha384,
         aead: Aead::Aes256,
         mode: Mode::Base,
-        info: RECEIVED,
-        psk: RECEIVED,
-        psk_id: RECEIVED,
+        info: EMPTY_AT_11,
+        psk: EMPTY_AT_11,
+        psk_id: EMPTY_AT_11,
         limit: 2,
     },
 ];
@@ -159,31 +161,40 @@ const SECOND_LANE: [CallLine; 3] = [
     },
 ];
 
-fn is_due(plan: &Plan) -> bool {
-    let lanes_are = match plan.lanes.as_slice() {
-        [first, second, third] => {
-            first.as_slice() == FIRST_LANE.as_slice()
-                && second.as_slice() == SECOND_LANE.as_slice()
-                && third.as_slice().is_empty()
-        }
-        _ => false,
+// The seed, the keys and the contexts are those of the batch.
+fn expect_set_up(rt: &impl Abort, plan: &Plan) {
+    assert_same(rt, plan.version, 2, "version");
+    assert_same(rt, plan.seed, Some(SEED), "seed");
+    assert_same(rt, plan.pool.as_slice(), POOL.as_slice(), "pool");
+    assert_same(rt, plan.keys.as_slice(), KEYS.as_slice(), "keys");
+    assert_same(
+        rt,
+        plan.contexts.as_slice(),
+        CONTEXTS.as_slice(),
+        "contexts",
+    );
+    assert_same(rt, plan.added, 0, "contexts added");
+}
+
+// The lanes and their items are those of the batch.
+fn expect_lanes(rt: &impl Abort, plan: &Plan) {
+    let [first, second, third] = plan.lanes.as_slice() else {
+        panic!(rt; "not three lanes");
     };
-    plan.version == 2
-        && plan.seed == Some(SEED)
-        && plan.pool.as_slice() == POOL.as_slice()
-        && plan.keys.as_slice() == KEYS.as_slice()
-        && plan.contexts.as_slice() == CONTEXTS.as_slice()
-        && plan.items.as_slice() == ITEMS.as_slice()
-        && lanes_are
+    assert_same(rt, first.as_slice(), FIRST_LANE.as_slice(), "lane 0");
+    assert_same(rt, second.as_slice(), SECOND_LANE.as_slice(), "lane 1");
+    assert!(rt; third.as_slice().is_empty(), "lane 2");
+    assert_same(rt, plan.items.as_slice(), ITEMS.as_slice(), "items");
 }
 
 #[test]
 fn a_batch_is_read_with_its_plan(rt: HostRuntime) -> Result<(), Fail> {
     one_reading();
     one_spelling();
-    match read_batch(rt.alloc(), WHOLE) {
-        Ok(plan) => assert!(rt; is_due(&plan)),
-        Err(_) => assert!(rt; false),
-    }
+    let Ok(plan) = read_batch(rt.alloc(), WHOLE) else {
+        panic!(rt; "not read");
+    };
+    expect_set_up(&rt, &plan);
+    expect_lanes(&rt, &plan);
     Ok(())
 }

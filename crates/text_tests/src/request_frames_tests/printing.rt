@@ -1,4 +1,4 @@
-//! Each form of a reply's lines once, and replies that are cut short.
+//! Each form of a reply's lines, and replies that are cut short.
 
 use crate::expected::assert_same;
 use crate::printable::is_in_range;
@@ -30,7 +30,7 @@ context 8 refused pskextra
 context 9 refused pskmissing
 ";
 
-// Own, by hand: each form of a reply once, with the least and the greatest numbers, and no bytes.
+// Own, by hand: each form of a reply, with the least and the greatest numbers, and no bytes.
 const REPLIES: &str = "sealed 0 deadbeef
 opened 18446744073709551615 ad
 opened 9 -
@@ -48,7 +48,8 @@ added
 retired
 ";
 
-// Own, by hand: the greatest numbers of a guess and of a place, an empty lane, empty journals.
+// Own, by hand: the greatest numbers of a guess, the greatest lane and stamp of a place, an empty
+// lane, empty journals.
 const REST: &str = "lane 1
 limit
 batch 18446744073709551615 4294967295

@@ -1,18 +1,25 @@
-//! Texts that are refused, batches that something follows, and fields by themselves.
+//! Texts that are refused, the limits of their fields, batches that something follows, fields by
+//! themselves, and the lists that plans are made of.
 
 ghost use Rattle.std.specs.Prelude.{◌+◌, ◌<◌, ◌≤◌, ◌^◌, vec_len};
 
-use crate::bad_case::BadCase;
+use crate::bad_cases::{
+    BadCase, FieldCase, LongCase, expect_bad, expect_limit, long_text, text_with,
+};
 use crate::expected::assert_same;
+use crate::request_frames_tests::bad_calls::BAD_CALLS;
+use crate::request_frames_tests::bad_contexts::BAD_CONTEXTS;
 use crate::request_frames_tests::bad_set_ups::BAD_SET_UPS;
 use crate::request_frames_tests::bad_texts::BAD;
-use crate::request_frames_tests::long_texts::{CIPHERTEXTS, LONG, LongCase, PLAINTEXTS};
+use crate::request_frames_tests::long_fields::{CIPHERTEXTS, FIELDS, PLAINTEXT};
+use crate::request_frames_tests::long_texts::LONG;
 use call_places::Span;
 use request_frames::{
     BadBatch, FieldFault, PlainList, ReadBatchFault, Reason, read_batch, read_bytes, read_front,
     read_number,
 };
 use std::alloc::{AllocError, Global};
+use std::process::Abort;
 use std::test::Fail;
 
 fn refusal_of(alloc: Global, text: &[u8]) -> Option<BadBatch> {
@@ -22,70 +29,72 @@ fn refusal_of(alloc: Global, text: &[u8]) -> Option<BadBatch> {
     }
 }
 
-// Whether the text has the bad line and the reason that are due.
-fn is_bad(alloc: Global, case: &BadCase) -> bool {
-    let want = BadBatch {
-        line: case.line,
-        reason: case.reason,
-    };
-    refusal_of(alloc, case.text) == Some(want)
+// Each text has the bad line and the reason that are due.
+fn expect_each_bad(rt: &impl Abort, alloc: Global, cases: &[BadCase]) {
+    for case in cases {
+        let refusal = refusal_of(alloc, case.text);
+        expect_bad(rt, refusal, case.line, case.reason, case.what);
+    }
 }
 
 #[test]
 fn a_bad_text_has_its_first_bad_line_and_reason(rt: HostRuntime) -> Result<(), Fail> {
-    for case in &BAD {
-        let what = case.what;
-        assert!(rt; is_bad(rt.alloc(), case), "{what}");
-    }
-    for case in &BAD_SET_UPS {
-        let what = case.what;
-        assert!(rt; is_bad(rt.alloc(), case), "{what}");
-    }
+    let alloc = rt.alloc();
+    expect_each_bad(&rt, alloc, &BAD);
+    expect_each_bad(&rt, alloc, &BAD_SET_UPS);
+    expect_each_bad(&rt, alloc, &BAD_CONTEXTS);
+    expect_each_bad(&rt, alloc, &BAD_CALLS);
     Ok(())
 }
 
-// The same of the text of these parts.
-fn is_refused(alloc: Global, case: &LongCase) -> Result<bool, AllocError> {
-    let mut text = Vec::from_slice(alloc, case.before)?;
-    for _ in 0..case.times {
-        text.extend_from_slice(case.part)?;
-    }
-    text.extend_from_slice(case.after)?;
-    let want = BadBatch {
-        line: case.line,
-        reason: case.reason,
-    };
-    Ok(refusal_of(alloc, &text) == Some(want))
+// The text of these parts has the bad line and the reason that are due.
+fn expect_long(rt: &impl Abort, alloc: Global, case: &LongCase) -> Result<(), AllocError> {
+    let text = long_text(alloc, case)?;
+    let refusal = refusal_of(alloc, &text);
+    expect_bad(rt, refusal, case.line, case.reason, case.what);
+    Ok(())
 }
 
 #[test]
-fn a_limit_is_passed_by_one(rt: HostRuntime) -> Result<(), Fail> {
+fn each_limit_of_a_batch_is_exact(rt: HostRuntime) -> Result<(), Fail> {
     for case in &LONG {
-        let what = case.what;
-        assert!(rt; is_refused(rt.alloc(), case)?, "{what}");
+        expect_long(&rt, rt.alloc(), case)?;
+    }
+    Ok(())
+}
+
+// The field may have so many bytes, and not one more.
+fn expect_most(rt: &impl Abort, alloc: Global, case: &FieldCase) -> Result<(), AllocError> {
+    let text = text_with(alloc, case, case.most)?;
+    let at_limit = refusal_of(alloc, &text);
+    let text = text_with(alloc, case, case.most.saturating_add(1))?;
+    expect_limit(rt, at_limit, refusal_of(alloc, &text), case);
+    Ok(())
+}
+
+#[test]
+fn a_field_has_at_most_65535_bytes(rt: HostRuntime) -> Result<(), Fail> {
+    for case in &FIELDS {
+        expect_most(&rt, rt.alloc(), case)?;
     }
     Ok(())
 }
 
 #[test]
-fn a_plaintext_is_too_long_by_one(rt: HostRuntime) -> Result<(), Fail> {
-    for case in &PLAINTEXTS {
-        let what = case.what;
-        assert!(rt; is_refused(rt.alloc(), case)?, "{what}");
-    }
+fn a_plaintext_has_at_most_1048576_bytes(rt: HostRuntime) -> Result<(), Fail> {
+    expect_most(&rt, rt.alloc(), &PLAINTEXT)?;
     Ok(())
 }
 
 #[test]
-fn a_ciphertext_is_too_long_by_one(rt: HostRuntime) -> Result<(), Fail> {
+fn a_ciphertext_has_at_most_1048592_bytes(rt: HostRuntime) -> Result<(), Fail> {
     for case in &CIPHERTEXTS {
-        let what = case.what;
-        assert!(rt; is_refused(rt.alloc(), case)?, "{what}");
+        expect_most(&rt, rt.alloc(), case)?;
     }
     Ok(())
 }
 
-// Where the batch at the front of a text ends, by its version, or its bad line.
+// The version of the batch at the front of a text and where it ends, or its bad line.
 fn front_of(alloc: Global, text: &[u8]) -> Result<(u8, usize), Option<BadBatch>> {
     match read_front(alloc, text) {
         Ok((plan, end)) => Ok((plan.version, end)),

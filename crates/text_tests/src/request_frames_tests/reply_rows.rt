@@ -141,7 +141,7 @@ pub const REPLIES: [ReplyCase; 7] = [
         text: OPENING,
     },
     ReplyCase {
-        source: "own: the same in version 2",
+        source: "own: an opening of three messages, of which the second is forged, in version 2",
         version: 2,
         contexts: 1,
         lanes: &[LaneCase {
@@ -153,7 +153,7 @@ pub const REPLIES: [ReplyCase; 7] = [
         text: OPENING_STAMPED,
     },
     ReplyCase {
-        source: "own: an opening whose last two messages are past the guess",
+        source: "own: an opening whose last two messages had numbers that weren't tested",
         version: 1,
         contexts: 1,
         lanes: &[LaneCase {

@@ -38,7 +38,7 @@ const ROOMS: [RoomCase; 6] = [
         places: &[2],
     },
     RoomCase {
-        source: "the same, opened, and once more with another tag",
+        source: "RFC 9180, A.1.1.1: both messages opened, and the second with another tag",
         text: "hpkebatch 1\nshare recv 32 1 1 fe0e18c9f024ce43799ae393c7e8fe8fce9d218875e8227b0187c04e7d2ea1fc base 4f6465206f6e2061204772656369616e2055726e - - 1\nlane\nunseal 0 436f756e742d30 f938558b5d72f1a23810b4be2ab4f84331acc02fc97babc53a52ae8218a355a96d8770ac83d07bea87e13c512a\nunseal 0 436f756e742d31 af2d7e9ac9ae7e270f46ba1f975be53c09f8d875bdc8535458c2494e8a6eab251c03d0c22a56b8ca42c2063b84\nunseal 0 436f756e742d31 af2d7e9ac9ae7e270f46ba1f975be53c09f8d875bdc8535458c2494e8a6eab251c03d0c22a56b8ca42c2063b85\nend\n",
         export_limits: &[8_160],
         refusals: &[None, None, None],
@@ -102,7 +102,8 @@ const ROOMS: [RoomCase; 6] = [
     },
 ];
 
-// The answers of a plan whose contexts all stand.
+// Answers that give each context as shared, also one that was refused: the room goes by the plan
+// and the export limits alone.
 fn answers(alloc: Global, plan: &Plan, export_limits: &[u32]) -> Result<Answers, Fail>
     requires { IsWithinLimits plan.now }
 {
@@ -129,6 +130,7 @@ fn expect_refusals(rt: &impl Abort, plan: &Plan, case: &RoomCase) {
     let [calls] = plan.lanes.as_slice() else {
         panic!(rt; "{source}");
     };
+    assert_same(rt, calls.as_slice().len(), case.refusals.len(), source);
     for (call, want) in calls.as_slice().iter().zip(case.refusals) {
         let refusal = call_refusal(plan.contexts.as_slice(), case.export_limits, call);
         assert_same(rt, refusal, *want, source);
@@ -150,14 +152,15 @@ fn expect_room(rt: &impl Abort, answers: &Answers, case: &RoomCase) {
 fn each_call_has_its_room_or_its_refusal(rt: HostRuntime) -> Result<(), Fail> {
     let alloc = rt.alloc();
     for case in &ROOMS {
+        let source = case.source;
         let Ok(plan) = read_batch(alloc, case.text.as_bytes()) else {
-            panic!(rt; "not read");
+            panic!(rt; "not read: {source}");
         };
         let answers = answers(alloc, &plan, case.export_limits)?;
         expect_refusals(&rt, &plan, case);
         expect_room(&rt, &answers, case);
         let places = places_of(alloc, &answers)?;
-        assert_same(&rt, places.as_slice(), case.places, case.source);
+        assert_same(&rt, places.as_slice(), case.places, source);
     }
     Ok(())
 }

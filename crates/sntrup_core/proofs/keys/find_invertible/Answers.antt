@@ -21,7 +21,7 @@ draw_invertible-requires g c =
 
 pub loop-draw-preserved : goal.loop-draw-preserved
 loop-draw-preserved g c =
-    let here = rw c.in-None.is at c.in_ok-drawn.ensures.none in
+    let here = rw c.in_default.is at c.in_ok-drawn.ensures.none in
     record {
       place = omega (arith, c.in_ok-drawn.ensures.taken, c.loop-draw.invariant.place);
       stays = c.in_ok-drawn.ensures.stays ∙ c.loop-draw.invariant.stays;
