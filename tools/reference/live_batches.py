@@ -80,7 +80,7 @@ class LiveMaker:
 
     def race(self):
         """A lane that adds a sender and retires it, beside lanes that seal on it."""
-        for lane in range(self.lanes + 1):
+        for lane in range(min(self.lanes + 1, 16)):
             yield "lane"
             for turn in range(3 * self.calls):
                 if lane:
