@@ -4,8 +4,8 @@ for the key of stream 0 of the seed of 32 zero bytes, by the definitions of sntr
 SHA-512.
 
 The ciphertexts are that of stream 1 with one bit flipped, and what Hide makes of an r of weight
-w - 1: ones followed by zeros. There e/g is that r again, and for its weight alone Decrypt gives w
-ones and zeros in its place; the hash is right.
+w - 1 and of one of weight w + 1: ones followed by zeros. There e/g is that r again, and for its
+weight alone Decrypt gives w ones and zeros in its place; the hash is right.
 
     python3 tools/vectors/sntrup_reject.py
 
@@ -36,5 +36,6 @@ if __name__ == "__main__":
             spoilt = bytearray(enc)
             spoilt[place] ^= 1
             print("bit 0 of byte", place, rejection_key(rho, bytes(spoilt)).hex())
-        light = [1] * (of.w - 1) + [0] * (p - of.w + 1)
-        print(f"weight {of.w - 1}", rejection_key(rho, hide(of, light, public, h)).hex())
+        for weight in (of.w - 1, of.w + 1):
+            ones = [1] * weight + [0] * (p - weight)
+            print(f"weight {weight}", rejection_key(rho, hide(of, ones, public, h)).hex())

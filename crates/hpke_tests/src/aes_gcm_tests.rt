@@ -260,7 +260,7 @@ fn assert_changed_bits<R: Threads + Abort>(rt: &R, key: &GcmKey, sealed: &mut [u
 // Text and tag of test case 2 with each of their bits flipped, another aad, and texts that are too short
 // for a tag.
 #[test]
-fn changed_tags_do_not_hold(rt: HostRuntime) -> Result<(), Fail> {
+fn changed_messages_do_not_hold(rt: HostRuntime) -> Result<(), Fail> {
     let key = GcmKey::new128(&[0; 16]);
     let mut sealed = <[u8; 32]>::from_hex(
         "0388dace60b6a392f328c2b971b2fe78ab6e47d42cec13bdf53a67b21257bddf",

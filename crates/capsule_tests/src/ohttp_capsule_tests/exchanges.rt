@@ -155,13 +155,14 @@ fn exchanges_are_those_of_another_program(rt: HostRuntime) -> Result<(), Fail> {
     Ok(())
 }
 
-// Texts of no byte, and of the most that there may be.
+// Texts of no byte, and of the most that there may be. sntrup857 has the longer encapsulations, and so
+// its requests are the longest that are answered.
 #[test]
 fn texts_of_the_least_and_the_most_bytes_are_exchanged(rt: HostRuntime) -> Result<(), Fail> {
     let alloc = rt.alloc();
-    let (public, secret) = keys_of::<Sntrup761>(&rt, alloc);
+    let (public, secret) = keys_of::<Sntrup857>(&rt, alloc);
     let suite = Suite {
-        kem: Sntrup761::ID,
+        kem: Sntrup857::ID,
         kdf: Kdf::Sha256,
         aead: Aead::Aes256,
     };
@@ -169,6 +170,12 @@ fn texts_of_the_least_and_the_most_bytes_are_exchanged(rt: HostRuntime) -> Resul
         assert!(rt; length <= 1_048_576);
         let text = vec![in alloc; 7u8; length]?;
         let (asked, request) = asked(&rt, alloc, &public, &suite, &text);
+        assert_same(
+            &rt,
+            request.as_slice().len(),
+            7 + 1_184 + length + 16,
+            "size of the request",
+        );
         let answer = answered(&rt, alloc, &secret, request.as_slice(), &[3; 32], &text);
         let (question, response) = answer.expect(&rt, "an answer");
         assert!(rt; question.as_slice() == text.as_slice(), "the question");

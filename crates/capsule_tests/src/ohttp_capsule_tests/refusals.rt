@@ -188,6 +188,12 @@ const RESPONSES: [Spoilt; 8] = [
     Spoilt("a byte behind it", 53, NONE, 16, CapsuleFault::Failed),
 ];
 
+// The same with AES-256-GCM, and 32 bytes of nonce.
+const RESPONSES_256: [Spoilt; 2] = [
+    Spoilt("15 bytes of a tag", 47, NONE, 32, CapsuleFault::Short),
+    Spoilt("a tag alone", 48, NONE, 32, CapsuleFault::Failed),
+];
+
 // A response that isn't spoilt, taken with another encapsulation.
 const WHOLE: Spoilt = Spoilt("another encapsulation", 52, NONE, 16, CapsuleFault::Failed);
 
@@ -227,6 +233,12 @@ const SUITE: Suite = Suite {
     kem: 63_329,
     kdf: Kdf::Sha256,
     aead: Aead::Aes128,
+};
+
+const SUITE_256: Suite = Suite {
+    kem: 63_329,
+    kdf: Kdf::Sha256,
+    aead: Aead::Aes256,
 };
 
 #[test]
@@ -271,6 +283,17 @@ fn the_shortest_messages_of_sntrup857_are_read(rt: HostRuntime) {
         assert_request_refused(&rt, alloc, &secret, request.as_slice(), case);
     }
     for case in &RESPONSES[2..4] {
+        assert_response_refused(&rt, alloc, &asked, &[], case);
+    }
+}
+
+// They are of zeros.
+#[test]
+fn the_shortest_responses_with_aes_256_are_read(rt: HostRuntime) {
+    let alloc = rt.alloc();
+    let (public, _secret) = keys_of::<Sntrup761>(&rt, alloc);
+    let (asked, _request) = asked(&rt, alloc, &public, &SUITE_256, QUESTION);
+    for case in &RESPONSES_256 {
         assert_response_refused(&rt, alloc, &asked, &[], case);
     }
 }

@@ -12,12 +12,14 @@ use std::process::Abort;
 use std::test::Fail;
 
 // Rejection keys: with bit 0 of the byte at a place flipped, of the rounded part or of the hash;
-// and of what Hide makes of an r of weight w - 1: e/g is that r again, and for its weight alone
-// Decrypt gives w ones and zeros in its place. The coding of r begins with so many bytes of four ones.
+// and of what Hide makes of an r of weight w - 1 and of one of weight w + 1: e/g is that r again, and
+// for its weight alone Decrypt gives w ones and zeros in its place. The coding of either r begins with
+// so many bytes of four ones.
 struct RejectedCase {
     spoilt: [(usize, &'static str); 4],
     whole_bytes: usize,
     light: &'static str,
+    heavy: &'static str,
 }
 
 // Own, by Python 3.11: tools/vectors/sntrup_reject.py, with the key of stream 0 of the zero seed
@@ -43,6 +45,7 @@ const REJECTED_761: RejectedCase = RejectedCase {
     ],
     whole_bytes: 71,
     light: "07f92fc7bf87edd155f9d1038e161f00ead1c62d9472afa8f44339dee5aa8754",
+    heavy: "68bd71b4d1f54cbc2193f9eebc85f79b9f69fdb90ab41570d973c7d2cff4e4ae",
 };
 
 const REJECTED_857: RejectedCase = RejectedCase {
@@ -66,6 +69,7 @@ const REJECTED_857: RejectedCase = RejectedCase {
     ],
     whole_bytes: 80,
     light: "fa3512bf3b93fd140dc54671abfbe0b6f787e67243f99ad3212a50b73fe0fb67",
+    heavy: "5ae7f2952c251856e7ce139173eb465d82da08fd6ffa94725e27f60d849bc9f6",
 };
 
 // The bytes with bit 0 of one flipped.
@@ -79,14 +83,20 @@ fn spoilt(alloc: Global, enc: &[u8], place: usize) -> Result<Vec<u8>, OutOfMemor
     Ok(bytes)
 }
 
-// Makes the small coding of w - 1 ones followed by zeros, out of bytes 0x55: w - 1 is one more than a
-// multiple of 4 in both sets, and so is p.
-fn write_light(coding: &mut [u8], whole_bytes: usize) {
+// The coding of a one and three zeros, and of three ones and a zero: w - 1 is one more than a multiple
+// of 4 in both sets, and w + 1 three more.
+const ONE: u8 = 0x56;
+
+const THREE_ONES: u8 = 0x6a;
+
+// Makes the small coding of ones followed by zeros, out of bytes 0x55: so many bytes of four ones, and
+// then `next`. p is one more than a multiple of 4 in both sets.
+fn write_ones(coding: &mut [u8], whole_bytes: usize, next: u8) {
     for (k, byte) in coding.iter_mut().enumerate() {
         if k < whole_bytes {
             *byte = 0xaa;
         } else if k == whole_bytes {
-            *byte = 0x56;
+            *byte = next;
         }
     }
     if let Some(last) = coding.last_mut() {
@@ -124,21 +134,35 @@ fn hidden<S: KemParams>(
     Ok(enc)
 }
 
-// Its encapsulation, which has the right hash, decapsulated.
-fn light_key<S: KemParams>(
+// The encapsulation of such an r, which has the right hash, decapsulated.
+fn key_of_ones<S: KemParams>(
     alloc: Global,
     whole_bytes: usize,
+    next: u8,
     public: &PublicKey<S>,
     secret: &SecretKey<S>,
 ) -> Option<[u8; 32]> {
     let mut coding = vec![in alloc; 0x55u8; S::P.div_ceil(4)].ok()?;
-    write_light(&mut coding, whole_bytes);
-    let light = small_decode::<S>(alloc, &coding).ok()??;
-    let enc = hidden(alloc, public, &light).ok()?;
+    write_ones(&mut coding, whole_bytes, next);
+    let r = small_decode::<S>(alloc, &coding).ok()??;
+    let enc = hidden(alloc, public, &r).ok()?;
     if enc.len() != S::ENC {
         return None;
     }
     decap(alloc, &Plain, &enc, secret).ok()
+}
+
+fn assert_other_weights<S: KemParams>(
+    rt: &impl Abort,
+    alloc: Global,
+    case: &RejectedCase,
+    public: &PublicKey<S>,
+    secret: &SecretKey<S>,
+) {
+    let light = key_of_ones(alloc, case.whole_bytes, ONE, public, secret);
+    assert_same(rt, light, Some(bytes_of(rt, case.light)), "weight w - 1");
+    let heavy = key_of_ones(alloc, case.whole_bytes, THREE_ONES, public, secret);
+    assert_same(rt, heavy, Some(bytes_of(rt, case.heavy)), "weight w + 1");
 }
 
 fn assert_rejected<S: KemParams>(
@@ -153,8 +177,7 @@ fn assert_rejected<S: KemParams>(
         let key = decapsulated(rt, alloc, &other, &secret);
         assert_at(rt, key, bytes_of(rt, digits), "byte", place);
     }
-    let key = light_key(alloc, case.whole_bytes, &public, &secret);
-    assert_same(rt, key, Some(bytes_of(rt, case.light)), "weight");
+    assert_other_weights(rt, alloc, case, &public, &secret);
     Ok(())
 }
 
