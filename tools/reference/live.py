@@ -155,8 +155,8 @@ def judge_journals(run):
         places = [entry[:3] for entry in journal]
         if sorted(places) != served:
             raise Wrong(f"journal {context} has not each served place once")
-        for k, (lane, at, item) in enumerate(places):
-            if item and places[k - 1] != (lane, at, item - 1):
+        for one, next in zip(journal, journal[1:]):
+            if next[2] and (one[:3] != (*next[:2], next[2] - 1) or one[3] + 1 != next[3]):
                 raise Wrong(f"an opening is not in one block in journal {context}")
         if any(one[3] >= next[3] for one, next in zip(journal, journal[1:])):
             raise Wrong(f"the stamps of journal {context} don't rise")
