@@ -23,15 +23,19 @@ folders_of() {
     sed 's/[ :].*//; s/^/crates\//'
 }
 
-# A sum of the program's lines of crates.txt, and of the name and the bytes of each file that the program
-# is made from. No date counts, and no README.md.
-sum_of_sources() {
+# The files that the program is made from, and their folders, each ended by a zero byte. No README.md.
+sources() {
     local folders
     mapfile -t folders < <(rows | folders_of)
+    find HANDLES crates.txt "${folders[@]}" \( -name out -o -name must-fail -o -name README.md \) -prune -o "$@"
+}
+
+# A sum of the program's lines of crates.txt, and of the name and the bytes of each file that the program
+# is made from. No date counts.
+sum_of_sources() {
     {
         rows
-        find HANDLES "${folders[@]}" \( -name out -o -name must-fail -o -name README.md \) -prune -o -type f -print0 |
-            LC_ALL=C sort -z | xargs -0 sha256sum
+        sources -type f ! -name crates.txt -print0 | LC_ALL=C sort -z | xargs -0 sha256sum
     } | sha256sum
 }
 
@@ -41,7 +45,24 @@ keep_sum() {
     echo "$1$(sha256sum <"$program")" >"$program.sources"
 }
 
+# Whether the sums were compared before, and no source and no program was changed since: the system keeps of
+# each file and each folder when it was last changed, whatever date it is given. (Where the clock was
+# set back a change may be missed.)
+is_as_seen() {
+    [ -f "$program.seen" ] &&
+        [ -z "$(sources -cnewer "$program.seen" -print -quit; find "$program" "$program.sources" -cnewer "$program.seen")" ]
+}
+
+# Whether the program that stands was built from the sources as they are.
 is_built() {
-    [ -x "$program" ] && [ -f "$program.sources" ] &&
-        [ "$(cat "$program.sources")" = "$(sum_of_sources)$(sha256sum <"$program")" ]
+    local seeing=$program.seen.$$
+    [ -x "$program" ] && [ -f "$program.sources" ] || return
+    is_as_seen && return
+    # its date is from before the sums, so that a change meanwhile isn't missed
+    : 2>/dev/null >"$seeing"
+    if [ "$(cat "$program.sources")" != "$(sum_of_sources)$(sha256sum <"$program")" ]; then
+        rm -f "$seeing"
+        return 1
+    fi
+    mv -f "$seeing" "$program.seen" 2>/dev/null || :
 }

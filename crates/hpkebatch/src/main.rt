@@ -5,22 +5,14 @@
 //! for each outcome but `Done` and `BadBatch`, and else nothing. The exit status is `status`.
 #![tactic(auto)]
 
+mod words;
+
+use crate::words::words;
 use batch_io::{FreeGate, StdSink, StdSource};
 use batch_runner::{Outcome, serve_words, status};
-use std::alloc::Global;
-use std::env::Env;
+use std::io;
 use std::io::ErrorKind;
 use std::process::ExitCode;
-use std::{env, io};
-
-// The words of the command line, without the program's name.
-fn words<R: Env + Alloc<A = Global>>(rt: &R) -> io::Result<Vec<String>> {
-    let mut words = Vec::new(rt.alloc());
-    for word in env::args(rt)?.skip(1) {
-        words.push(word)?;
-    }
-    Ok(words)
-}
 
 const USAGE: &'static str = "usage: hpkebatch run [--workers W] [--mult plain|karatsuba|lanes] | \
     live [--workers W] [--mult M] | rehearse SCHEDULE | demo SEED MESSAGES LANES | \
