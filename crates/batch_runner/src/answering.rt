@@ -52,7 +52,7 @@ fn rehearsed_by<R: Threads + Sync>(
     let Begun {
         standing,
         mut answers,
-    } = begin(alloc, plan, Mult::Plain)?;
+    } = begin(alloc, plan, Mult::Lanes)?;
     rehearse(rt, alloc, plan, standing.as_slice(), schedule, &mut answers)?;
     Ok(answers)
 }

@@ -63,9 +63,9 @@ abbrev pub workers : Option (List ℕ) → Option ℕ
 workers None = Some 4
 workers (Some value) = decimal_from_to 1 16 value
 
--- M: the name of a multiplier, and `plain` where the option does not stand
+-- M: the name of a multiplier, and `lanes` where the option does not stand
 abbrev pub mult : Option (List ℕ) → Option Mult
-mult None = Some Plain
+mult None = Some Lanes
 mult (Some value) =
     if bytes_eq value (codes "plain") then Some Plain
     else (if bytes_eq value (codes "karatsuba") then Some Karatsuba

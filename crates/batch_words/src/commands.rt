@@ -38,10 +38,11 @@ pub enum Command {
     },
 }
 
-/// The multiplier of the ring's polynomials. All of them give the same products.
+/// The multiplier of the ring's polynomials. All of them give the same products; [`Mult::Lanes`] is
+/// the usual one.
 #[derive(Clone, Copy, Debug, PartialEq, Eq)]
 pub enum Mult {
-    /// Coefficient by coefficient.
+    /// Coefficient by coefficient, with a branch for each: not where time can be watched.
     Plain,
     /// By splitting at the half.
     Karatsuba,

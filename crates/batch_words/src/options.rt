@@ -42,9 +42,9 @@ fn mult(value: Option<&str>) -> Option<Mult>
     ensures { result ≡ mult_said (option_copied value.entry) }
 {
     match value {
-        Some("plain") | None => Some(Mult::Plain),
+        Some("plain") => Some(Mult::Plain),
         Some("karatsuba") => Some(Mult::Karatsuba),
-        Some("lanes") => Some(Mult::Lanes),
+        Some("lanes") | None => Some(Mult::Lanes),
         Some(_) => None,
     }
 }

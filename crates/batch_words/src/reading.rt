@@ -27,7 +27,7 @@ const MOST_LANES: u64 = 16;
 ///
 /// After `run` and after `live` there may stand `--workers W` and `--mult M`, each at most once, in
 /// either order, as two words or as one word with `=`. W is a decimal from 1 to 16 without leading
-/// zeros, and 4 where the option does not stand. M is `plain`, `karatsuba` or `lanes`, and `plain`
+/// zeros, and 4 where the option does not stand. M is `plain`, `karatsuba` or `lanes`, and `lanes`
 /// where the option does not stand.
 ///
 /// After `rehearse` there stands one word: `-` for a schedule of no steps, or 1 to 65,536 decimals

@@ -12,13 +12,13 @@ use std::test::Fail;
 // Own, by hand, from the rules of the command grammar: words that spell `run` or `live`, and what
 // they say.
 const RUNS: [(&[&str], u32, Mult); 20] = [
-    (&["run"], 4, Mult::Plain),
-    (&["run", "--workers", "1"], 1, Mult::Plain),
-    (&["run", "--workers", "9"], 9, Mult::Plain),
-    (&["run", "--workers", "10"], 10, Mult::Plain),
-    (&["run", "--workers", "16"], 16, Mult::Plain),
-    (&["run", "--workers=1"], 1, Mult::Plain),
-    (&["run", "--workers=16"], 16, Mult::Plain),
+    (&["run"], 4, Mult::Lanes),
+    (&["run", "--workers", "1"], 1, Mult::Lanes),
+    (&["run", "--workers", "9"], 9, Mult::Lanes),
+    (&["run", "--workers", "10"], 10, Mult::Lanes),
+    (&["run", "--workers", "16"], 16, Mult::Lanes),
+    (&["run", "--workers=1"], 1, Mult::Lanes),
+    (&["run", "--workers=16"], 16, Mult::Lanes),
     (&["run", "--mult", "plain"], 4, Mult::Plain),
     (&["run", "--mult", "karatsuba"], 4, Mult::Karatsuba),
     (&["run", "--mult", "lanes"], 4, Mult::Lanes),
@@ -39,9 +39,9 @@ const RUNS: [(&[&str], u32, Mult); 20] = [
         16,
         Mult::Karatsuba,
     ),
-    (&["live"], 4, Mult::Plain),
-    (&["live", "--workers", "1"], 1, Mult::Plain),
-    (&["live", "--workers=16"], 16, Mult::Plain),
+    (&["live"], 4, Mult::Lanes),
+    (&["live", "--workers", "1"], 1, Mult::Lanes),
+    (&["live", "--workers=16"], 16, Mult::Lanes),
     (&["live", "--mult", "karatsuba"], 4, Mult::Karatsuba),
     (&["live", "--mult=lanes", "--workers", "9"], 9, Mult::Lanes),
 ];
@@ -70,7 +70,7 @@ const DEMOS: [(&[&str], u64, u32, u32); 4] = [
 
 // Own, by hand, from the same rules: the words after `check` and `capsules`, and what they say.
 const MULTS: [(&[&str], Mult); 6] = [
-    (&[], Mult::Plain),
+    (&[], Mult::Lanes),
     (&["--mult", "plain"], Mult::Plain),
     (&["--mult", "karatsuba"], Mult::Karatsuba),
     (&["--mult", "lanes"], Mult::Lanes),
