@@ -9,7 +9,7 @@
 //! each side has the other's text.
 //!
 //! Not here: reading a plan from text and printing the replies (`capsule_frames`), what a message
-//! is (`ohttp_capsule`), what a key is (`context_table`). Nothing is constant time or wiped.
+//! is (`ohttp_capsule`), what a key is (`context_table`). Nothing is wiped.
 //!
 //! Tests: `capsule_tests`.
 #![tactic(auto)]

@@ -9,7 +9,7 @@
 //! opens what the sender sealed.
 //!
 //! A contract sees the replies and the contexts as lists. Not here: reading a plan from text,
-//! printing the replies, serving calls. Nothing is constant time or wiped.
+//! printing the replies, serving calls. Nothing is wiped.
 //!
 //! Tests: `core_tests`.
 #![tactic(auto)]

@@ -9,7 +9,8 @@
 //! expanded, that an [`Expander`] has the KDF of the suite that it is given, and that a [`Prk`] has
 //! at most 64 bytes.
 //!
-//! Nothing here is constant time or wiped, and nothing judges how much entropy a key has.
+//! Branches and addresses depend on lengths alone, which is tested and not proved (`tools/secrets`).
+//! Nothing is wiped, and nothing judges how much entropy a key has.
 //!
 //! Tests: `hpke_tests`.
 #![tactic(auto)]

@@ -9,8 +9,7 @@
 //!
 //! Nothing here takes memory: a context's key is expanded once, and its exporter_secret keys HMAC
 //! once. Not here: the set-up, whose secrets `key_schedule` gives; use by several threads. Nothing
-//! is constant time or wiped. The caller must see to it that no two contexts of one sender have the
-//! same secrets.
+//! is wiped. The caller must see to it that no two contexts of one sender have the same secrets.
 //!
 //! Tests: `hpke_tests`.
 #![tactic(auto)]

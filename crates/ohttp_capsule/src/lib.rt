@@ -10,8 +10,7 @@
 //! and the first message of one, opened ([`firsts`]).
 //!
 //! Not here: binary HTTP messages, key configurations (RFC 9458, 3), media types (3.2 and 4.5), and
-//! where the nonce of a response comes from, which must be random. Nothing is constant time or
-//! wiped.
+//! where the nonce of a response comes from, which must be random. Nothing is wiped.
 //!
 //! Tests: `capsule_tests`.
 #![tactic(auto)]

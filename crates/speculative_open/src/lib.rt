@@ -10,7 +10,7 @@
 //! and answers `None` if the item wasn't checked there, and only then.
 //!
 //! Nothing here waits for a lock, decrypts, or keeps a sequence number. Only making a table takes
-//! memory. Nothing is constant time: a table is indexed by numbers, and its key by secret bytes.
+//! memory. A table is indexed by sequence numbers, which are public.
 //!
 //! Tests: `core_tests`.
 #![tactic(auto)]
