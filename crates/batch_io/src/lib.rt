@@ -1,15 +1,17 @@
-//! The outside of the program: where a batch comes from, where its reply goes, and whom the lanes
-//! tell of their way.
+//! The outside of the program: where a batch comes from, where its reply goes, and who is told
+//! where a lane is.
 //!
-//! A contract sees a [`Source`] as the bytes that it has left, where it tells them, and a count of
-//! its faults; a [`Sink`] as the bytes that were written, where it tells them, and a count of its
-//! faults. The one promise for all code above: `Failed` comes only from a call in which the count
-//! rose, or stands at the greatest `u64`. So a program that answers a fault has had one.
+//! A contract sees a [`Source`] as the bytes that it has left, if it reports them, and as a count
+//! of its faults. It sees a [`Sink`] as the bytes that were written, if it reports them, and as a
+//! count of its faults. The promise for all code above: a call answers `Failed` only if the count
+//! rose in that call or has the greatest value of a `u64`. So a program that reports a fault has
+//! had one.
 //!
-//! Implementations in memory, which fail on demand or never, are exact to the byte. The adapters
-//! over std's readers and writers tell the code above nothing of content, since no contract can say
-//! what a file or a terminal gives or takes. A [`Gate`] is told where a lane is, and never what it
-//! handles.
+//! The implementations in memory are exact to the byte. They fail on demand, or never. The adapters
+//! over std's readers and writers report no bytes, since no contract can say what a file or a
+//! terminal gives or takes. A [`Gate`] is told where a lane is, and never what the lane handles.
+//!
+//! Tests: `text_tests`.
 #![tactic(auto)]
 
 mod calls;

@@ -1,16 +1,18 @@
-//! What a batch asks for, and the room for what it is answered with.
+//! What a batch asks for, and the room for its answers.
 //!
 //! A [`Plan`] is a whole batch: its seed, its key lines and context lines (RFC 9180, 5.1), and its
-//! lanes of calls (RFC 9180, 5.2 and 5.3), whose bytes are spans of one pool. `IsWithinLimits` of
-//! `specs/Limits.antt` says what holds of every plan that a text spells.
+//! lanes of calls (RFC 9180, 5.2 and 5.3). The bytes of its fields, except the seed's, are spans of
+//! one pool. `IsWithinLimits` of `specs/Limits.antt` holds for every plan that a text spells.
 //!
-//! [`call_refusal`] tells which calls are served by the contexts that stand, as `refusal` of
-//! `specs/Calls.antt` defines it. [`Answers`] have room for all replies, guesses and journals before
-//! the first call is answered, by `specs/Room.antt`, and a [`LaneProgress`] fills those of a lane
-//! by `specs/Progress.antt`.
+//! [`call_refusal`] says which calls are served by the contexts that were set up, as `refusal` of
+//! `specs/Calls.antt` defines it. [`Answers`] have room for all replies, guesses and journals
+//! before the first call is answered (`specs/Room.antt`), and a [`LaneProgress`] fills those of one
+//! lane (`specs/Progress.antt`).
 //!
-//! A contract sees each list as the list of its items. Which text spells a plan, how answers are
-//! printed, and what a call does that is served is not known here.
+//! A contract sees each list as the list of its items. Not here: which text spells a plan, how
+//! answers are printed, and what a served call does.
+//!
+//! Tests: `text_tests` (through `request_frames`) and `core_tests`.
 #![tactic(auto)]
 
 mod calls;

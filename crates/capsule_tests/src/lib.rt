@@ -1,7 +1,7 @@
 //! Tests of capsules: of one message (ohttp_capsule) and of whole batches (capsule_runs).
 //!
-//! They stand apart, so that each of those crates is proved without them, and see what a caller
-//! sees.
+//! They are a crate of their own, so that each of those crates is proved without them, and use
+//! public calls alone.
 #![tactic(auto)]
 
 #[cfg(test)]

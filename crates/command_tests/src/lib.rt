@@ -1,7 +1,7 @@
-//! Tests of the command and of what its threads share: `batch_runner`, `shared_context`, `live_table`,
-//! `stamped_lists`, `stamp_counter` and `turn_lock`, by their public calls alone.
+//! Tests of the command and of what its threads share: `batch_runner`, `shared_context`,
+//! `live_table`, `stamped_lists`, `stamp_counter` and `turn_lock`, by their public calls alone.
 //!
-//! They stand apart from the crates that they test, so that each of those is proved once.
+//! They are a crate of their own, so that each of those crates is proved without them.
 #![tactic(auto)]
 
 #[cfg(test)]

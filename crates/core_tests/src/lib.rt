@@ -2,8 +2,8 @@
 //! books (context_books), replies (lane_replies), set-ups (context_table) and rehearsals
 //! (context_core).
 //!
-//! They stand apart, so that each of those crates is proved without them, and see what a caller
-//! sees.
+//! They are a crate of their own, so that each of those crates is proved without them, and use
+//! public calls alone.
 #![tactic(auto)]
 
 #[cfg(test)]

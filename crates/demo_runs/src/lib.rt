@@ -1,15 +1,17 @@
-//! A demonstration: a large batch that is made from a number, sealed by lanes on threads and opened
+//! A demonstration: makes a large batch from a number, lets lanes on threads seal it, and opens it
 //! again.
 //!
-//! [`demo`] serves two batches, whose texts demo_texts makes, as `run` serves a batch without options.
-//! The first seals one text again and again, in several lanes, on the context of a fresh key's sender;
-//! the second opens the ciphertexts in number order on the recipient's (RFC 9180, 5.1 and 5.2).
-//! `IsDemo` of `specs/Demo.antt` says what the [`DemoReport`] is: where the key was generated, every
-//! message was opened, and the hash is that of Seal at the numbers from 0 on, joined, whichever lane
-//! drew which number. [`one_report`] says that there is one such report for each seed and number of
-//! messages. [`print_report`] writes it as two lines.
+//! [`demo`] serves two batches, whose texts demo_texts makes, as `run` serves a batch without
+//! options. In the first, several lanes seal one text again and again with the context of a sender
+//! to a fresh key. The second opens the ciphertexts in number order with the recipient's context
+//! (RFC 9180, 5.1 and 5.2). `IsDemo` of `specs/Demo.antt` says what the [`DemoReport`] is: if the
+//! key was generated, then every message was opened, and the hash is that of Seal at the numbers
+//! from 0 on, joined, whichever lane drew which number. [`one_report`] says that there is one such
+//! report for each seed and number of messages. [`print_report`] writes it as two lines.
 //!
 //! Which words of a command line ask for it is not known here.
+//!
+//! Tests: `judge_tests`.
 #![tactic(auto)]
 
 mod demos;

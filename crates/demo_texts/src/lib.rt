@@ -1,14 +1,16 @@
 //! The two batch texts of a demonstration, and the plans that they spell.
 //!
-//! Both are texts of a format of this program's own (docs/FORMAT.md), made from a number: a key, the
-//! context of a sender to it, which has number 0, and that of the recipient, number 1 (RFC 9180, 5.1).
-//! [`sealing_batch`] is the batch that seals one text so many times, in so many lanes, and
-//! [`opening_batch`] the one that opens given ciphertexts in their order, in one lane. Each is made as
-//! text and read by `read_batch`; that the texts are in the grammar is proved, so that want of memory
-//! alone can leave no plan.
+//! Both are texts of a format of this program's own (docs/FORMAT.md), made from a number. Each has
+//! a key, the context of a sender to it, with number 0, and that of the recipient, with number 1
+//! (RFC 9180, 5.1). [`sealing_batch`] is the batch that seals one text so many times, in so many
+//! lanes, and [`opening_batch`] the one that opens given ciphertexts in their order, in one lane.
+//! Each is made as text and read by `read_batch`. It is proved that the texts are in the grammar,
+//! so a call gives a plan unless it runs out of memory.
 //!
 //! A contract sees a plan by what its calls ask: `IsSealingPlan` and `IsOpeningPlan` of
-//! `specs/Plans.antt`. What the calls are answered is not known here.
+//! `specs/Plans.antt`. The replies to the calls are not known here.
+//!
+//! Tests: `judge_tests` (through `demo_runs`).
 #![tactic(auto)]
 
 mod batches;

@@ -1,13 +1,15 @@
-//! Which replies a plan is due.
+//! Which replies a plan may have.
 //!
-//! `specs/Asks.antt` says what the calls of a plan ask of the contexts that stand, and
+//! `specs/Asks.antt` says what the calls of a plan ask of the contexts that were set up, and
 //! `specs/Runs.antt` which lines reply to them: along given journals each item is answered at its
 //! place as HPKE's sequential context answers there (RFC 9180, 5.2), and a refused call and an
-//! export by itself. `IsAllowed` says which journals and guesses there may be. `specs/Live.antt` says
-//! the same of lanes that add and retire contexts, with the table besides.
+//! export by itself. `IsAllowed` says which journals and guesses there may be. `specs/Live.antt`
+//! says the same of lanes that add and retire contexts, with the table besides.
 //!
-//! How keys and contexts are set up is not known here: the contexts that stand are an argument.
-//! [`standing`] looks one up, and [`refusal_of`] tells which calls they refuse.
+//! How keys and contexts are set up is not known here: the contexts are an argument. [`standing`]
+//! looks one up, and [`refusal_of`] says which calls they refuse.
+//!
+//! Tests: those of the runs that it defines, in `core_tests`, `judge_tests` and `command_tests`.
 #![tactic(auto)]
 
 mod contexts;

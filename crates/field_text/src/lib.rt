@@ -1,6 +1,6 @@
 //! The lines and the fields of the batch text and of the reply text: how a text is cut into lines
-//! and pieces and judged line by line, what one piece is read as, and how texts, numbers and bytes
-//! are printed.
+//! and pieces and judged line by line, how one piece is read, and how texts, numbers and bytes are
+//! printed.
 //!
 //! [`read_whole`] and [`read_front`] read the lines that a [`Draft`] knows, by `specs/Lines.antt`:
 //! what the text spells, or its first bad line and that line's first [`Reason`]. A contract sees
@@ -10,10 +10,12 @@
 //! [`Span`](call_places::Span).
 //!
 //! What is printed goes through a [`Buffer`], by `specs/Printing.antt`: each call puts its piece of
-//! the text, and [`Buffer::finish`] tells whether the sink took the whole text or a prefix of it.
+//! the text, and [`Buffer::finish`] says whether the sink took the whole text or a prefix of it.
 //!
 //! Each call is linear in the bytes that it reads or puts: a line is cut once, and hex digits are
-//! read and written by lanes. Which lines a batch or a reply has is not known here.
+//! read and written several at a time. Which lines a batch or a reply has is not known here.
+//!
+//! Tests: `text_tests`.
 #![tactic(auto)]
 
 mod buffer;

@@ -5,10 +5,13 @@
 //! an [`Expander`], which expands one PRK many times, as its KDF and the PRK. Each call is the
 //! standard's function for all inputs: `hmac`, `extract`, `expand`, `labeled_extract` and
 //! `labeled_expand` of `specs/`, with `hash` of `specs/Suites.antt` for H. No call refuses anything
-//! or takes memory. The conditions are the RFC's own limit of 255 blocks on what is expanded, that
-//! an [`Expander`] has the KDF of the suite that it is given, and that a [`Prk`] has at most 64 bytes.
+//! or takes memory. The callers keep three conditions: the RFC's own limit of 255 blocks on what is
+//! expanded, that an [`Expander`] has the KDF of the suite that it is given, and that a [`Prk`] has
+//! at most 64 bytes.
 //!
 //! Nothing here is constant time or wiped, and nothing judges how much entropy a key has.
+//!
+//! Tests: `hpke_tests`.
 #![tactic(auto)]
 
 mod expanders;

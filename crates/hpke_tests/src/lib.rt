@@ -1,8 +1,8 @@
-//! Tests of the crates of HPKE, from ghash_core, aes_block and hkdf_labelled up to hpke_context, over
-//! published vectors, a module a crate.
+//! Tests of the crates of HPKE, from ghash_core, aes_block and hkdf_labelled up to hpke_context,
+//! over published vectors, a module a crate.
 //!
-//! They stand apart, so that each of those crates is proved without them, and see what a caller
-//! sees.
+//! They are a crate of their own, so that each of those crates is proved without them, and use
+//! public calls alone.
 #![tactic(auto)]
 
 #[cfg(test)]

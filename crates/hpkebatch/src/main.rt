@@ -1,8 +1,11 @@
 //! The command `hpkebatch`: reads one input from standard input and writes its text to standard
 //! output.
 //!
-//! All work is [`serve_words`]. Standard output holds that text alone; standard error gets one line
-//! for each outcome but `Done` and `BadBatch`, and else nothing. The exit status is `status`.
+//! [`serve_words`] does all the work. Standard output holds that text alone. Standard error gets
+//! one line for each outcome but `Done` and `BadBatch`, and nothing else. The exit status is
+//! `status`.
+//!
+//! Tests: `examples/run` runs the built program over stored batches.
 #![tactic(auto)]
 
 use batch_io::{FreeGate, StdSink, StdSource};

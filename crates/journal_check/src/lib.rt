@@ -2,14 +2,16 @@
 //!
 //! [`check_result`] reads a result back and answers its [`Verdict`]: the first thing that is wrong
 //! with it, or that it is legal. `IsVerdict` of `specs/Verdicts.antt` says which verdict that is.
-//! Lines that have to be as they are printed are compared; journals are judged by the tests of
-//! legal_journals, and where there are stamps as one history; each journal is run through the
-//! sequential context (RFC 9180, 5.2), and the replies are compared with its answers; each guess is
-//! held against the numbers that were due.
+//! Lines that the plan and its set-up decide are compared as text. Journals are judged by the tests
+//! of legal_journals, and as one history if they have stamps. Each journal is run through the
+//! sequential context (RFC 9180, 5.2), and the replies are compared with its answers. Each guess is
+//! compared with the numbers that it may have had.
 //!
 //! Nothing here starts a thread. Each call, each place and each reply is passed a fixed number of
-//! times, whatever the contexts and lanes are; stamps are put in order by their numbers. Beside them
-//! stand one first place and one cursor for each lane and journal, and nothing else of that number.
+//! times, whatever the contexts and lanes are; stamps are put in order by their numbers. Each pair
+//! of a lane and a journal costs one first place and one cursor, and nothing else.
+//!
+//! Tests: `judge_tests`.
 #![tactic(auto)]
 
 mod checking;

@@ -1,8 +1,8 @@
 //! Tests of what is said of results: the line of each verdict (result_verdicts), verdicts on the
 //! results of small batches (journal_check) and whole demonstrations (demo_runs).
 //!
-//! They stand apart, so that each of those crates is proved without them, and see what a caller
-//! sees.
+//! They are a crate of their own, so that each of those crates is proved without them, and use
+//! public calls alone.
 #![tactic(auto)]
 
 #[cfg(test)]

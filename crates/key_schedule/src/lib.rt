@@ -5,9 +5,11 @@
 //! [`nonce_at`] is ComputeNonce. A contract sees [`Secrets`] as the byte strings in it.
 //!
 //! Export (RFC 9180, 5.3) is stated in `specs/Exports.antt` for the crates that hold a context. Not
-//! here: the modes auth and auth_psk; the KEM, whose shared secret is the caller's; the sequence
-//! number, which a context keeps. The entropy of a psk, which the RFC wants high, isn't judged, and
-//! nothing is wiped.
+//! here: the modes auth and auth_psk; the KEM, whose shared secret the caller gives; the sequence
+//! number, which a context keeps. The RFC wants a psk of high entropy, which nothing here judges,
+//! and nothing is wiped.
+//!
+//! Tests: `hpke_tests`.
 #![tactic(auto)]
 
 mod modes;

@@ -1,27 +1,28 @@
 //! Lanes of calls on contexts that threads share.
 //!
-//! A [`LaneWork`] is a lane with its pass of each context, its seat at the counter of stamps, and its
-//! answers. [`serve`] serves lanes by so many workers: each has a group of lanes that stand side by
-//! side, and serves them in order, each lane's calls in order. A seal draws its number and an opening
-//! commits its items while the lane holds the context's turn, in which the tags that the guess missed
-//! are tested too; encryption, decryption and the tests of tags ahead are done while it holds none
-//! (RFC 9180, 5.2).
+//! A [`LaneWork`] is a lane with its pass of each context, its seat at the counter of stamps, and
+//! its answers. [`serve`] serves lanes by a given number of workers: each has a group of
+//! neighbouring lanes, and serves them in order, each lane's calls in order. While a lane holds the
+//! context's turn, a seal draws its number and an opening commits its items, which also tests the
+//! tags that the guess missed. A lane encrypts, decrypts and tests tags ahead while it holds no
+//! turn (RFC 9180, 5.2).
 //!
 //! [`take_passes`] hands a lane its passes of all contexts, and [`put_passes`] puts them back, as
 //! `specs/Handing.antt` says, so that each context can be closed over the passes that it gave.
 //!
-//! What a lane shows when it is served is `LaneIsServed` of `specs/Served.antt`, by its own passes
-//! alone. Once every lane was served and every context is closed, the law
-//! [`served_lanes_make_a_run`] says that their answers and journals are, with some guesses, those of
-//! a run that is allowed.
+//! `LaneIsServed` of `specs/Served.antt` says what a served lane shows, by its own passes alone.
+//! Once every lane was served and every context is closed, the law [`served_lanes_make_a_run`] says
+//! that their answers and journals are, with some guesses, those of a run that is allowed.
 //!
-//! A [`LiveLane`] adds and retires contexts while it is served, and looks one up before it calls it.
-//! It has a pass of the table of names (live_table) besides, and [`serve_live`] serves such lanes.
-//! What it shows is `LiveLaneIsServed` of `specs/LiveServed.antt`, and [`live_lanes_make_a_run`] says
-//! of all of them, of the closed contexts and of the closed table what the other law says.
+//! A [`LiveLane`] adds and retires contexts while it is served, and looks one up before it calls
+//! it. It also has a pass of the table of names (live_table), and [`serve_live`] serves such lanes.
+//! `LiveLaneIsServed` of `specs/LiveServed.antt` says what it shows, and [`live_lanes_make_a_run`]
+//! says the same of all of them, of the closed contexts and of the closed table as the other law.
 //!
-//! `serve` and `serve_live` may wait for a turn. They take no memory and refuse nothing. That a turn
-//! ever comes, and in which order lanes get theirs, is not said.
+//! `serve` and `serve_live` may wait for a turn. They take no memory and refuse nothing. Nothing
+//! says that a turn ever comes, or in which order lanes get theirs.
+//!
+//! Tests: `command_tests` (through `batch_runner`).
 #![tactic(auto)]
 
 mod calls;

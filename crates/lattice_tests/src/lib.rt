@@ -1,8 +1,7 @@
 //! The tests of the crates of Streamlined NTRU Prime, from `ring_core` up to `sntrup_kem`, a module
 //! for each; the multipliers go through one table of products, `examples`.
 //!
-//! They stand above what they test: each of those crates is then proved once, and not again with
-//! its tests.
+//! They are a crate of their own, so that each of those crates is proved without them.
 #![tactic(auto)]
 
 #[cfg(test)]

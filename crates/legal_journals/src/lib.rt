@@ -1,8 +1,8 @@
 //! Which journals are legal for a batch, and how their items are answered (RFC 9180, 5.2).
 //!
-//! A call asks a context to seal a text or to open ciphertexts; what it asks for has places, and
-//! the journal of a context is a list of places. `Legal` of `specs/Legal.antt` says which lists
-//! those are: each place that a context was asked for once, in the order of its lane. The replies
+//! A call asks a context to seal a text or to open ciphertexts. What it asks for has places, and
+//! the journal of a context is a list of places. `Legal` of `specs/Legal.antt` says which lists are
+//! journals: each place that the context was asked for, once, in the order of its lane. The replies
 //! of a journal are the answers of the sequential context along it; `specs/Entries.antt` says it
 //! entry by entry.
 //!
@@ -12,7 +12,9 @@
 //! tests of all this that compute.
 //!
 //! Everything here is a definition or a law of definitions: each function does nothing, and its
-//! contract is the law. What lanes do, and what they show, is said above.
+//! contract is the law. What lanes do, and what they show, is said in the crates above.
+//!
+//! Tests: none that run; the prover computes the rows of `src/rows.rt`.
 #![tactic(auto)]
 
 mod checks;

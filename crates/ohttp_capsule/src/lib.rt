@@ -2,15 +2,18 @@
 //! `hpke_context` and the KEM of `sntrup_kem`: for both parameter sets, each KDF and both AES-GCM.
 //!
 //! A client's [`ask`] seals a text to a public key, a gateway's [`answer`] opens it and seals
-//! another under a key of that exchange, and the client's [`take`] opens that. Each is a function of
-//! its inputs, by `specs/Requests.antt`, `Responses.antt` and `Replies.antt`, and each refusal comes
-//! exactly where its cause stands (`Refusals.antt`). [`laws`] says that a whole exchange gives each
-//! end the other's text. What an exchange has beside the KEM stands open too, for a shared secret of
-//! another: the header ([`headers`]), the contexts of both ends ([`setups`]), and the first message
-//! of one, opened ([`firsts`]).
+//! another under a key of that exchange, and the client's [`take`] opens that. Each is a function
+//! of its inputs, by `specs/Requests.antt`, `Responses.antt` and `Replies.antt`. Each refusal comes
+//! if its cause is there and only then (`Refusals.antt`). [`laws`] says that after a whole exchange
+//! each side has the other's text. The parts of an exchange beside the KEM are public too, for a
+//! shared secret of another KEM: the header ([`headers`]), the contexts of both sides ([`setups`]),
+//! and the first message of one, opened ([`firsts`]).
 //!
 //! Not here: binary HTTP messages, key configurations (RFC 9458, 3), media types (3.2 and 4.5), and
-//! where the nonce of a response comes from, which must be random. Nothing is constant time or wiped.
+//! where the nonce of a response comes from, which must be random. Nothing is constant time or
+//! wiped.
+//!
+//! Tests: `capsule_tests`.
 #![tactic(auto)]
 
 mod answering;

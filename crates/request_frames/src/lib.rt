@@ -1,23 +1,25 @@
 //! The two texts of a batch: the batch text, which says what is asked for, and the reply text,
-//! which says what came of it. Both are formats of this program's own.
+//! which has the results. Both are formats of this program's own.
 //!
 //! A batch text is lines, and a line is a word and its fields. [`read_batch`] answers the [`Plan`]
 //! that a text spells by `batch` of `specs/Batch.antt`, or its first bad line and that line's first
-//! reason; [`one_reading`] says that each text has just one of these, and [`one_spelling`] that a
+//! reason. [`one_reading`] says that each text has just one of these, and [`one_spelling`] that a
 //! plan's text is `text_of` of `specs/PlanText.antt` and no other. [`read_front`] reads a batch
 //! that something else follows, and [`fronts_are_batches`] says that it is one by itself. For
-//! grammars with other lines there are the lines by themselves, [`BatchDraft`], and the fields alone,
-//! [`read_number`] and [`read_bytes`].
+//! grammars with other lines there are the lines by themselves, [`BatchDraft`], and the fields
+//! alone, [`read_number`] and [`read_bytes`].
 //!
-//! [`print_answers`] and [`print_bad`] append just the text that reply_texts defines, or a prefix
-//! of it where the sink failed; [`print_setup`] and [`print_reply`] do the same for parts of it. For
-//! replies of other texts the parts can be put into a buffer: [`put_setup`],
-//! [`put_replies`], [`put_guesses`], [`put_journals`].
-//! The plan, the answers and the calls on them are those of batch_plans, the lines of keys and their
-//! replies those of key_frames, and are given out again.
+//! [`print_answers`] and [`print_bad`] append exactly the text that reply_texts defines, or a
+//! prefix of it if the sink failed; [`print_setup`] and [`print_reply`] do the same for parts of
+//! it. For replies of other texts the parts can be put into a buffer: [`put_setup`],
+//! [`put_replies`], [`put_guesses`], [`put_journals`]. The plan, the answers and the calls on them
+//! are those of batch_plans, the lines of keys and their replies those of key_frames; this crate
+//! exports both again.
 //!
-//! What a call does that is served is not known here, nor whether a context's psk inputs go with
-//! its mode (RFC 9180, 5.1).
+//! Not here: what a served call does, and whether a context's psk inputs go with its mode (RFC
+//! 9180, 5.1).
+//!
+//! Tests: `text_tests`.
 #![tactic(auto)]
 
 mod adding;

@@ -1,12 +1,14 @@
-//! The lines of a result: what a text tells that is said to answer a plan, read back line by line.
+//! Reads a result of a plan back, line by line.
 //!
-//! A result is a reply text, a format of this program's own. Which lines it has to have follows
-//! from the plan, the replies to its set-up and the contexts that stand; what its replies, guesses
-//! and journals say is read off. [`read_result`] gives what a text tells, or its first line that is
-//! missing or of another form, as `told_by` of `specs/Told.antt` defines it.
+//! A result is a reply text, a format of this program's own. The plan, the replies to its set-up
+//! and the contexts decide which lines it must have; its replies, guesses and journals are read
+//! from it. [`read_result`] gives what a text says, or its first line that is missing or of another
+//! form, as `told_by` of `specs/Told.antt` defines it.
 //!
 //! A contract sees a text as the lines that are left of it. Whether the journals are legal, and
 //! whether replies and guesses are right, is not known here.
+//!
+//! Tests: `judge_tests` (through `journal_check`).
 #![tactic(auto)]
 
 mod due_lines;

@@ -1,16 +1,18 @@
-//! Verdicts on ciphertexts at guessed sequence numbers, found before the number that will be due
-//! is known (RFC 9180, 5.2: a message opens at the number that is due, and raises it).
+//! Verdicts on ciphertexts at guessed sequence numbers, found before their real number is known
+//! (RFC 9180, 5.2: a message opens at the context's next number, and raises it).
 //!
-//! A contract sees a [`GuessTable`] as its room, its guess, its LIMIT and its rows. Where a guess G
-//! is right and at most k items before item i don't open, item i is due at one of G + i - k to
+//! A contract sees a [`GuessTable`] as its room, its guess, its LIMIT and its rows. If a guess G is
+//! right and at most k items before item i don't open, the number of item i is one of G + i - k to
 //! G + i; these are checked for k up to 3.
 //!
 //! The promise for the layer above: after [`GuessTable::fill`] the table `Fits` its key, base nonce
-//! and items (`specs/Tables.antt`), and [`GuessTable::look`] tells whether the tag holds at a number,
-//! with `None` exactly where an item wasn't checked there.
+//! and items (`specs/Tables.antt`). [`GuessTable::look`] says whether the tag holds at a number,
+//! and answers `None` if the item wasn't checked there, and only then.
 //!
 //! Nothing here waits for a lock, decrypts, or keeps a sequence number. Only making a table takes
 //! memory. Nothing is constant time: a table is indexed by numbers, and its key by secret bytes.
+//!
+//! Tests: `core_tests`.
 #![tactic(auto)]
 
 mod rows;

@@ -1,14 +1,16 @@
-//! A counter that gives each stamp once, to callers that each may draw so many.
+//! A counter that gives each stamp once, to callers that each may draw a given number of them.
 //!
 //! A [`StampCounter`] is made with shares. Each share is a [`StampSeat`] that may draw as many
-//! stamps as it has left; a draw is one step on one word, and waits for nobody. Contracts see of a
-//! seat the stamps that it drew, and its low, which is above them: its next stamp is at least that.
-//! What one seat knows of the count goes to another by `note` and `join`, so that stamps rise from
-//! one caller to the next. The promise for the layer above: once all that was drawn and all that is
-//! left is with one seat, `close` tells how many stamps there are, and the drawn ones are the
-//! numbers below, each once. `specs/Rule.antt` is what holds between any two atomic steps.
+//! stamps as it has left; a draw is one step on one word, and waits for nobody. A contract sees of
+//! a seat the stamps that it drew, and its low, which is above them: its next stamp is at least
+//! that. What one seat knows of the count goes to another by `note` and `join`, so that stamps rise
+//! from one caller to the next. The promise for the layer above: once one seat has all that was
+//! drawn and all that is left, `close` says how many stamps there are, and the drawn ones are the
+//! numbers below that, each once. `specs/Rule.antt` is what holds between any two atomic steps.
 //!
 //! Nothing here says which caller draws first.
+//!
+//! Tests: `command_tests`.
 #![tactic(auto)]
 
 mod counter;

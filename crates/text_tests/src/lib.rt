@@ -1,8 +1,8 @@
 //! Tests of the texts: of decimal_text, call_places, batch_io, field_text, request_frames (with
 //! batch_plans), live_frames, capsule_frames and batch_words, a module a crate.
 //!
-//! They see what a caller sees, and stand apart from what they test so that each of those crates is
-//! proved once. There is nothing here to call.
+//! They are a crate of their own, so that each of those crates is proved without them, and use
+//! public calls alone. There is nothing here to call.
 #![tactic(auto)]
 
 #[cfg(test)]

@@ -1,16 +1,18 @@
-//! A lock whose turns go by tickets, round a value that stands for a list of entries.
+//! A lock whose turns go by tickets, round a value that represents a list of entries.
 //!
 //! A [`TurnLock`] is made with a number of passes. Whoever has a [`Pass`] may `enter`, which waits
 //! for its turn and gives the value as a [`Held`]; only `leave` takes it back. Once every pass is
 //! back in the [`PassList`], `close` gives the value out.
 //!
 //! A contract sees of a pass the entries that it has seen. The promise for the layer above: at
-//! `enter` other passes alone have added to them, and at `close` the value's entries begin with
-//! what each pass has seen, and have in each lane just those that the pass with this number has
-//! seen. So no list can be made up for one pass. `specs/Rule.antt` is what holds between any two
-//! atomic steps.
+//! `enter` only other passes have added to them. At `close` the value's entries begin with what
+//! each pass has seen, and have in each lane just those that the pass with this number has seen. So
+//! no list can be made up for one pass. `specs/Rule.antt` is what holds between any two atomic
+//! steps.
 //!
 //! Nothing here says that a turn comes, or in which order two passes get theirs.
+//!
+//! Tests: `command_tests`.
 #![tactic(auto)]
 
 mod held;
