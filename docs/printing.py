@@ -33,7 +33,7 @@ def definitions_of(crate):
             if line.startswith(FOR_THE_PROOFS):
                 is_for_proofs, words = True, []
             elif line.lstrip().startswith("--"):
-                words.append(line.lstrip(" -"))
+                words.append(line.lstrip()[2:].strip())
             else:
                 head = DEFINED.match(line)
                 if head:
@@ -198,7 +198,8 @@ class Printer:
         return "```antt\n" + "\n".join(lines[begin:end]) + "\n```\n"
 
     def line_of(self, lines, name, path, is_code):
-        form = rf"\s+(?:ensures|requires) {name} " if is_code else rf"(?:[a-z]+ )*pub (?:record |data )?{re.escape(name)}(?=[\s:({{]|$)"
+        form = rf"(?:[a-z]+ )*pub (?:record |data )?{re.escape(name)}(?=[\s:({{]|$)"
+        form = rf"\s+(?:ensures|requires) {name} " if is_code else form
         found = [k for k, line in enumerate(lines) if re.match(form, line)]
         if len(found) != 1:
             self.fault(f"crates/{path}", 1, f"`{name}` stands there {len(found)} times")
