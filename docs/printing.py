@@ -179,11 +179,19 @@ class Printer:
                 path = f"crates/{crate}/src/{file}"
             elif line.startswith("old: "):
                 before, is_there, _ = read(path).partition(line[len("old: "):])
-                around = re.findall(r"^ *(?:pub(?:\([^)]*\))? )?(?:const )?fn (\w+)", before, re.M)
                 if not is_there:
                     self.fault(f"crates/{crate}/must-fail/{name}.edit", 1, f"{file} has no such text")
-                found.append(f"`{around[-1]}` (`{file}`)" if around else f"`{file}`")
+                function = self.function_open_in(before)
+                found.append(f"`{function}` (`{file}`)" if function else f"`{file}`")
         return found
+
+    @staticmethod
+    def function_open_in(text):
+        """The function whose body a text ends in; none where it ends between functions."""
+        heads = list(re.finditer(r"^( *)(?:pub(?:\([^)]*\))? )?(?:const )?fn (\w+)", text, re.M))
+        if heads and not re.search(rf"^{heads[-1][1]}}}", text[heads[-1].end():], re.M):
+            return heads[-1][2]
+        return None
 
     def print_text(self, path, first, last=None):
         """The text of a file from one definition to another, with what stands above the first; of code, a clause."""
