@@ -43,6 +43,11 @@ def definitions_of(crate):
     return found
 
 
+def text_of(path):
+    """The text of a file; none where there is no file."""
+    return read(path) if os.path.isfile(path) else ""
+
+
 def cell(text):
     """A comment as a table's cell has it: outside backticks nothing of it is Markdown."""
     parts = text.split("`")
@@ -178,7 +183,7 @@ class Printer:
                 file = line[len("file: src/"):]
                 path = f"crates/{crate}/src/{file}"
             elif line.startswith("old: "):
-                before, is_there, _ = read(path).partition(line[len("old: "):])
+                before, is_there, _ = text_of(path).partition(line[len("old: "):])
                 if not is_there:
                     self.fault(f"crates/{crate}/must-fail/{name}.edit", 1, f"{file} has no such text")
                 function = self.function_open_in(before)
@@ -195,13 +200,13 @@ class Printer:
 
     def print_text(self, path, first, last=None):
         """The text of a file from one definition to another, with what stands above the first; of code, a clause."""
-        lines = read(f"crates/{path}").split("\n")
+        lines = text_of(f"crates/{path}").split("\n")
         is_code = path.endswith(".rt")
         ends = [self.line_of(lines, name, path, is_code) for name in (first, last or first)]
         begin, end = ends[0], ends[1] + 1
         while not is_code and begin and lines[begin - 1].startswith("--"):
             begin -= 1
-        while lines[end].strip() and not (is_code and re.match(r"\s+(?://|ensures|requires)|\{", lines[end])):
+        while end < len(lines) and lines[end].strip() and not (is_code and re.match(r"\s+(?://|ensures|requires)|\{", lines[end])):
             end += 1
         return "```antt\n" + "\n".join(lines[begin:end]) + "\n```\n"
 
