@@ -234,8 +234,8 @@ class Tree:
         return range(first, first + text.count("\n")) if found else range(0)
 
     @staticmethod
-    def files_reached(path, function):
-        """The files of specs/ whose definitions the contract of a function reaches, through those that it names."""
+    def definitions_reached(path, function):
+        """The definitions that the contract of a function reaches, through those that it names: files, and names there."""
         text = read(path)
         contract = re.split(r"^\{", text.partition(f"pub fn {function}")[2], flags=re.M)[0]
         known = {None: ({None: set(TERM.findall(contract))}, imports_of(text))}
@@ -248,7 +248,7 @@ class Tree:
             named = {imports.get(it, (path, it)) for it in words.get(name, ()) if it in imports or it in words}
             left += named - reached
             reached |= named
-        return {path for path, _ in reached if path}
+        return {(path, name) for path, name in reached if path}
 
     @staticmethod
     def line_count(path):
