@@ -23,13 +23,16 @@ opens is whole, and may be anybody's. The command hpkebatch does the work; HPKEB
 """
 
 
+PATIENCE = 1.0  # so many seconds pass before the first line of progress
+
+
 class Progress:
     """A line on standard error that says how far the work is, where it takes more than a second."""
 
     def __init__(self, what: str, total: int) -> None:
         self.what, self.total, self.done = what, total, 0
         self.is_terminal = sys.stderr.isatty()
-        self.next = time.monotonic() + 1
+        self.next = time.monotonic() + PATIENCE
         self.has_line = False
 
     def __call__(self, more: int) -> None:

@@ -6,6 +6,7 @@ printed in that of the format.
 
 from __future__ import annotations
 
+import itertools
 import secrets
 import threading
 from binascii import hexlify
@@ -160,6 +161,26 @@ class Lane:
         self._put(b"unseal", context, self._pair(aad, ciphertext))
         return self._keep(UnsealCall(self, len(self.calls)))
 
+    def seal_each(
+        self, context: Context, plaintexts: Sequence[bytes], aads: Optional[Sequence[bytes]] = None
+    ) -> List[SealCall]:
+        """A `seal` for each message, made faster than one by one."""
+        first = len(self.calls)
+        self._put_each(b"seal", context, plaintexts, aads, self.batch.limits.message)
+        calls = [SealCall(self, place) for place in range(first, first + len(plaintexts))]
+        self.calls += calls
+        return calls
+
+    def unseal_each(
+        self, context: Context, ciphertexts: Sequence[bytes], aads: Optional[Sequence[bytes]] = None
+    ) -> List[UnsealCall]:
+        """An `unseal` for each message, made faster than one by one."""
+        first = len(self.calls)
+        self._put_each(b"unseal", context, ciphertexts, aads, self.batch.limits.message + TAG_SIZE)
+        calls = [UnsealCall(self, place) for place in range(first, first + len(ciphertexts))]
+        self.calls += calls
+        return calls
+
     def unsealall(self, context: AnyContext, pairs: Sequence[Tuple[bytes, bytes]]) -> UnsealAllCall:
         """Opens each pair of associated data and ciphertext, with nothing of other lanes between."""
         limits = self.batch.limits
@@ -206,6 +227,21 @@ class Lane:
         limits = self.batch.limits
         text = octets(ciphertext, limits.message + TAG_SIZE, "a ciphertext")
         return b" %b %b" % (octets(aad, limits.field, "associated data"), text)
+
+    def _put_each(
+        self, word: bytes, context: Context, texts: Sequence[bytes], aads: Optional[Sequence[bytes]], most: int
+    ) -> None:
+        self.batch._own(context)
+        fronts: Iterable[bytes] = itertools.repeat(b"%b %b - " % (word, context.name), len(texts))
+        if aads is not None:
+            limit = self.batch.limits.field
+            fronts = [b"%b %b %b " % (word, context.name, octets(aad, limit, "associated data")) for aad in aads]
+            if len(fronts) != len(texts):
+                raise ValueError(f"there are {len(texts):,} messages and {len(fronts):,} aads")
+        if max(map(len, texts), default=0) > most:
+            raise OverLimit(f"a message has more than {most:,} bytes")
+        self.batch._count(len(texts), 0)
+        self._lines += [front + (hexlify(text) or b"-") for front, text in zip(fronts, texts)]
 
     def _put(self, word: bytes, context: Optional[AnyContext], rest: bytes, items: int = 1, exported: int = 0) -> None:
         self.batch._count(items, exported)
@@ -428,7 +464,8 @@ class Batch(SeededBatch):
         self, *, workers: Optional[int] = None, mult: Optional[str] = None, runner: Optional[Runner] = None
     ) -> Reply:
         """The reply to a batch of version 2 whose lanes may add contexts and retire them."""
-        self._for_live()
+        if self.version != 2:
+            raise ValueError("`live` wants a batch of version 2")
         return self._answered(["live", *options(workers, mult)], runner)
 
     def rehearse(self, schedule: Iterable[int] = (), *, runner: Optional[Runner] = None) -> Reply:

@@ -10,7 +10,8 @@ from .asked import Answer, AnyAsked, Ask, Asked, Key, Take
 from .batch import SeededBatch, number, octets, options
 from .command import Runner, output_of
 from .errors import OverLimit, ReplyError
-from .reply import Answered, answer_at, fitting, given, lines_of
+from .lines import Lines
+from .reply import Answered, answer_at, fitting, given
 from .suites import LIMITS, TAG_SIZE, Aead, Kdf, Limits
 
 HEADER_SIZE = 7
@@ -123,7 +124,7 @@ class CapsuleReply:
 
     def __init__(self, batch: CapsuleBatch, text: bytes) -> None:
         self.batch = batch
-        self._lines = lines_of(text)
+        self._lines = Lines(text)
         self._places: Dict[int, int] = {id(it): at for at, it in enumerate((*batch.keys, *batch.capsules), 1)}
         if self._lines[0] != b"hpkebatch 2":
             raise ReplyError(1, "a line `hpkebatch 2` should stand here")

@@ -6,11 +6,12 @@ The reply is read without its batch: its journals say how many items each call h
 from __future__ import annotations
 
 from dataclasses import dataclass
-from typing import Dict, Iterator, List, Optional, Sequence, Tuple
+from typing import Dict, Iterator, List, Tuple
 from xml.sax.saxutils import escape
 
 from .errors import ReplyError
-from .reply import lines_of, rows_at
+from .lines import Lines
+from .reply import rows_at
 
 COLUMNS = 24  # of one band of the picture
 WIDTH, HEIGHT, LEFT = 56, 40, 76
@@ -47,7 +48,7 @@ class History:
 
 def read_history(text: bytes) -> History:
     """The journals of a reply, with what was answered at each place."""
-    lines = lines_of(text)
+    lines = Lines(text)
     version = {b"hpkebatch 1": 1, b"hpkebatch 2": 2}.get(lines[0])
     if version is None:
         raise ReplyError(1, "a line `hpkebatch 1` or `hpkebatch 2` should stand here")
@@ -62,7 +63,7 @@ def read_history(text: bytes) -> History:
     return History(version, contexts, sorted(steps + notes, key=lambda it: (it.at, it.lane)), others)
 
 
-def _set_up(lines: Sequence[bytes]) -> Tuple[int, Dict[str, str]]:
+def _set_up(lines: Lines) -> Tuple[int, Dict[str, str]]:
     at, contexts = 1, {}
     while lines[at].startswith((b"key ", b"context ")):
         pieces = lines[at].decode("ascii", "replace").split(" ")
@@ -72,7 +73,7 @@ def _set_up(lines: Sequence[bytes]) -> Tuple[int, Dict[str, str]]:
     return at, contexts
 
 
-def _lanes(lines: Sequence[bytes], at: int) -> Tuple[int, List[List[Tuple[int, List[bytes]]]]]:
+def _lanes(lines: Lines, at: int) -> Tuple[int, List[List[Tuple[int, List[bytes]]]]]:
     """The lines of each lane, with their numbers and pieces."""
     lanes: List[List[Tuple[int, List[bytes]]]] = []
     while not lines[at].startswith((b"journal ", b"table", b"end")):
@@ -86,7 +87,7 @@ def _lanes(lines: Sequence[bytes], at: int) -> Tuple[int, List[List[Tuple[int, L
     return at, lanes
 
 
-def _journals(lines: Sequence[bytes], at: int, width: int) -> Tuple[List[Step], List[Step]]:
+def _journals(lines: Lines, at: int, width: int) -> Tuple[List[Step], List[Step]]:
     steps: List[Step] = []
     notes: List[Step] = []
     while lines[at] != b"end":

@@ -9,11 +9,9 @@ from concurrent.futures import Executor
 from dataclasses import dataclass
 from typing import Callable, Iterable, Iterator, List, NamedTuple, Optional, Sequence, Tuple, TypeVar, Union
 
-from .answers import get
 from .batch import Batch, Lane
 from .command import Runner
 from .errors import MessageNotOpened
-from .reply import Reply
 from .suites import LIMITS, SNTRUP761, Aead, Kdf, Kem, Limits, Psk, kem_of_public, kem_of_secret
 
 Progress = Callable[[int, int], None]
@@ -333,9 +331,6 @@ class Contents(NamedTuple):
     texts: Sequence[bytes]
     aads: Optional[Sequence[bytes]] = None
 
-    def pairs(self) -> Iterable[Tuple[bytes, bytes]]:
-        return zip(self.texts, self.aads) if self.aads is not None else ((text, b"") for text in self.texts)
-
     @property
     def limit(self) -> int:
         return max(1, len(self.texts))
@@ -356,13 +351,12 @@ def seal_contexts(
     contexts = [batch.send(key, it.info, kdf=kdf, aead=aead, psk=psk, limit=it.limit) for it in contents]
     lanes = _lanes(batch, len(contents))
     for context, it, lane in zip(contexts, contents, _in_turn(lanes)):
-        for text, aad in it.pairs():
-            lane.seal(context, text, aad)
+        lane.seal_each(context, it.texts, it.aads)
     reply = batch.run(workers=min(len(lanes), MOST_WORKERS), runner=runner)
     parts = []
-    for context, (lane, first, lines) in zip(contexts, _shares(reply, lanes, contents)):
+    for context, (lane, first, end) in zip(contexts, _shares(lanes, contents)):
         enc = reply[context].enc
-        texts = texts_of(lines, b"sealed %d ")
+        texts = reply.texts(lane, first, end, b"sealed %d ")
         if isinstance(texts, int):
             reply[lane.calls[first + texts]]  # raises, as it was not sealed
         assert enc is not None and not isinstance(texts, int)
@@ -385,14 +379,13 @@ def open_contexts(
     contexts = [batch.recv(own, enc, it.info, kdf=kdf, aead=aead, psk=psk, limit=it.limit) for enc, it in contents]
     lanes = _lanes(batch, len(contents))
     for context, (_, it), lane in zip(contexts, contents, _in_turn(lanes)):
-        for text, aad in it.pairs():
-            lane.unseal(context, text, aad)
+        lane.unseal_each(context, it.texts, it.aads)
     reply = batch.run(workers=min(len(lanes), MOST_WORKERS), runner=runner)
     reply[own]
     opened = []
-    for context, (_, _, lines) in zip(contexts, _shares(reply, lanes, [it for _, it in contents])):
+    for context, (lane, first, end) in zip(contexts, _shares(lanes, [it for _, it in contents])):
         reply[context]
-        opened.append(texts_of(lines, b"opened %d "))
+        opened.append(reply.texts(lane, first, end, b"opened %d "))
     return opened
 
 
@@ -405,25 +398,11 @@ def _in_turn(lanes: List[Lane]) -> Iterator[Lane]:
         yield from lanes
 
 
-def _shares(
-    reply: Reply, lanes: List[Lane], contents: Sequence[Contents]
-) -> Iterator[Tuple[Lane, int, List[bytes]]]:
-    """Of each of the contents: its lane, the number of its first call, and the lines that answer it."""
-    lines = [reply.lines_of_lane(lane) for lane in lanes]
+def _shares(lanes: List[Lane], contents: Sequence[Contents]) -> Iterator[Tuple[Lane, int, int]]:
+    """Of each of the contents: its lane, the number of its first call, and that behind its last one."""
     firsts = [0] * len(lanes)
     for place, it in enumerate(contents):
         at = place % len(lanes)
         end = firsts[at] + len(it.texts)
-        yield lanes[at], firsts[at], lines[at][firsts[at] : end]
+        yield lanes[at], firsts[at], end
         firsts[at] = end
-
-
-def texts_of(lines: Sequence[bytes], form: bytes) -> Union[List[bytes], int]:
-    """The bytes of lines that are numbered from 0 on, or the place of the first line that isn't of this form."""
-    texts = []
-    for number, line in enumerate(lines):
-        front = form % number
-        if not line.startswith(front):
-            return number
-        texts.append(get(line[len(front) :]))
-    return texts

@@ -20,6 +20,7 @@ from .answers import (
 from .asked import Added, AnyAsked, AnyContext, Asked, Call, Key, UnsealAllCall
 from .command import Runner, output_of
 from .errors import IllegalReply, ReplyError
+from .lines import Lines
 
 if TYPE_CHECKING:
     from .batch import Batch, Lane
@@ -67,17 +68,9 @@ class Note:
         return b"%d %d %d %d" % (self.lane, self.call, self.is_live, self.stamp)
 
 
-def lines_of(text: bytes) -> List[bytes]:
-    """The lines of a whole reply, without the last line feed."""
-    lines = text.split(b"\n")
-    if lines.pop() or lines[-1:] != [b"end"]:
-        raise ReplyError(len(lines) + 1, "the reply is cut: its last line isn't `end`")
-    return lines
-
-
-def answer_at(lines: Sequence[bytes], at: int, front: bytes = b"") -> LineAnswer:
+def answer_at(lines: Lines, at: int, front: bytes = b"") -> LineAnswer:
     """What line number `at`, from 0, says behind this front."""
-    line = lines[at] if at < len(lines) else b""
+    line = lines[at]
     if not line.startswith(front):
         raise ReplyError(at + 1, f"a line `{front.decode()}..` should stand here")
     try:
@@ -106,36 +99,29 @@ class Reply:
 
     def __init__(self, batch: Batch, text: bytes, *, is_live: bool = False) -> None:
         self.batch, self.is_live = batch, is_live
-        self._lines = lines_of(text)
-        self._expect(0, b"hpkebatch %d" % batch.version)
+        self.lines = Lines(text)
+        self.lines.expect(0, b"hpkebatch %d" % batch.version)
         at = 1 + len(batch.keys) + len(batch.contexts)
         # Of each lane: the line, from 0, at which each call's answer begins, and that behind its last answer.
         self._starts: List[Sequence[int]] = []
         for lane in batch.lanes:
-            self._expect(at, b"lane %d" % lane.number)
+            self.lines.expect(at, b"lane %d" % lane.number)
             self._starts.append(self._starts_of(lane, at + 1))
             at = self._starts[-1][-1]
         self._first_journal = at
         self._sections_read: Optional[Tuple[List[Journal], List[Note]]] = None
-        if at >= len(self._lines):
-            raise ReplyError(len(self._lines), "the reply has too few lines for its batch")
+        if not self.lines[at]:
+            raise ReplyError(len(self.lines), "the reply has too few lines for its batch")
 
     def __repr__(self) -> str:
         return f"<Reply to {self.batch!r}>"
-
-    def _line(self, at: int) -> bytes:
-        return self._lines[at] if at < len(self._lines) else b""
-
-    def _expect(self, at: int, line: bytes) -> None:
-        if self._line(at) != line:
-            raise ReplyError(at + 1, f"a line `{line.decode()}` should stand here")
 
     def _starts_of(self, lane: Lane, at: int) -> Sequence[int]:
         if not lane.has_openings:
             return range(at, at + len(lane.calls) + 1)
         starts = [at]
         for call in lane.calls:
-            is_served = isinstance(call, UnsealAllCall) and not self._line(at).startswith(b"refused ")
+            is_served = isinstance(call, UnsealAllCall) and not self.lines[at].startswith(b"refused ")
             at += call.items + 1 if is_served else 1
             starts.append(at)
         return starts
@@ -153,9 +139,9 @@ class Reply:
         if asked.batch is not self.batch:
             raise ValueError(f"{asked} is of another batch")
         at, front = self._place_of(asked)
-        if isinstance(asked, UnsealAllCall) and not self._line(at).startswith(b"refused "):
+        if isinstance(asked, UnsealAllCall) and not self.lines[at].startswith(b"refused "):
             return self._opened_all(asked, at)
-        return fitting(asked, answer_at(self._lines, at, front), at)
+        return fitting(asked, answer_at(self.lines, at, front), at)
 
     def _place_of(self, asked: AnyAsked) -> Tuple[int, bytes]:
         if isinstance(asked, Call):
@@ -167,17 +153,17 @@ class Reply:
         return 1 + before + asked.number, b"%b %d " % (b"key" if is_key else b"context", asked.number)
 
     def _opened_all(self, asked: UnsealAllCall, at: int) -> OpenedAllAnswer:
-        items = [fitting(asked, answer_at(self._lines, it), it) for it in range(at, at + asked.items)]
+        items = [fitting(asked, answer_at(self.lines, it), it) for it in range(at, at + asked.items)]
         try:
-            guess, missed = read_batch_line(self._line(at + asked.items))
+            guess, missed = read_batch_line(self.lines[at + asked.items])
         except ValueError as fault:
             raise ReplyError(at + asked.items + 1, str(fault)) from None
         return OpenedAllAnswer(tuple(cast(List[ItemAnswer], items)), guess, missed, asked)
 
-    def lines_of_lane(self, lane: Lane) -> List[bytes]:
-        """The lines that answer the calls of a lane, as they stand."""
+    def texts(self, lane: Lane, first: int, end: int, form: bytes) -> Union[List[bytes], int]:
+        """The bytes that answer calls of one message each, of a lane and from number 0 on: see `Lines.texts`."""
         starts = self._starts[lane.number]
-        return self._lines[starts[0] : starts[-1]]
+        return self.lines.texts(starts[first], starts[end], form)
 
     def asked_at(self, line: int) -> Optional[AnyAsked]:
         """What a line of the reply answers, counted from 1; None for a line that answers nothing."""
@@ -232,13 +218,13 @@ class Reply:
     def _read_sections(self) -> Tuple[List[Journal], List[Note]]:
         journals, notes, at = [], [], self._first_journal
         for name in self._names():
-            self._expect(at, name)
-            rows, at = rows_at(self._lines, at + 1, 3 if self.batch.version == 1 else 4)
+            self.lines.expect(at, name)
+            rows, at = rows_at(self.lines, at + 1, 3 if self.batch.version == 1 else 4)
             if name == b"table":
                 notes = [Note(lane, call, bool(bit), stamp) for lane, call, bit, stamp in rows]
             else:
                 journals.append(Journal(name[8:].decode(), tuple(Place(*row) for row in rows)))
-        if at != len(self._lines) - 1:
+        if at != len(self.lines) - 1:
             raise ReplyError(at + 1, "`end` should stand here")
         return journals, notes
 
@@ -266,7 +252,7 @@ class Reply:
         if self.is_live:
             raise ValueError("the program judges replies of run and rehearse, and none of live")
         try:
-            check(self.batch.text(), b"\n".join([*self._lines, b""]), mult=mult, runner=runner)
+            check(self.batch.text(), self.lines.text, mult=mult, runner=runner)
         except IllegalReply as fault:
             raise IllegalReply(fault.kind, fault.at, self._about(fault)) from None
         return self
@@ -282,10 +268,10 @@ def check(batch: bytes, reply: bytes, *, mult: Optional[str] = None, runner: Opt
     output_of(runner, ["check", *([] if mult is None else ["--mult", mult])], batch + reply)
 
 
-def rows_at(lines: Sequence[bytes], at: int, width: int) -> Tuple[List[List[int]], int]:
+def rows_at(lines: Lines, at: int, width: int) -> Tuple[List[List[int]], int]:
     """The rows of so many numbers from line `at` on, and the line behind them."""
     rows = []
-    while at < len(lines) and lines[at][:1] in DIGITS:
+    while lines[at][:1] in DIGITS:
         row = lines[at].split(b" ")
         if len(row) != width or not all(it.isdigit() and (it[:1] != b"0" or it == b"0") for it in row):
             raise ReplyError(at + 1, f"a row of {width} numbers should stand here")
