@@ -5,6 +5,7 @@ Each call draws its own seed, so no key and nonce is used twice, also where an e
 
 from __future__ import annotations
 
+import secrets
 from concurrent.futures import Executor
 from dataclasses import dataclass
 from typing import Callable, Iterable, Iterator, List, NamedTuple, Optional, Sequence, Tuple, TypeVar, Union
@@ -304,7 +305,7 @@ def _run_all(
 ) -> Iterator[List[T]]:
     """What each task gives, in their order."""
     done = 0
-    futures = None if executor is None else [executor.submit(task, *it) for it in tasks]
+    futures = None if executor is None else [executor.submit(_do, secrets.token_bytes(16), task, *it) for it in tasks]
     try:
         for place, it in enumerate(tasks):
             yield task(*it) if futures is None else futures[place].result()
@@ -317,6 +318,11 @@ def _run_all(
 
 
 # ---- one batch: functions that an executor may send to another process
+
+
+def _do(_: bytes, task: Callable[..., List[T]], *given: object) -> List[T]:
+    """Does a task. Its token is random, since some engines give two tasks with the same arguments one result."""
+    return task(*given)
 
 
 class Suite(NamedTuple):
