@@ -168,6 +168,8 @@ def main(words: Optional[List[str]] = None) -> int:
         return status
     except (HpkeBatchError, ValueError) as fault:
         print(f"hpkebatch: {fault}", file=sys.stderr)
+    except KeyboardInterrupt:
+        return 130
     except OSError as fault:
         print(f"hpkebatch: {fault.filename or ''}: {fault.strerror}", file=sys.stderr)
     return 1

@@ -27,7 +27,7 @@ from .asked import (
     UnsealCall,
 )
 from .command import Runner, output_of
-from .errors import AlreadyRun, BuildFailed, CommandNotFound, OutOfMemory, OverLimit, ReadFault, UsageError, BadBatch
+from .errors import AlreadyRun, BadBatch, BuildFailed, CommandNotFound, OutOfMemory, OverLimit, ReadFault, UsageError
 from .reply import Reply
 from .suites import LIMITS, MOST_MESSAGES, SEED_SIZE, SNTRUP761, TAG_SIZE, Aead, Kdf, Kem, Limits, Psk
 
@@ -264,7 +264,8 @@ class Lane:
 class Batch(SeededBatch):
     """A batch of keys, contexts and lanes of calls.
 
-    Without `seed` it draws a fresh one where a line needs one. A batch that seals is run once, by `run` or `live`:
+    Without `seed` it draws a fresh one where a line needs one; a seed that is given twice gives the same keys and
+    encapsulations twice. A batch that seals is run once, by `run` or `live`:
     a second run may answer the lanes in another order, and then one key and nonce seal two messages. `rehearse`
     may repeat one schedule. `for_tests` lifts this, for batches whose secrets protect nothing.
     """

@@ -322,5 +322,5 @@ class Opening(Work):
         path = self.jobs[unit.file].source
         at = unit.part * CHUNKS_OF_PART + chunk
         if at == 0:
-            return FileFault(path, "it doesn't open: it is spoilt, or was sealed to another key")
-        return FileFault(path, f"it is spoilt: its {at + 1}. MiB doesn't open, and nothing of it was written")
+            return FileFault(path, "it doesn't open: it is spoilt in its first MiB, or was sealed to another key")
+        return FileFault(path, f"it is spoilt in its MiB number {at + 1}; nothing of it was written")

@@ -181,6 +181,8 @@ def draw(text: bytes, name: str, first: int = 0, count: int = 200) -> str:
     height_of_band = HEIGHT * len(lanes) + 34
     width, height = LEFT + WIDTH * COLUMNS + 20, top + bands * height_of_band + 10
     what = f"steps {first:,} to {last - 1:,} of {columns:,}" if shown else "no steps"
+    if len(range(first, last)) < columns:
+        what += " (--first and --count choose others)"
     order = "In the order of their stamps." if history.version == 2 else NO_STAMPS
     parts = [
         f'<svg xmlns="http://www.w3.org/2000/svg" width="{width}" height="{height}" viewBox="0 0 {width} {height}" '

@@ -135,7 +135,7 @@ def generate_key(kem: Kem = SNTRUP761, *, runner: Optional[Runner] = None) -> Ke
     """A new key pair."""
     batch = Batch()
     key = batch.keygen(kem)
-    answer = batch.run(runner=runner)[key]
+    answer = batch.run(workers=1, runner=runner)[key]
     assert answer.public is not None and answer.secret is not None
     return KeyPair(answer.public, answer.secret)
 
@@ -164,6 +164,8 @@ def seal(
     called with the count of messages that are done, and of all.
     """
     kem_of_public(to)
+    if isinstance(messages, (bytes, bytearray, memoryview, str)):
+        raise TypeError("messages is a list of byte strings: write [message] for a single one")
     pieces = list(_cut(list(messages), _listed(aads), _room(info, psk, limits), limits))
     tasks = [
         (to, [Contents(part_info(info, place, len(pieces)), texts, some)], Suite(kdf, aead), psk, runner, limits)

@@ -309,9 +309,10 @@ class Faults(unittest.TestCase):
         self.assertEqual((told.exception.kind, told.exception.asked), ("journal", batch.contexts[0]))
 
     def test_a_reply_to_another_batch(self):
+        batch = read_batch(example("open").batch)
         with self.assertRaises(ReplyError) as told:
-            Reply(read_batch(example("open").batch), example("seal").reply)[read_batch(example("open").batch).contexts[0]]
-        self.assertTrue(told.exception.line)
+            Reply(batch, example("seal").reply)[batch.lanes[0].calls[0]]
+        self.assertEqual((told.exception.line, told.exception.why), (4, "this doesn't answer call 0 (unseal) of lane 0"))
 
     def test_exceptions_get_to_other_processes(self):
         batch, _, sender, _ = two_ends()

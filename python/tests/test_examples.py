@@ -37,7 +37,7 @@ class Examples(unittest.TestCase):
             with self.subTest(it.name):
                 self.assertEqual(asked(it.words, it.batch).text(), it.batch)
                 names.append(it.name)
-        self.assertEqual(len(names), 24)
+        self.assertGreaterEqual(len(names), 24)
 
     def test_replies_are_printed_back_byte_for_byte(self):
         for it in examples():

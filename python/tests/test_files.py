@@ -3,6 +3,7 @@
 import contextlib
 import io
 import os
+import re
 import stat
 import subprocess
 import sys
@@ -133,7 +134,7 @@ class Files(InAFolder):
         self.assertEqual(
             told.splitlines(),
             [
-                "hpkebatch: a.hpke: it is spoilt: its 10. MiB doesn't open, and nothing of it was written",
+                "hpkebatch: a.hpke: it is spoilt in its MiB number 10; nothing of it was written",
                 f"hpkebatch: b.hpke: it is spoilt: cut, {len(b) - 1:,} bytes in place of {len(b):,}",
                 f"hpkebatch: e.hpke: it is spoilt: too long, {len(c) + 1:,} bytes in place of {len(c):,}",
                 "hpkebatch: f.hpke: it isn't a sealed file of hpkebatch",
@@ -152,7 +153,7 @@ class Files(InAFolder):
             second = files.HEAD_SIZE + 1039 + 7 * 26
             self.write("a.hpke", a[:second] + b[second:])
             status, _, told = self.told("open", "--key", "bob.key", "a.hpke", "b.hpke")
-        self.assertEqual((status, told), (1, "hpkebatch: a.hpke: it is spoilt: its 8. MiB doesn't open, and nothing of it was written\n"))
+        self.assertEqual((status, told), (1, "hpkebatch: a.hpke: it is spoilt in its MiB number 8; nothing of it was written\n"))
         self.assertFalse(os.path.exists("a"))
 
     def test_another_key(self):
@@ -160,7 +161,7 @@ class Files(InAFolder):
         self.told("keygen", "--kem", "sntrup857", "ann")
         self.sealed(text=b"text")
         os.remove("text")
-        self.assertIn("text.hpke: it doesn't open: it is spoilt, or was sealed to another key", self.told("open", "--key", "eve.key", "text.hpke")[2])
+        self.assertIn("text.hpke: it doesn't open: it is spoilt in its first MiB, or was sealed to another key", self.told("open", "--key", "eve.key", "text.hpke")[2])
         self.assertIn("text.hpke: it was sealed to a key of sntrup761", self.told("open", "--key", "ann.key", "text.hpke")[2])
         self.assertFalse(os.path.exists("text"))
 
@@ -213,8 +214,9 @@ class Replies(InAFolder):
                 self.assertEqual(len(hovers), steps)
                 failed = it.reply.count(b"\nfailed ")
                 self.assertEqual(sum(": failed" in text for text in hovers), failed)
-        stale = draw(example("stale_guess").reply, "it")
-        self.assertIn("its guess was stale", stale)
+                missed = sum(map(int, re.findall(rb"^batch \d+ (\d+)$", it.reply, re.M)))
+                self.assertEqual(sum("stale" in text for text in hovers), missed)
+        self.assertIn("its guess was stale", draw(example("stale_guess").reply, "it"))
         self.assertIn("step 0: lane 0, call 0, item 0, context 0: sealed at number 0", draw(example("stamps").reply, "it"))
 
     def test_a_part_of_a_long_history(self):

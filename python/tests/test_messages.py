@@ -97,6 +97,9 @@ class OneCall(unittest.TestCase):
         ):
             with self.assertRaises(ValueError):
                 call()
+        for messages in (b"one", "one", [1], ["one"]):
+            with self.assertRaises(TypeError):
+                seal(messages)
         for psk in (Psk(b"", b"name"), Psk(b"secret", b"")):
             with self.assertRaises(Refused):
                 seal([b""], psk=psk)
