@@ -79,6 +79,8 @@ def open_files(given: argparse.Namespace) -> int:
 
 
 def _target(given: argparse.Namespace, path: str, name: str) -> str:
+    if given.directory is not None:
+        os.makedirs(given.directory, exist_ok=True)
     return os.path.join(os.path.dirname(path) if given.directory is None else given.directory, name)
 
 
@@ -154,7 +156,7 @@ def parser() -> argparse.ArgumentParser:
 
 
 def _add_files(it: argparse.ArgumentParser) -> None:
-    it.add_argument("--directory", "-d", metavar="DIR", help="where to write; else beside each file")
+    it.add_argument("--directory", "-d", metavar="DIR", help="where to write, a folder that is made where it isn't there; else beside each file")
     it.add_argument("files", metavar="FILE", nargs="+")
 
 

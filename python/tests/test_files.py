@@ -76,7 +76,6 @@ class Files(InAFolder):
         with mock.patch.object(files, "CHUNK", 1000):
             contents = {f"file{size}": os.urandom(size) for size in (0, 1, 999, 1000, 1001, 6999, 7000, 7001, 30_000)}
             self.sealed(**contents)
-            os.mkdir("there")
             names = [f"{name}.hpke" for name in contents]
             self.assertEqual(self.told("open", "--key", "bob.key", "-d", "there", *names), (0, "", ""))
             for name, data in contents.items():
