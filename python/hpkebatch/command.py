@@ -1,0 +1,123 @@
+"""Runs the command `hpkebatch`: finds it, gives it a text, and makes exceptions of its statuses."""
+
+from __future__ import annotations
+
+import os
+import shutil
+import subprocess
+from dataclasses import dataclass
+from io import BufferedRandom
+from typing import Callable, Dict, NamedTuple, Optional, Protocol, Sequence, Tuple, Type, Union
+
+from .errors import (
+    BadBatch,
+    BuildFailed,
+    CommandNotFound,
+    IllegalReply,
+    OutOfMemory,
+    ReadFault,
+    RunFailed,
+    UsageError,
+    WriteFault,
+)
+
+Path = Union[str, "os.PathLike[str]"]
+
+
+class Finished(NamedTuple):
+    """What a run left."""
+
+    status: int
+    output: bytes
+    errors: bytes
+
+
+class Runner(Protocol):
+    """Whatever answers a text as the command does: words and standard input in, status and texts out."""
+
+    def __call__(self, words: Sequence[str], text: bytes) -> Finished: ...
+
+
+REPOSITORY = os.path.dirname(os.path.dirname(os.path.dirname(os.path.abspath(__file__))))
+
+
+def launcher() -> Optional[str]:
+    """The repository's launcher, where this package stands in a clone."""
+    path = os.path.join(REPOSITORY, "hpkebatch")
+    is_clone = os.path.isfile(os.path.join(REPOSITORY, "tools", "build"))
+    return path if is_clone and os.access(path, os.X_OK) else None
+
+
+def find_command(path: Optional[Path] = None) -> str:
+    """The command: `path`, else that of HPKEBATCH, else `hpkebatch` of the PATH, else the repository's launcher."""
+    if path is not None:
+        return os.fspath(path)
+    found = os.environ.get("HPKEBATCH") or shutil.which("hpkebatch") or launcher()
+    if found is None:
+        raise CommandNotFound(
+            "the command hpkebatch isn't on the PATH; install its package, or name the program in HPKEBATCH"
+        )
+    return found
+
+
+@dataclass(frozen=True)
+class Command:
+    """Runs the command. Where no path is given it is looked for at each run, on the machine that runs it."""
+
+    path: Optional[Path] = None
+
+    def __call__(self, words: Sequence[str], text: bytes) -> Finished:
+        path = find_command(self.path)
+        # A launcher may build for minutes, and tells of it on standard error.
+        errors = None if path == launcher() else subprocess.PIPE
+        run = _run_in_memory if hasattr(os, "memfd_create") else _run_by_pipes
+        try:
+            return run([path, *words], text, errors)
+        except OSError as fault:
+            raise CommandNotFound(f"{path} can't be run: {fault.strerror}") from fault
+
+
+def _run_by_pipes(words: Sequence[str], text: bytes, errors: Optional[int]) -> Finished:
+    done = subprocess.run(words, input=text, stdout=subprocess.PIPE, stderr=errors, check=False)
+    return Finished(done.returncode, done.stdout, done.stderr or b"")
+
+
+def _run_in_memory(words: Sequence[str], text: bytes, errors: Optional[int]) -> Finished:
+    """By files that stand in memory alone: several times as fast as pipes for large texts, and no secret gets to a disk."""
+    with _memory_file() as source, _memory_file() as sink:
+        source.write(text)
+        source.seek(0)
+        done = subprocess.run(words, stdin=source, stdout=sink, stderr=errors, check=False)
+        sink.seek(0)
+        return Finished(done.returncode, sink.read(), done.stderr or b"")
+
+
+def _memory_file() -> BufferedRandom:
+    return os.fdopen(os.memfd_create("hpkebatch"), "w+b")
+
+
+FAULTS: Dict[int, Type[RunFailed]] = {2: UsageError, 4: ReadFault, 5: WriteFault, 6: OutOfMemory, 125: BuildFailed}
+AskedAt = Callable[[int], Optional[object]]
+
+
+def output_of(runner: Optional[Runner], words: Sequence[str], text: bytes, asked_at: Optional[AskedAt] = None) -> bytes:
+    """The output of a run with status 0; any other status is raised. `asked_at` tells what a line was made for."""
+    done = (runner or Command())(words, text)
+    if done.status == 0:
+        return done.output
+    raise _fault(done, asked_at or (lambda line: None))
+
+
+def _fault(done: Finished, asked_at: AskedAt) -> RunFailed:
+    said = (done.output if done.status in (3, 7) else done.errors).decode("utf-8", "replace").strip()
+    pieces = said.split(" ")
+    if done.status == 3 and len(pieces) == 3 and pieces[1].isdigit():
+        line = int(pieces[1])
+        return BadBatch(line, pieces[2], asked_at(line))
+    if done.status == 7 and len(pieces) in (2, 3):
+        return IllegalReply(*_broken(pieces))
+    return FAULTS.get(done.status, RunFailed)(done.status, said)
+
+
+def _broken(pieces: Sequence[str]) -> Tuple[str, Optional[int]]:
+    return pieces[1], int(pieces[2]) if len(pieces) == 3 else None

@@ -1,0 +1,171 @@
+"""What can go wrong. Every exception of this package that isn't a plain `TypeError` or `ValueError` is a `HpkeBatchError`."""
+
+from __future__ import annotations
+
+from typing import Optional
+
+
+class HpkeBatchError(Exception):
+    """The base of this package's exceptions."""
+
+
+class CommandNotFound(HpkeBatchError):
+    """The command `hpkebatch` isn't there, or can't be started."""
+
+
+class OverLimit(HpkeBatchError, ValueError):
+    """The batch, or one of its fields, would hold more than docs/FORMAT.md allows."""
+
+
+class AlreadyRun(HpkeBatchError):
+    """A batch that seals was run before, so running it again could use a key and a nonce for two messages."""
+
+
+class ReplyError(HpkeBatchError, ValueError):
+    """A text isn't a reply to its batch. `line` counts from 1."""
+
+    def __init__(self, line: int, why: str) -> None:
+        super().__init__(line, why)
+        self.line, self.why = line, why
+
+    def __str__(self) -> str:
+        return f"line {self.line} of the reply: {self.why}"
+
+
+# ---- runs that failed
+
+
+class RunFailed(HpkeBatchError):
+    """The command ended with another status than 0. A negative status is the signal that ended it."""
+
+    def __init__(self, status: int, said: str) -> None:
+        super().__init__(status, said)
+        self.status, self.said = status, said
+
+    def __str__(self) -> str:
+        return f"hpkebatch ended with status {self.status}: {self.said or 'it said nothing'}"
+
+
+class UsageError(RunFailed):
+    """Status 2: the command doesn't know these words. Nothing was read."""
+
+
+class ReadFault(RunFailed):
+    """Status 4: the command couldn't read its input. Nothing was written."""
+
+
+class WriteFault(RunFailed):
+    """Status 5: the command couldn't write its reply. A part of it may be out."""
+
+
+class OutOfMemory(RunFailed):
+    """Status 6: out of memory. Nothing was written."""
+
+
+class BuildFailed(RunFailed):
+    """Status 125: the repository's launcher couldn't build the program. Nothing was read."""
+
+
+class BadBatch(RunFailed):
+    """Status 3: the batch has a bad line. `line` counts from 1, `asked` is what that line was made for."""
+
+    def __init__(self, line: int, reason: str, asked: Optional[object] = None) -> None:
+        super().__init__(3, f"bad {line} {reason}")
+        self.args = (line, reason, asked)
+        self.line, self.reason, self.asked = line, reason, asked
+
+    def __str__(self) -> str:
+        made_for = "" if self.asked is None else f", made for {self.asked}"
+        return f"line {self.line} of the batch is bad ({self.reason}){made_for}"
+
+
+class IllegalReply(RunFailed):
+    """Status 7: `check` found that the command can't have written this reply.
+
+    `kind` is form, journal, stamps, reply or guess. `at` is the number of the line, or of the context for a
+    journal; `asked` is the call or the context that it is about, where there is one.
+    """
+
+    def __init__(self, kind: str, at: Optional[int], asked: Optional[object] = None) -> None:
+        super().__init__(7, f"broken {kind}" + ("" if at is None else f" {at}"))
+        self.args = (kind, at, asked)
+        self.kind, self.at, self.asked = kind, at, asked
+
+    def __str__(self) -> str:
+        about = "" if self.asked is None else f", the answer to {self.asked}"
+        return f"the reply is not legal: {self.said}{about}"
+
+
+# ---- answers that aren't there
+
+
+class CallError(HpkeBatchError):
+    """Some call, key or context has no answer but a refusal. `asked` is what was asked for."""
+
+    def __init__(self, word: str, asked: object) -> None:
+        super().__init__(word, asked)
+        self.word, self.asked = word, asked
+
+    def __str__(self) -> str:
+        return f"{self.asked}: {self.word}"
+
+
+class Refused(CallError):
+    """A line was refused; `word` is the reason, as docs/FORMAT.md lists them."""
+
+    def __str__(self) -> str:
+        return f"{self.asked} was refused: {self.word}"
+
+
+class OpenFailed(CallError):
+    """A message doesn't open. `number` is the sequence number at which it was tried."""
+
+    def __init__(self, asked: object, number: int) -> None:
+        super().__init__("failed", asked)
+        self.args = (asked, number)
+        self.number = number
+
+    def __str__(self) -> str:
+        return (
+            f"{self.asked} doesn't open as message {self.number} of its context: it was changed or is out of order, "
+            "or key, info, psk or associated data are others than the sender's"
+        )
+
+
+class LimitReached(CallError):
+    """The context has sealed or opened as many messages as its LIMIT allows."""
+
+    def __init__(self, asked: object) -> None:
+        super().__init__("limit", asked)
+        self.args = (asked,)
+
+    def __str__(self) -> str:
+        return f"{self.asked} is past the LIMIT of its context"
+
+
+class MessageNotOpened(HpkeBatchError):
+    """`hpkebatch.open` met a message that doesn't open. `index` is its place in `ciphertexts`, from 0.
+
+    The messages behind it in its part can't be opened either: a context counts the messages that it opened.
+    """
+
+    def __init__(self, index: int, part: int) -> None:
+        super().__init__(index, part)
+        self.index, self.part = index, part
+
+    def __str__(self) -> str:
+        return (
+            f"message {self.index} (in part {self.part}) doesn't open: it was changed or is out of order, or key, "
+            "info, psk or associated data are others than the sender's"
+        )
+
+
+class FileFault(HpkeBatchError):
+    """A key file or a sealed file isn't as it should be. `path` names it."""
+
+    def __init__(self, path: str, why: str) -> None:
+        super().__init__(path, why)
+        self.path, self.why = path, why
+
+    def __str__(self) -> str:
+        return f"{self.path}: {self.why}"

@@ -1,0 +1,348 @@
+"""Batches: what the builder refuses, what runs once, and which call a bad line belongs to."""
+
+import copy
+import pickle
+import threading
+import unittest
+
+from common import Told, command, example
+from hpkebatch import (
+    SNTRUP761,
+    SNTRUP857,
+    AlreadyRun,
+    BadBatch,
+    Batch,
+    CapsuleBatch,
+    IllegalReply,
+    Limits,
+    LimitReached,
+    OpenFailed,
+    OutOfMemory,
+    OverLimit,
+    Psk,
+    Refused,
+    Reply,
+    ReplyError,
+    read_batch,
+)
+
+SECRET = b"s" * 32
+
+
+def two_ends():
+    batch = Batch(for_tests=True)
+    key = batch.keygen()
+    sender = batch.send(key, b"info")
+    recipient = batch.recv(key, sender, b"info")
+    return batch, key, sender, recipient
+
+
+class Building(unittest.TestCase):
+    def test_a_whole_exchange(self):
+        batch, key, sender, recipient = two_ends()
+        first, other = batch.lane(), batch.lane()
+        sealed = [first.seal(sender, b"one", b"a"), first.seal(sender, b"")]
+        label = other.export(recipient, b"label", 32)
+        reply = batch.run(runner=command).check(runner=command)
+        self.assertEqual([len(reply[key].public), len(reply[key].secret)], [SNTRUP761.public_size, SNTRUP761.secret_size])
+        self.assertEqual(len(reply[sender].enc), SNTRUP761.enc_size)
+        self.assertEqual([reply[it].number for it in sealed], [0, 1])
+        self.assertEqual(len(reply[label].secret), 32)
+        self.assertEqual([place.call for place in reply.journal(sender).places], [0, 1])
+        self.assertEqual([it.stamp for it in reply.history()], [0, 1])
+
+        back = Batch()
+        own = back.secret(reply[key].secret)
+        again = back.recv(own, reply[sender].enc, b"info")
+        lane = back.lane()
+        opened = lane.unsealall(again, [(b"a", reply[sealed[0]].ciphertext), (b"", reply[sealed[1]].ciphertext)])
+        wrong = lane.unseal(again, b"\0" * 20)
+        seals = lane.seal(again, b"no")
+        answers = back.run(runner=command).check(runner=command)
+        self.assertEqual(answers[opened].plaintexts, [b"one", b""])
+        self.assertEqual(answers[opened].guess, 0)
+        with self.assertRaises(OpenFailed) as failed:
+            answers[wrong]
+        self.assertEqual((failed.exception.number, failed.exception.asked), (2, wrong))
+        with self.assertRaises(Refused) as refused:
+            answers[seals]
+        self.assertEqual((refused.exception.word, refused.exception.asked), ("role", seals))
+        self.assertEqual(answers.answer(seals).word, "role")
+
+    def test_a_spoilt_item_of_an_opening_raises_where_it_is_asked_for(self):
+        it = example("opening")
+        reply = Reply(read_batch(it.batch), it.reply)
+        opened = reply[reply.batch.lanes[0].calls[0]]
+        self.assertEqual(len(opened), 3)
+        self.assertEqual([type(item).__name__ for item in opened.items].count("FailedAnswer"), 1)
+        with self.assertRaises(OpenFailed):
+            opened.plaintexts
+        it = example("limits")
+        reply = Reply(read_batch(it.batch), it.reply)
+        ends = [reply.answer(call) for lane in reply.batch.lanes for call in lane.calls]
+        at = [type(answer).__name__ for answer in ends].index("LimitAnswer")
+        with self.assertRaises(LimitReached):
+            reply[reply.batch.lanes[0].calls[at]]
+
+    def test_seeds_are_drawn_where_they_are_needed(self):
+        plain = Batch()
+        plain.share("recv", 32, SECRET)
+        self.assertNotIn(b"rand", plain.text())
+        texts = {two_ends()[0].text() for _ in range(3)}
+        self.assertEqual(len(texts), 3)
+        self.assertTrue(all(text.split(b"\n")[1].startswith(b"rand ") for text in texts))
+
+    def test_adds_are_numbered_in_the_order_of_the_text(self):
+        batch = Batch(for_tests=True)
+        first, second = batch.lane(), batch.lane()
+        late = second.add("send", 32, b"b" * 32)
+        second.seal(late, b"two")
+        early = first.add("send", 32, b"a" * 32)
+        sealed = first.seal(early, b"one")
+        first.retire(early)
+        gone = first.seal(early, b"one")
+        text = batch.text().split(b"\n")
+        self.assertEqual([line[:9] for line in text if line.startswith((b"seal", b"reti"))], [b"seal +0 -", b"retire +0", b"seal +0 -", b"seal +1 -"])
+        reply = batch.live(runner=command)
+        self.assertEqual(reply[sealed].number, 0)
+        with self.assertRaises(Refused):
+            reply[gone]
+        self.assertEqual(len(reply.table), 6)
+        self.assertEqual([journal.name for journal in reply.journals], ["+0", "+1"])
+        self.assertEqual(reply.journal(late).places[0].lane, 1)
+        self.assertEqual([it.stamp for it in reply.history()], list(range(8)))
+        with self.assertRaises(ValueError):
+            batch.run(runner=command)
+
+    def test_limits_are_those_of_the_format(self):
+        batch = Batch(limits=Limits(keys=1, contexts=1, lanes=1, items=2, opening=2, exported=10, message=4, field=3, input=300))
+        batch.peer(b"abc")
+        context = batch.share("recv", 32, b"abc")
+        lane = batch.lane()
+        for call in (
+            lambda: batch.peer(b"a"),
+            lambda: batch.share("recv", 32, b"a"),
+            lambda: batch.lane(),
+            lambda: lane.unseal(context, b"x" * 21),
+            lambda: lane.unseal(context, b"", b"1234"),
+            lambda: lane.unsealall(context, [(b"", b"")] * 3),
+            lambda: lane.unsealall(context, []),
+            lambda: lane.export(context, b"", 11),
+            lambda: lane.export(context, b"", 65_536),
+            lambda: lane.export(context, b"1234", 1),
+            lambda: batch.share("send", 32, b"", limit=0),
+        ):
+            with self.assertRaises(OverLimit):
+                call()
+        lane.unseal(context, b"x" * 20)
+        lane.unseal(context, b"x" * 20)
+        with self.assertRaises(OverLimit):
+            lane.unseal(context, b"")
+        self.assertLess(len(batch.text()), 300)
+        self.assertEqual(batch.text().count(b"unseal"), 2)
+
+    def test_wrong_fields(self):
+        batch = Batch()
+        for call in (
+            lambda: Batch(version=3),
+            lambda: Batch(seed=b"short"),
+            lambda: Batch(version=1).keygen(SNTRUP857),
+            lambda: batch.share("both", 32, b""),
+            lambda: batch.share("recv", 32, b"", aead=3),
+            lambda: batch.share("recv", 32, b"", kdf=4),
+            lambda: batch.share("recv", 32, b"", mode="auth"),
+            lambda: batch.recv(Batch().peer(b"a"), b""),
+            lambda: CapsuleBatch().ask(CapsuleBatch().peer(b""), 1, b""),
+            lambda: Batch(version=1).lane().add("send", 32, b""),
+        ):
+            with self.assertRaises(ValueError):
+                call()
+        with self.assertRaises(TypeError):
+            batch.lane().seal(batch.context(0), "text")
+
+    def test_names_of_lines_that_are_not_there(self):
+        batch = Batch()
+        lane = batch.lane()
+        call = lane.export(batch.context(7), b"", 1)
+        reply = batch.run(runner=command)
+        with self.assertRaises(Refused) as refused:
+            reply[call]
+        self.assertEqual(refused.exception.word, "nocontext")
+        for asked in (batch.context(7), batch.key(0)):
+            with self.assertRaises(LookupError):
+                reply[asked]
+        with self.assertRaises(ValueError):
+            reply[two_ends()[1]]
+
+
+class Once(unittest.TestCase):
+    def sealing(self):
+        batch = Batch()
+        context = batch.share("send", 32, SECRET)
+        batch.lane().seal(context, b"one")
+        batch.lane().seal(context, b"two")
+        return batch
+
+    def test_a_batch_that_seals_runs_once(self):
+        batch = self.sealing()
+        batch.run(runner=command)
+        for again in (batch.run, batch.live, batch.rehearse):
+            with self.assertRaises(AlreadyRun) as told:
+                again(runner=command)
+            self.assertIn("one key and nonce", str(told.exception))
+
+    def test_nothing_is_added_to_a_batch_that_ran(self):
+        batch = self.sealing()
+        lane = batch.lanes[0]
+        batch.run(runner=command)
+        for call in (batch.keygen, batch.lane, lambda: batch.share("recv", 32, b""), lambda: lane.seal(batch.contexts[0], b"x")):
+            with self.assertRaises(AlreadyRun):
+                call()
+
+    def test_a_rehearsal_repeats_one_schedule(self):
+        batch = self.sealing()
+        first, second = (batch.rehearse([1, 0], runner=command) for _ in range(2))
+        self.assertEqual(first.text(), second.text())
+        for other in (lambda: batch.rehearse([0, 1], runner=command), lambda: batch.run(runner=command)):
+            with self.assertRaises(AlreadyRun):
+                other()
+
+    def test_openings_and_tests_may_repeat(self):
+        batch = Batch()
+        batch.lane().export(batch.share("recv", 32, SECRET), b"", 1)
+        batch.run(runner=command)
+        batch.run(runner=command)
+        batch, _, sender, _ = two_ends()
+        batch.lane().seal(sender, b"")
+        for schedule in ([], [0], [0, 0]):
+            batch.rehearse(schedule, runner=command)
+
+    def test_a_run_that_wrote_nothing_may_be_tried_again(self):
+        batch = self.sealing()
+        with self.assertRaises(OutOfMemory):
+            batch.run(runner=Told(status=6, errors=b"hpkebatch: out of memory\n"))
+        batch.run(runner=command)
+        batch = self.sealing()
+        with self.assertRaises(Exception):
+            batch.run(runner=Told(b"hpkebatch 2\n", status=5))
+        with self.assertRaises(AlreadyRun):
+            batch.run(runner=command)
+
+    def test_two_threads_run_it_once(self):
+        batch, refused = self.sealing(), []
+
+        def run():
+            try:
+                batch.run(runner=command)
+            except AlreadyRun:
+                refused.append(1)
+
+        threads = [threading.Thread(target=run) for _ in range(8)]
+        for thread in threads:
+            thread.start()
+        for thread in threads:
+            thread.join()
+        self.assertEqual(len(refused), 7)
+
+    def test_a_batch_is_not_copied(self):
+        for copied in (copy.copy, copy.deepcopy, pickle.dumps):
+            for batch in (self.sealing(), CapsuleBatch()):
+                with self.assertRaises(TypeError):
+                    copied(batch)
+
+    def test_nothing_secret_is_printed(self):
+        batch, key, sender, recipient = two_ends()
+        call = batch.lane().seal(sender, b"plain text")
+        psk = Psk(b"pre-shared", b"name")
+        reply = batch.run(runner=command)
+        seed = batch.text().split(b"\n")[1][5:].decode()
+        texts = [repr(it) for it in (batch, key, sender, call, reply, reply[key], psk, batch.lanes)]
+        for secret in (seed, reply[key].secret.hex()[:16], repr(reply[key].secret)[2:20], "pre-shared", "plain text"):
+            self.assertFalse([text for text in texts if secret in text])
+
+
+class Faults(unittest.TestCase):
+    def test_a_bad_line_is_told_with_its_call(self):
+        """By limits above the program's, so that the program finds what the builder lets pass."""
+        batch = Batch(limits=Limits(lanes=99, field=99_999))
+        batch.keygen()
+        context = batch.share("recv", 32, SECRET)
+        batch.lane().export(context, b"", 1)
+        lane = batch.lane()
+        lane.export(context, b"", 1)
+        wrong = lane.export(context, b"x" * 65_536, 1)
+        with self.assertRaises(BadBatch) as bad:
+            batch.run(runner=command)
+        self.assertEqual((bad.exception.line, bad.exception.reason, bad.exception.asked), (9, "size", wrong))
+        self.assertIn("call 1 (export) of lane 1", str(bad.exception))
+        for asked, line in ((batch.keys[0], 3), (context, 4), (lane.calls[0], 8)):
+            self.assertIs(batch.asked_at(line), asked)
+        for line in (0, 1, 2, 5, 7, 10, 99):
+            self.assertIsNone(batch.asked_at(line))
+
+    def test_a_bad_line_of_capsules(self):
+        batch = CapsuleBatch(limits=Limits(field=99_999))
+        key = batch.keygen()
+        ask = batch.ask(key, 7, b"text")
+        wrong = batch.answer(key, 7, ask, b"text", nonce=b"n" * 65_536)
+        with self.assertRaises(BadBatch) as bad:
+            batch.run(runner=command)
+        self.assertIs(bad.exception.asked, wrong)
+
+    def test_a_spoilt_reply_is_told_with_its_call(self):
+        it = example("two_ends")
+        batch = read_batch(it.batch)
+        lines = it.reply.split(b"\n")
+        for call in batch.lanes[0].calls:
+            at = next(n for n in range(len(lines)) if Reply(batch, it.reply).asked_at(n + 1) is call)
+            changed = b"\n".join([*lines[:at], lines[at][:-1] + (b"0" if lines[at][-1:] != b"0" else b"1"), *lines[at + 1 :]])
+            with self.assertRaises(IllegalReply) as told:
+                Reply(batch, changed).check(runner=command)
+            self.assertEqual((told.exception.kind, told.exception.at, told.exception.asked), ("reply", at + 1, call))
+
+    def test_a_journal_that_is_spoilt(self):
+        it = example("seal")
+        batch = read_batch(it.batch)
+        changed = it.reply.replace(b"0 0 0\n0 1 0\n", b"0 1 0\n0 0 0\n")
+        with self.assertRaises(IllegalReply) as told:
+            Reply(batch, changed).check(runner=command)
+        self.assertEqual((told.exception.kind, told.exception.asked), ("journal", batch.contexts[0]))
+
+    def test_a_reply_to_another_batch(self):
+        batch = read_batch(example("open").batch)
+        with self.assertRaises(ReplyError) as told:
+            Reply(batch, example("seal").reply)[batch.lanes[0].calls[0]]
+        self.assertEqual((told.exception.line, told.exception.why), (4, "this doesn't answer call 0 (unseal) of lane 0"))
+
+    def test_exceptions_get_to_other_processes(self):
+        batch, _, sender, _ = two_ends()
+        call = batch.lane().seal(sender, b"")
+        for fault in (BadBatch(3, "hex", call), IllegalReply("reply", 4, call), Refused("role", call), OpenFailed(call, 2), LimitReached(call), ReplyError(2, "why")):
+            self.assertEqual(str(pickle.loads(pickle.dumps(fault))), str(fault))
+
+
+class Capsules(unittest.TestCase):
+    def test_a_whole_exchange(self):
+        for kem in (SNTRUP761, SNTRUP857):
+            batch = CapsuleBatch()
+            key = batch.keygen(kem)
+            ask = batch.ask(key, 7, b"question")
+            answer = batch.answer(key, 7, ask, b"answer")
+            take = batch.take(ask, answer)
+            other = batch.answer(key, 8, ask, b"answer")
+            reply = batch.run(runner=command)
+            self.assertEqual((reply[answer].text, reply[take].text), (b"question", b"answer"))
+            with self.assertRaises(Refused) as refused:
+                reply[other]
+            self.assertEqual(refused.exception.word, "header")
+            gateway = CapsuleBatch()
+            own = gateway.secret(reply[key].secret, kem)
+            there = gateway.answer(own, 7, reply[ask].request, b"again")
+            self.assertEqual(gateway.run(runner=command)[there].text, b"question")
+            self.assertEqual(batch.run(runner=command).text(), reply.text())
+            with self.assertRaises(AlreadyRun):
+                batch.ask(key, 7, b"")
+
+
+if __name__ == "__main__":
+    unittest.main()
