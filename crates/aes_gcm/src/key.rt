@@ -156,8 +156,8 @@ impl GcmKey {
     /// with this key, `nonce` and `aad`: true exactly where `ct` has at least 16 bytes and its last
     /// 16 are the tag of those before. Decrypts nothing.
     ///
-    /// Each call counts as one check, also of a `ct` that is too short. The comparison takes a time
-    /// that depends on the tags.
+    /// Each call counts as one check, also of a `ct` that is too short. All bytes of the two tags are
+    /// compared at once.
     pub fn check_tag(&self, nonce: &[u8; 12], aad: &[u8], ct: &[u8], checks: &mut Checks) -> bool
         requires count { checks.old < 2 ^ 64 - 1 }
         requires ct { length ct.now ≤ 2 ^ 36 - 16 }

@@ -7,8 +7,8 @@
 //! is checked at many nonces for one hash, and isn't counted.
 //!
 //! Nothing here refuses or takes memory. Not here: other lengths of IV and tag, and AES-192.
-//! Nothing is constant time or wiped: tables are indexed by secret bytes, and the comparison of tags
-//! may end early. Nonces are the caller's, who must never seal twice with one key and nonce.
+//! Nothing is constant time or wiped: tables are indexed by secret bytes. Two tags are compared at
+//! once. Nonces are the caller's, who must never seal twice with one key and nonce.
 #![tactic(auto)]
 
 mod adding;
