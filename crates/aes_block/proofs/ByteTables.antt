@@ -1,23 +1,16 @@
--- The tables of single bytes, computed by the definitions.
+-- The table of single bytes, computed by the definition, and the inverses of all bytes.
 use Rattle.std.proofs.Common.{◌≡◌, ◌≢◌, ◌<◌, ◌≤◌, ◌+◌, ◌-◌, ℕ, zero, suc, [], ◌∷◌, get_or, map, replicate, ap, sym, ◌∙◌, refl, arith}
 use Rattle.std.proofs.lemmas.List.{get_or-replicate}
 use Rattle.std.proofs.Math.Nat.{zero-add}
 use Rattle.std.specs.List.{range_with_len}
 use Rattle.std.proofs.lemmas.List.FromFn.{get_or-map-range_with_len}
-use Rattle.aes_block.specs.declared.tables.TheConstants.{S_BOX, ROUND_CONSTANTS}
-use Rattle.aes_block.specs.Field.{xtime, by_power, low_product, product, inverse_among, inverse, affine_bits, s_box}
+use Rattle.aes_block.specs.declared.tables.TheConstants.{ROUND_CONSTANTS}
+use Rattle.aes_block.specs.Field.{xtime, by_power, low_product, product, inverse_among, inverse}
 use Rattle.aes_block.specs.Cipher.{rcon}
-
-pub s_box_table : map s_box (range_with_len 0 256) ≡ S_BOX
-unfolding xtime by_power low_product product inverse_among inverse affine_bits s_box
-s_box_table = refl
 
 pub constants_table : map (λ i. by_power i 1) (range_with_len 0 10) ≡ ROUND_CONSTANTS
 unfolding xtime by_power
 constants_table = refl
-
-pub s_box_is : (a : ℕ) → a < 256 → get_or S_BOX a 0 ≡ s_box a
-s_box_is a small = ap (λ xs. get_or xs a 0) (sym s_box_table) ∙ get_or-map-range_with_len s_box 0 256 a a 0 small (zero-add a)
 
 pub constant_is : (i : ℕ) → i < 10 → get_or ROUND_CONSTANTS i 0 ≡ by_power i 1
 constant_is i small =
@@ -28,7 +21,7 @@ constant_is i small =
 pub rcon_is : (j : ℕ) → 1 ≤ j → j ≤ 10 → get_or ROUND_CONSTANTS (j - 1) 0 ∷ 0 ∷ 0 ∷ 0 ∷ [] ≡ rcon j
 rcon_is j low high = let small : j - 1 < 10 = omega arith in ap (λ x. x ∷ 0 ∷ 0 ∷ 0 ∷ []) (constant_is (j - 1) small)
 
-pub ruleset tables = (s_box_is, rcon_is)
+pub ruleset constants = (rcon_is)
 
 inverses_table : map (λ a. product (a + 1) (inverse (a + 1))) (range_with_len 0 255) ≡ replicate 255 1
 unfolding xtime by_power low_product product inverse_among inverse

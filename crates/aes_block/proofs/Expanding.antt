@@ -48,8 +48,6 @@ state_after-none w block = refl
 
 pub ruleset expansion_steps = (key_expansion-more, key_expansion-none)
 
-pub ruleset round_steps = (state_after-step, state_after-none)
-
 -- the parts of an expanded key
 pub take-expanded_key : (key : List ℕ) → take (length key) (expanded_key key) ≡ key
 unfolding expanded_key

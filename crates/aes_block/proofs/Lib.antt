@@ -1,6 +1,7 @@
 pub mod ByteTables
-pub mod Columns
+pub mod Circuit
 pub mod Expanding
-pub mod LastByte
 pub mod Lengths
 pub mod Published
+pub mod States
+pub mod Turning

@@ -1,4 +1,4 @@
 pub mod Field
 pub mod Cipher
-pub mod Run
-pub mod Words
+pub mod Circuit
+pub mod Sliced

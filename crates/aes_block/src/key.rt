@@ -1,18 +1,21 @@
 //! Keys of AES (FIPS 197).
 
-ghost use Rattle.std.specs.Prelude.{◌≡◌, ◌≤◌, ◌*◌, ◌⊎◌, length};
+ghost use Rattle.std.specs.Prelude.{◌≡◌, ◌≤◌, ◌<◌, ◌*◌, ◌⊎◌, ℕ, [], length, slice_index_or};
 ghost use Rattle.aes_block.specs.Cipher.{expanded_key, round_key, round_count, cipher};
 
 use crate::key_expansion::expanded;
-use crate::rounds::cipher;
+use crate::rounds::{add_key, last_round, round};
+use crate::slices::{SlicedKeys, key_at, sliced, sliced_keys, unsliced};
 use arrayvec::ArrayVec;
 use std::marker::Model;
 
-/// A key of AES-128 or AES-256 and its round keys. A contract sees the key's bytes.
+/// A key of AES-128 or AES-256 and its round keys, as bytes and by bits. A contract sees the key's
+/// bytes.
 #[derive(Drop)]
 pub struct AesKey {
-    pub(crate) expanded: ArrayVec<u8, 240>,
-    pub(crate) rounds: usize,
+    expanded: ArrayVec<u8, 240>,
+    sliced: SlicedKeys,
+    rounds: usize,
 }
 
 // The key stands at the front of its expansion; it has four bytes for each round above six.
@@ -20,6 +23,7 @@ impl Model for AesKey {
     ghost use Rattle.std.specs.Prelude.{◌≡◌, ◌+◌, ◌-◌, ◌*◌, ◌⊎◌, ℕ, List, take};
     ghost use Rattle.arrayvec.specs.ArrayVec.{array_vec_len};
     ghost use Rattle.aes_block.specs.Cipher.{expanded_key, round_count};
+    ghost use Rattle.aes_block.specs.Sliced.{AreKeysOf};
 
     ghost Value = { List ℕ };
 
@@ -28,7 +32,8 @@ impl Model for AesKey {
     ghost invariant = { λ k. ((k.rounds ≡ 10) ⊎ (k.rounds ≡ 14))
         × (array_vec_len k.expanded ≡ 16 * (k.rounds + 1))
         × (k.expanded.items ≡ expanded_key (take (4 * (k.rounds - 6)) k.expanded.items))
-        × (k.rounds ≡ round_count (take (4 * (k.rounds - 6)) k.expanded.items)) };
+        × (k.rounds ≡ round_count (take (4 * (k.rounds - 6)) k.expanded.items))
+        × AreKeysOf k.sliced k.expanded.items k.rounds };
 }
 
 impl AesKey {
@@ -38,8 +43,11 @@ impl AesKey {
         requires size { (nk ≡ 4) ⊎ (nk ≡ 8) }
         ensures { result ≡ key.now }
     {
+        let expanded = expanded(key, nk);
+        let sliced = sliced_keys(expanded.as_slice(), nk + 6);
         AesKey {
-            expanded: expanded(key, nk),
+            expanded,
+            sliced,
             rounds: nk + 6,
         }
     }
@@ -67,11 +75,26 @@ impl AesKey {
         &keys[i]
     }
 
-    /// Cipher (FIPS 197, 5.1): the encryption of one block. Its inverse isn't here: the modes that
-    /// this crate serves encrypt counters alone.
+    /// Cipher (FIPS 197, 5.1): the encryption of each of eight blocks. Its inverse isn't here: the
+    /// modes that this crate serves encrypt counters alone.
+    #[inline(never)]
+    pub fn encrypt_eight(&self, blocks: &[[u8; 16]; 8]) -> [[u8; 16]; 8]
+        ensures { (i : ℕ) → i < 8
+            → slice_index_or result i [] ≡ cipher self.now (slice_index_or blocks.now i []) }
+    {
+        let mut state = add_key(sliced(blocks), key_at(&self.sliced, 0));
+        'rounds: for i in 1..self.rounds {
+            let next = round(state, key_at(&self.sliced, i));
+            state = next;
+        }
+        unsliced(last_round(state, key_at(&self.sliced, self.rounds)))
+    }
+
+    /// Cipher (FIPS 197, 5.1): the encryption of one block. It takes as long as that of eight.
     pub fn encrypt_block(&self, block: &[u8; 16]) -> [u8; 16]
         ensures { result ≡ cipher self.now block.now }
     {
-        cipher(self.expanded.as_slice(), self.rounds, block)
+        let [first, ..] = self.encrypt_eight(&[*block; 8]);
+        first
     }
 }

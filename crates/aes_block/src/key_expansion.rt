@@ -1,12 +1,16 @@
 //! KeyExpansion (FIPS 197, 5.2), for keys of 4 and of 8 words.
+//!
+//! SubWord goes through the S-box's circuit, as the first four bytes of a state.
 
 ghost use Rattle.std.specs.Prelude.{◌≡◌, ◌≤◌, ◌<◌, ◌+◌, ◌*◌, ◌⊎◌, length, map};
 ghost use Rattle.arrayvec.specs.ArrayVec.{array_vec_len};
 ghost use Rattle.byte_strings.specs.Bytes.{xor_bytes};
 ghost use Rattle.aes_block.specs.Field.{s_box};
-ghost use Rattle.aes_block.specs.Cipher.{word, rot_word, sub_word, temp, expanded_key};
+ghost use Rattle.aes_block.specs.Cipher.{word, rot_word, sub_word, rcon, temp, expanded_key};
 
-use crate::lookups::{rcon, sub_byte};
+use crate::gates::sub_bytes;
+use crate::slices::{sliced, unsliced};
+use crate::tables::ROUND_CONSTANTS;
 use arrayvec::ArrayVec;
 
 type Word = [u8; 4];
@@ -37,7 +41,19 @@ fn sub_word(bytes: Word) -> Word
     ensures { result ≡ sub_word bytes }
 {
     let [a, b, c, d] = bytes;
-    [sub_byte(a), sub_byte(b), sub_byte(c), sub_byte(d)]
+    let block = [a, b, c, d, 0, 0, 0, 0, 0, 0, 0, 0, 0, 0, 0, 0];
+    let [first, ..] = unsliced(sub_bytes(sliced(&[block; 8])));
+    [first[0], first[1], first[2], first[3]]
+}
+
+// Rcon_j, for the `j` that key expansion asks for.
+#[tactic(auto, using(crate::proofs::ByteTables::constants))]
+fn rcon(j: usize) -> Word
+    requires low { 1 ≤ j }
+    requires high { j ≤ 10 }
+    ensures { result ≡ rcon j }
+{
+    [ROUND_CONSTANTS[j - 1], 0, 0, 0]
 }
 
 // temp, for word `i` of a key of `nk` words.

@@ -1,4 +1,5 @@
 pub mod XorBytes
+pub mod Tags
 pub mod Streams
 pub mod Opening
 pub mod Published

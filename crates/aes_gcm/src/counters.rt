@@ -1,10 +1,13 @@
 //! Counter blocks (SP 800-38D, 6.2 and 7.1).
 
-ghost use Rattle.std.specs.Prelude.{◌≡◌, ◌<◌, ◌^◌, take};
+ghost use Rattle.std.specs.Prelude.{◌≡◌, ◌<◌, ◌+◌, ◌^◌, ℕ, [], slice_index_or};
 ghost use Rattle.aes_gcm.specs.Gcm.{counter_block};
 
 /// A block of the cipher.
 pub(crate) type Block = [u8; 16];
+
+/// As many blocks as the cipher takes at once.
+pub(crate) type Blocks = [Block; 8];
 
 // J0 with its last 32 bits raised by `i`.
 #[tactic(auto, unfolding(crate::specs::Gcm::counter_block))]
@@ -19,12 +22,19 @@ pub(crate) fn counter_block(nonce: &[u8; 12], i: u64) -> Block
     block
 }
 
-// The first 15 bytes of counter block `i`, and of each whose counter differs in the last byte alone.
-pub(crate) fn run_front(nonce: &[u8; 12], i: u64) -> [u8; 15]
-    requires { i < 2 ^ 63 }
-    ensures { result ≡ take 15 (counter_block nonce.now i) }
+// Eight counter blocks, from counter block `first` on.
+pub(crate) fn counter_blocks(nonce: &[u8; 12], first: u64) -> Blocks
+    requires { first < 2 ^ 62 }
+    ensures { (k : ℕ) → k < 8 → slice_index_or result k [] ≡ counter_block nonce.now (first + k) }
 {
-    let mut front = [0u8; 15];
-    front.copy_from_slice(&counter_block(nonce, i)[..15]);
-    front
+    [
+        counter_block(nonce, first),
+        counter_block(nonce, first + 1),
+        counter_block(nonce, first + 2),
+        counter_block(nonce, first + 3),
+        counter_block(nonce, first + 4),
+        counter_block(nonce, first + 5),
+        counter_block(nonce, first + 6),
+        counter_block(nonce, first + 7),
+    ]
 }

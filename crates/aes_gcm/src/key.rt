@@ -1,18 +1,19 @@
 //! Keys of GCM: sealing, checking, decrypting.
 
-ghost use Rattle.std.specs.Prelude.{◌≡◌, ◌≤◌, ◌<◌, ◌+◌, ◌-◌, ◌*◌, ◌/◌, ◌^◌, ◌++◌, ℕ, List, length, take, drop, IsTrue, ◌↔◌};
+ghost use Rattle.std.specs.Prelude.{◌≡◌, ◌≤◌, ◌<◌, ◌+◌, ◌-◌, ◌*◌, ◌/◌, ◌^◌, ◌++◌, ℕ, [], length, take, drop, slice_index_or, IsTrue, ◌↔◌};
 ghost use Rattle.aes_block.specs.Cipher.{IsKey, cipher};
-ghost use Rattle.aes_gcm.specs.Gcm.{hash_key, counter_block, gctr_from, gctr, hash_of, tag_of, seal, Holds, clear};
+ghost use Rattle.aes_gcm.specs.Gcm.{hash_key, counter_block, j0, gctr_from, gctr, hash_of, seal, Holds, clear};
+ghost use Rattle.aes_gcm.specs.Groups.{IsGroup};
 
 use crate::adding::{add_block_at, add_blocks, add_rest};
 use crate::checks::Checks;
-use crate::counters::{Block, counter_block, run_front};
+use crate::counters::{Block, Blocks, counter_block, counter_blocks};
 use aes_block::AesKey;
 use ghash_core::{Ghash, GhashKey};
 use std::marker::Model;
 
-/// A key of AES-128-GCM or AES-256-GCM, with what is made of it once: the round keys and the tables
-/// of the hash subkey, 9 KiB in all. A contract sees the key's bytes.
+/// A key of AES-128-GCM or AES-256-GCM, with what is made of it once: the round keys, about 2 KiB,
+/// and the tables of the hash subkey. A contract sees the key's bytes.
 #[derive(Drop)]
 pub struct GcmKey {
     pub(crate) aes: AesKey,
@@ -67,72 +68,86 @@ impl GcmKey {
         hash.finish(aad.len() as u64, ct.len() as u64)
     }
 
-    // T of a text whose S is `hash` (SP 800-38D, 7.1, step 6).
-    #[tactic(auto, unfolding(crate::specs::Gcm::tag_of))]
-    pub(crate) fn tag(&self, nonce: &[u8; 12], hash: Block) -> Block
-        ensures { (aad ct : List ℕ) → hash ≡ hash_of self.now aad ct
-            → result ≡ tag_of self.now nonce.now aad ct }
+    // The ciphers of the J0 of four nonces, by which their tags are masked.
+    pub(crate) fn masks(&self, nonces: &[[u8; 12]; 4]) -> [Block; 4]
+        ensures { (k : ℕ) → k < 4 → slice_index_or result k []
+            ≡ cipher self.now (j0 (slice_index_or nonces.now k [])) }
     {
-        add_blocks(hash, self.stream_block(nonce, 0))
+        let a = counter_block(&nonces[0], 0);
+        let b = counter_block(&nonces[1], 0);
+        let c = counter_block(&nonces[2], 0);
+        let d = counter_block(&nonces[3], 0);
+        let [a, b, c, d, ..] = self.aes.encrypt_eight(&[a, b, c, d, a, b, c, d]);
+        [a, b, c, d]
     }
 
-    // The cipher of counter block `i`.
-    fn stream_block(&self, nonce: &[u8; 12], i: u64) -> Block
-        requires { i < 2 ^ 63 }
-        ensures { result ≡ cipher self.now (counter_block nonce.now i) }
+    // The ciphers of eight counter blocks, from counter block `first` on.
+    fn eight(&self, nonce: &[u8; 12], first: u64) -> Blocks
+        requires { first < 2 ^ 62 }
+        ensures { (j : ℕ) → j < 8
+            → slice_index_or result j [] ≡ cipher self.now (counter_block nonce.now (first + j)) }
     {
-        self.aes.encrypt_block(&counter_block(nonce, i))
+        self.aes.encrypt_eight(&counter_blocks(nonce, first))
     }
 
-    // Adds the key stream to the blocks of a text from block `from` to before block `to`. Their
-    // counters differ in the last byte alone.
-    fn add_run(&self, nonce: &[u8; 12], from: usize, to: usize, text: &[u8], out: &mut [u8])
-        requires order { from ≤ to }
-        requires one_run { to + 2 ≤ (from + 2) / 256 * 256 + 256 }
-        requires within { 16 * to ≤ length text.now }
-        requires room { length out.old ≡ length text.now }
-        ensures size { length out.new ≡ length text.now }
-        ensures sum { (whole : List ℕ) → take (16 * from) out.old
-            ++ gctr_from self.now nonce.now (from + 1) (drop (16 * from) text.now) ≡ whole
-            → take (16 * to) out.new
-            ++ gctr_from self.now nonce.now (to + 1) (drop (16 * to) text.now) ≡ whole }
+    // The cipher of counter block `i`. `group` is the group of the one before, and then that of `i`.
+    #[inline(always)]
+    fn next_block(&self, nonce: &[u8; 12], i: u64, group: &mut Blocks) -> Block
+        requires some { 1 ≤ i }
+        requires fits { i < 2 ^ 62 }
+        requires before { IsGroup self.now nonce.now (i - 1) group.old }
+        ensures group { IsGroup self.now nonce.now i group.new }
+        ensures block { result ≡ cipher self.now (counter_block nonce.now i) }
     {
-        let run = self.aes.run(&run_front(nonce, from as u64 + 1));
-        for k in from..to {
-            let stream = run.encrypt(((k + 2) % 256) as u8);
-            add_block_at(out, text, 16 * k, &stream);
+        if i % 8 == 0 {
+            *group = self.eight(nonce, i);
         }
+        group[(i % 8) as usize]
     }
 
-    // Adds the key stream to the whole blocks of a text, and tells how many they are.
-    fn add_blocks_of(&self, nonce: &[u8; 12], text: &[u8], out: &mut [u8]) -> usize
-        requires { length out.old ≡ length text.now }
+    // Adds the key stream to the whole blocks of a text, and tells how many they are. `group` is that
+    // of counter block 0, and then that of the last block.
+    fn add_blocks_of(
+        &self,
+        nonce: &[u8; 12],
+        text: &[u8],
+        out: &mut [u8],
+        group: &mut Blocks,
+    ) -> usize
+        requires room { length out.old ≡ length text.now }
+        requires first { IsGroup self.now nonce.now 0 group.old }
         ensures count { result ≡ length text.now / 16 }
         ensures size { length out.new ≡ length text.now }
+        ensures last { IsGroup self.now nonce.now result group.new }
         ensures sum { take (16 * result) out.new
             ++ gctr_from self.now nonce.now (result + 1) (drop (16 * result) text.now)
             ≡ gctr self.now nonce.now text.now }
     {
         let blocks = text.len() / 16;
-        let mut done = 0usize;
-        'runs: while done < blocks {
-            let next = ((done + 2) / 256 * 256 + 254).min(blocks);
-            self.add_run(nonce, done, next, text, out);
-            done = next;
+        for k in 0..blocks {
+            let stream = self.next_block(nonce, k as u64 + 1, group);
+            add_block_at(out, text, 16 * k, &stream);
         }
         blocks
     }
 
-    // GCTR from counter block 1 on (SP 800-38D, 6.5).
-    fn add_key_stream(&self, nonce: &[u8; 12], text: &[u8], out: &mut [u8])
+    // GCTR from counter block 1 on (SP 800-38D, 6.5), and the cipher of counter block 0, J0.
+    //
+    // Counter blocks are encrypted in groups of eight. That of J0 stands in the first group, so a
+    // short text and the mask of its tag take one group together.
+    fn add_key_stream(&self, nonce: &[u8; 12], text: &[u8], out: &mut [u8]) -> Block
         requires { length out.old ≡ length text.now }
-        ensures { out.new ≡ gctr self.now nonce.now text.now }
+        ensures sum { out.new ≡ gctr self.now nonce.now text.now }
+        ensures mask { result ≡ cipher self.now (j0 nonce.now) }
     {
-        let blocks = self.add_blocks_of(nonce, text, out);
+        let mut group = self.eight(nonce, 0);
+        let mask = group[0];
+        let blocks = self.add_blocks_of(nonce, text, out, &mut group);
         if 16 * blocks < text.len() {
-            let stream = self.stream_block(nonce, blocks as u64 + 1);
+            let stream = self.next_block(nonce, blocks as u64 + 1, &mut group);
             add_rest(out, text, 16 * blocks, &stream);
         }
+        mask
     }
 
     /// The authenticated encryption function (SP 800-38D, 7.1): fills `out` with the ciphertext, as
@@ -140,7 +155,7 @@ impl GcmKey {
     ///
     /// The limit of 2^36 - 32 bytes is the standard's for a text, that of 2^61 its for `aad`. That
     /// no two texts are sealed with the same key and nonce is the caller's to keep.
-    #[tactic(auto, unfolding(crate::specs::Gcm::seal))]
+    #[tactic(auto, unfolding(crate::specs::Gcm::seal, crate::specs::Gcm::tag_of))]
     pub fn seal_into(&self, nonce: &[u8; 12], aad: &[u8], text: &[u8], out: &mut [u8])
         requires room { length out.old ≡ length text.now + 16 }
         requires text { length text.now ≤ 2 ^ 36 - 32 }
@@ -148,16 +163,16 @@ impl GcmKey {
         ensures { out.new ≡ seal self.now nonce.now aad.now text.now }
     {
         let (ct, tag) = out.split_at_mut(text.len());
-        self.add_key_stream(nonce, text, ct);
-        tag.copy_from_slice(&self.tag(nonce, self.hash(aad, ct)));
+        let mask = self.add_key_stream(nonce, text, ct);
+        tag.copy_from_slice(&add_blocks(self.hash(aad, ct), mask));
     }
 
     /// Whether the authenticated decryption function (SP 800-38D, 7.2) finds that `ct` was sealed
     /// with this key, `nonce` and `aad`: true exactly where `ct` has at least 16 bytes and its last
     /// 16 are the tag of those before. Decrypts nothing.
     ///
-    /// Each call counts as one check, also of a `ct` that is too short. The comparison takes a time
-    /// that depends on the tags.
+    /// Each call counts as one check, also of a `ct` that is too short. All bytes of the two tags are
+    /// compared at once.
     pub fn check_tag(&self, nonce: &[u8; 12], aad: &[u8], ct: &[u8], checks: &mut Checks) -> bool
         requires count { checks.old < 2 ^ 64 - 1 }
         requires ct { length ct.now ≤ 2 ^ 36 - 16 }

@@ -6,9 +6,12 @@
 //! anything decrypted. [`Checks`] counts the tags that `check_tag` checked. A [`HashedCiphertext`]
 //! is checked at many nonces for one hash, and isn't counted.
 //!
-//! Nothing here refuses or takes memory. Not here: other lengths of IV and tag, and AES-192.
-//! Nothing is constant time or wiped: tables are indexed by secret bytes, and the comparison of tags
-//! may end early. Nonces are the caller's, who must never seal twice with one key and nonce.
+//! Nothing here refuses, takes memory or is wiped. No branch and no address depends on a key, a text
+//! or the ciphers of counters: counters are encrypted in groups of eight, that of J0 among the
+//! first, and the 16 bytes of two tags are compared at once, so that the one branch is on the
+//! verdict. That is so by construction and tested over the built program; it isn't proved. Of the
+//! hash `ghash_core` says the like. Not here: other lengths of IV and tag, and AES-192. Nonces are
+//! the caller's, who must never seal twice with one key and nonce.
 #![tactic(auto)]
 
 mod adding;

@@ -136,6 +136,21 @@ fn assert_seal<R: Threads + Abort>(rt: &R, alloc: Global, case: &SealCase) -> Re
         "hashed once, and another nonce",
         source,
     );
+    let [first, second, third, fourth] = hashed.hold_at(&[NONCE, iv, NONCE, iv]);
+    assert_at(
+        rt,
+        (first, second),
+        (false, true),
+        "the first two of four nonces",
+        source,
+    );
+    assert_at(
+        rt,
+        (third, fourth),
+        (false, true),
+        "the last two of four nonces",
+        source,
+    );
     Ok(())
 }
 

@@ -1,13 +1,11 @@
-use Rattle.std.proofs.Common.{◌≡◌, ◌≤◌, ◌+◌, ◌-◌, ◌*◌, ◌++◌, length, take, drop}
+use Rattle.std.proofs.Common.{◌≡◌, ◌+◌, ◌*◌, ◌++◌, length, take, drop}
 use Rattle.aes_gcm.specs.Gcm.{gctr_from, gctr}
+use Rattle.aes_gcm.specs.Groups.{IsGroup}
 use Rattle.aes_gcm.proofs.key.GcmKey.add_blocks_of.Given as goal
 
-abbrev pub invariant-runs : goal.invariant-runs
-invariant-runs l = record {
+abbrev pub invariant-loop-k : goal.invariant-loop-k
+invariant-loop-k l = record {
   size : length l.out ≡ length l.text;
-  within : l.done ≤ l.blocks;
-  sum : take (16 * l.done) l.out ++ gctr_from l.self l.nonce (l.done + 1) (drop (16 * l.done) l.text) ≡ gctr l.self l.nonce l.text;
+  last : IsGroup l.self l.nonce l.k l.group;
+  sum : take (16 * l.k) l.out ++ gctr_from l.self l.nonce (l.k + 1) (drop (16 * l.k) l.text) ≡ gctr l.self l.nonce l.text;
 }
-
-abbrev pub decreases-runs : goal.decreases-runs
-decreases-runs l = l.blocks - l.done

@@ -3,22 +3,24 @@ use Rattle.std.proofs.lemmas.List.{take_all, append-nil}
 use Rattle.aes_gcm.proofs.Streams.{gctr_from-rest, gctr_from-none}
 use Rattle.aes_gcm.proofs.key.GcmKey.add_key_stream.Goals as goal
 
-pub returns-then-blocks-text : goal.returns-then-blocks-text
-returns-then-blocks-text c =
+pub returns-then-blocks-text-clause-sum : goal.returns-then-blocks-text-clause-sum
+returns-then-blocks-text-clause-sum c =
+    let key = c.args.self.now in
+    let nonce = c.args.nonce.now in
     let text = c.args.text.now in
     let blocks = c.add_blocks_of-blocks.result in
     let rest = drop (16 * blocks) text in
-    let stream = c.stream_block-stream.result in
+    let stream = c.next_block-stream.result in
     let size : length stream ≡ 16 = omega arith in
     let some : 0 < length rest = omega (arith, length-drop (16 * blocks) text) in
     let short : length rest ≤ 16 = omega (arith, length-drop (16 * blocks) text) in
     c.add_rest.ensures
     ∙ ap (λ xs. take (16 * blocks) c.add_blocks_of-blocks.new.out ++ xs)
-    (sym (gctr_from-rest c.args.self.now c.args.nonce.now (blocks + 1) rest stream c.stream_block-stream.ensures size some short))
+    (sym (gctr_from-rest key nonce (blocks + 1) rest stream c.next_block-stream.ensures.block size some short))
     ∙ c.add_blocks_of-blocks.ensures.sum
 
-pub returns-else-blocks-text : goal.returns-else-blocks-text
-returns-else-blocks-text c =
+pub returns-else-blocks-text-clause-sum : goal.returns-else-blocks-text-clause-sum
+returns-else-blocks-text-clause-sum c =
     let text = c.args.text.now in
     let blocks = c.add_blocks_of-blocks.result in
     let out = c.add_blocks_of-blocks.new.out in
