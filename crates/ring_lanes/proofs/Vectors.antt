@@ -1,5 +1,5 @@
 -- What the lanes of a vector hold. A lane is a number by its bits: `cast_unsigned` and `cast_signed` go there and back.
-use Rattle.std.proofs.Common.{◌≡◌, ℕ, suc, ◌+◌, ◌-◌, ◌*◌, ◌^◌, ◌<◌, ◌≤◌, ℤ, pos, List, [], ◌∷◌, length, map, replicate, arith, ap, sym, ◌∙◌, refl, inl, inr}
+use Rattle.std.proofs.Common.{◌≡◌, ℕ, zero, suc, ◌+◌, ◌-◌, ◌*◌, ◌/◌, ◌%◌, ◌^◌, ◌<◌, ◌≤◌, ℤ, pos, List, [], ◌∷◌, length, map, replicate, arith, ap, sym, ◌∙◌, refl, inl, inr}
 use Rattle.std.specs.Prelude.{◌+ℤ◌, ◌*ℤ◌, unsigned_abs, slice_index_or}
 use Rattle.std.specs.Int.{cast_signed, cast_unsigned, w16, w32}
 use Rattle.std.specs.Int.RustNames.{FitsSigned}
@@ -7,14 +7,14 @@ use Rattle.std.proofs.lemmas.Bool.{cases_lt}
 use Rattle.std.proofs.lemmas.Int.{ints, to_z-of_z, fits_signed_from_abs, unsigned_abs-mul}
 use Rattle.std.proofs.lemmas.Nat.{mul-le}
 use Rattle.std.proofs.lemmas.List.{get_or-map, length-map, length-replicate}
-use Rattle.std.proofs.lemmas.Simd.{length-zip2, get_or-zip2, length-chunk, get_or-chunk, get_or-replicate, Each1-from_get_or, get_or-put_chunk_below, get_or-put_chunk_at}
+use Rattle.std.proofs.lemmas.Simd.{length-zip2, get_or-zip2, length-chunk, get_or-chunk, get_or-replicate, Each1-from_get_or, get_or-put_chunk_below, get_or-put_chunk_at, get_or-put_chunk_above}
 use lib.Lanes.{zip2, Each1, Each2, chunk, put_chunk}
 use borrow.Rule.Simd.Lanes.{Asks1, Asks2, act1, act2}
 use borrow.Table.Row.{s_int}
 use mir.Syntax.{add, mul, cast, signed}
 use Rattle.ring_core.specs.Bounds.{IsWithin}
 use Rattle.ring_core.specs.Product.{Series, coefficients}
-use Rattle.ring_lanes.specs.Rows.{AreLanes}
+use Rattle.ring_lanes.specs.Rows.{eighth, AreEights, AreLanes}
 
 -- ---- any operation
 
@@ -46,6 +46,49 @@ zip_asks : (P : ℕ → ℕ → Type 0) (xs ys : List ℕ) → ((l : ℕ) → l 
 zip_asks P [] ys h = tt
 zip_asks P (x ∷ xs) [] h = tt
 zip_asks P (x ∷ xs) (y ∷ ys) h = (h 0 (omega arith), zip_asks P xs ys (λ l k. h (suc l) (omega arith)))
+
+-- ---- a vector of copies
+
+all_same : (n a : ℕ) (xs : List ℕ) → length xs ≡ n → ((i : ℕ) → i < n → slice_index_or xs i 0 ≡ a) → xs ≡ replicate n a
+all_same zero a [] e h = refl
+all_same zero a (x ∷ xs) e h = absurd (omega arith)
+all_same (suc n) a [] e h = absurd (omega arith)
+all_same (suc n) a (x ∷ xs) e h =
+    ap (λ t. t ∷ xs) (h 0 (omega arith))
+    ∙ ap (λ t. a ∷ t) (all_same n a xs (omega arith) (λ i l. h (suc i) (omega arith)))
+
+-- the eight copies of number i
+pub copies_loaded : (xs : List ℤ) (i : ℕ) → 8 * i + 8 ≤ length xs → AreEights xs → map (cast_unsigned w16) (chunk (8 * i) 8 xs) ≡ replicate 8 (cast_unsigned w16 (eighth xs i))
+copies_loaded xs i fit copies =
+    let count : length (chunk (8 * i) 8 xs) ≡ 8 = length-chunk (8 * i) 8 xs fit in
+    all_same 8 (cast_unsigned w16 (eighth xs i)) (map (cast_unsigned w16) (chunk (8 * i) 8 xs)) (length-map (chunk (8 * i) 8 xs) (cast_unsigned w16) ∙ count) (λ j l.
+    get_or-map (cast_unsigned w16) (chunk (8 * i) 8 xs) j (pos 0) 0 (omega arith)
+    ∙ ap (cast_unsigned w16) (get_or-chunk (8 * i) 8 xs j (pos 0) l ∙ copies i j l))
+
+pub AreEights-within : (bound : ℕ) (xs : List ℤ) (s : Series) → AreEights xs → ((i : ℕ) → eighth xs i ≡ s i) → ((i : ℕ) → unsigned_abs (s i) ≤ bound) → IsWithin bound xs
+AreEights-within bound xs s copies same wide k =
+    let at : coefficients xs k ≡ s (k / 8) =
+    ap (coefficients xs) (let e : k ≡ 8 * (k / 8) + k % 8 = omega arith in e) ∙ copies (k / 8) (k % 8) (omega arith) ∙ same (k / 8)
+    in
+    omega (arith, ap unsigned_abs at, wide (k / 8))
+
+-- number i more stands in the list eight times, and zeros behind it
+pub eightfold_more : (copies list : List ℤ) (i : ℕ) (x : ℤ) → x ≡ coefficients list i → 8 * i + 8 ≤ length copies → ((k j : ℕ) → k < i → j < 8 → coefficients copies (8 * k + j) ≡ coefficients list k) → (k j : ℕ) → k < i + 1 → j < 8 → coefficients (put_chunk (8 * i) copies (replicate 8 x)) (8 * k + j) ≡ coefficients list k
+eightfold_more copies list i x e fit before k j l h =
+    elim (cases_lt k i) [
+      | inl low ↦ get_or-put_chunk_below (8 * i) copies (replicate 8 x) (8 * k + j) (pos 0) (omega arith) ∙ before k j low h
+      | inr from ↦
+          let same : i ≡ k = omega arith in
+          ap (λ t. coefficients (put_chunk (8 * i) copies (replicate 8 x)) (8 * t + j)) (sym same)
+          ∙ get_or-put_chunk_at (8 * i) copies (replicate 8 x) j (pos 0) (omega (arith, length-replicate 8 x)) (omega (arith, length-replicate 8 x))
+          ∙ get_or-replicate 8 j x (pos 0) h
+          ∙ e
+          ∙ ap (coefficients list) same
+    ]
+
+pub eightfold_left : (copies : List ℤ) (i : ℕ) (x : ℤ) → ((k : ℕ) → 8 * i ≤ k → coefficients copies k ≡ pos 0) → (k : ℕ) → 8 * (i + 1) ≤ k → coefficients (put_chunk (8 * i) copies (replicate 8 x)) k ≡ pos 0
+eightfold_left copies i x left k l =
+    get_or-put_chunk_above (8 * i) copies (replicate 8 x) k (pos 0) (omega (arith, length-replicate 8 x)) ∙ left k (omega arith)
 
 -- ---- a row: the numbers from p on, times a factor, in lanes of 16 bits
 
