@@ -6,7 +6,9 @@
 //! both factors at the half until they have at most 32 coefficients, and makes three products of
 //! halves where the plain product makes four. Want of memory is the only refusal.
 //!
-//! Nothing here is wiped, and constant time isn't promised.
+//! No branch and no address depends on a coefficient, since each row is multiplied: tested over the
+//! built program, not proved. `Lanes` of `ring_lanes` has that too, and is faster.
+//! Nothing here is wiped.
 #![tactic(auto)]
 
 mod multiplier;

@@ -1,3 +1,3 @@
-pub mod Blocks
-pub mod Negated
-pub mod Parts
+pub mod Residues
+pub mod Sums
+pub mod Vectors

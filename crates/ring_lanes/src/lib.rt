@@ -2,17 +2,16 @@
 //! sets).
 //!
 //! [`Lanes`] is a `Multiplier` of `ring_core`: a contract sees of it the law of that trait alone,
-//! so its products are those of any other multiplier, for every parameter set. It adds the rows of
-//! a convolution 16 coefficients at a time, in lanes of 32 bits for R/q and of 16 for R/3, and the
-//! coefficients that are left over one by one. Want of memory is the only refusal.
+//! so its products are those of any other multiplier, for every parameter set. It computes the sums
+//! of a convolution 32 at a time, by multiplication, whatever the factors are. Want of memory is the
+//! only refusal.
 //!
-//! Nothing here is constant time: the time of a product depends on the coefficients of its second
-//! factor, whose zeros are skipped.
+//! No branch and no address depends on a coefficient of either factor, so its products take the
+//! same time for each: tested over the built program, not proved.
 #![tactic(auto)]
 
+mod convolution;
 mod multiplier;
-mod narrow;
-mod negatives;
-mod wide;
+mod padding;
 
 pub use multiplier::Lanes;

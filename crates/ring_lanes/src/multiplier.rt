@@ -1,11 +1,12 @@
 //! Products in both rings.
 
-use crate::{narrow, wide};
+use crate::convolution::convolution;
+use ring_core::words::small_to_16;
 use ring_core::{Multiplier, Params, Rq, Small};
 use std::alloc::{AllocError as OutOfMemory, Global};
 
-/// The product on vectors: a row for each coefficient of the second factor that is not 0, added or
-/// subtracted 16 coefficients at a time; then one wrapping and one reduction.
+/// The product on vectors: the sums of the convolution by multiplication, 32 at a time, then one
+/// wrapping and one reduction. It takes the same steps whatever the coefficients are.
 pub struct Lanes;
 
 impl Multiplier for Lanes {
@@ -15,7 +16,7 @@ impl Multiplier for Lanes {
         a: &Rq<S>,
         b: &Small<S>,
     ) -> Result<Rq<S>, OutOfMemory> {
-        let sums = wide::convolution(alloc, b.as_slice(), a.as_slice())?;
+        let sums = convolution(alloc, b.as_slice(), a.as_slice())?;
         Rq::from_sums(alloc, &sums)
     }
 
@@ -25,7 +26,7 @@ impl Multiplier for Lanes {
         a: &Small<S>,
         b: &Small<S>,
     ) -> Result<Small<S>, OutOfMemory> {
-        let sums = narrow::convolution(alloc, b.as_slice(), a.as_slice())?;
+        let sums = convolution(alloc, b.as_slice(), &small_to_16(alloc, a.as_slice())?)?;
         Small::from_sums(alloc, &sums)
     }
 }

@@ -1,5 +1,12 @@
+use Rattle.std.proofs.Common.{arith}
 use Rattle.ring_core.proofs.Reduce.{product_from_lists}
+use Rattle.ring_lanes.proofs.Residues.{IsCentred-within}
 use Rattle.ring_lanes.proofs.multiplier.LanesMultiplier.mul_q_small.Goals as goal
+
+pub convolution-requires-clause-long_small : goal.convolution-requires-clause-long_small
+convolution-requires-clause-long_small g c =
+    let laws = g.S.Params in
+    rw c.as_slice-2.ensures.list (IsCentred-within laws.set.q laws.set.p c.args.a.now (omega (arith, laws.modulus_least)) laws.modulus_most c.as_slice-2.ensures.centred)
 
 pub returns : goal.returns
 returns g c =
