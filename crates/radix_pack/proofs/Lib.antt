@@ -7,3 +7,4 @@ pub mod SmallLaws
 pub mod Shifts
 pub mod ElementLaws
 pub mod Lengths
+pub mod Digits

@@ -13,7 +13,7 @@ use Rattle.radix_pack.specs.Codings.{small_length, two_bits, four_coefficients, 
 
 -- ---- two bits of a byte
 
-bits_zero : (j : ℕ) → j < 4 → 0 / 4 ^ j % 4 ≡ 0
+pub bits_zero : (j : ℕ) → j < 4 → 0 / 4 ^ j % 4 ≡ 0
 bits_zero zero h = refl
 bits_zero (suc zero) h = refl
 bits_zero (suc (suc zero)) h = refl

@@ -8,7 +8,9 @@
 //! to. The other two codings have several byte strings for one element. [`laws`] says that what was
 //! encoded decodes to its source. Else want of memory is the only refusal.
 //!
-//! Nothing here is constant time.
+//! That no branch and no address depends on the coefficients of an element that is encoded, or on the
+//! digits of a small coding, is tested over the built program, and not proved. Whether a small coding
+//! is well-formed is told, and the time of decoding R/q, whose bytes are public, isn't watched.
 #![tactic(auto)]
 
 mod elements;

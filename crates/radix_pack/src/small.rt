@@ -67,18 +67,18 @@ fn bits_of(bytes: &[u8], k: usize) -> u8
     }
 }
 
-// Whether no element of so many coefficients encodes to these bytes.
+// Whether no element of so many coefficients encodes to these bytes. They may be a secret key's, and
+// where a bad digit stands is no one's business: each digit is looked at, whatever the others are.
 fn is_malformed(bytes: &[u8], degree: usize) -> bool
     requires { length bytes.now < 2 ^ 61 }
     ensures { IsTrue result ↔ IsMalformed degree bytes.now }
 {
+    let mut found = false;
     for k in 0..4 * bytes.len() {
         let bits = bits_of(bytes, k);
-        if bits == 3 || (k >= degree && bits != 0) {
-            return true;
-        }
+        found |= (bits == 3) | ((k >= degree) & (bits != 0));
     }
-    false
+    found
 }
 
 fn small_coefficients(alloc: Global, bytes: &[u8], degree: usize) -> Result<Vec<i8>, OutOfMemory>

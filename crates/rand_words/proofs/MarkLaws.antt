@@ -27,7 +27,7 @@ All-insert P x (y ∷ ys) h a =
       | inr from ↦ rw (le-leb x y from) (All-cons P x (y ∷ ys) h a)
     ]
 
-All-sorted : (P : ℕ → Type 0) (xs : List ℕ) → All P xs → All P (sorted xs)
+pub All-sorted : (P : ℕ → Type 0) (xs : List ℕ) → All P xs → All P (sorted xs)
 All-sorted P [] a = a
 All-sorted P (x ∷ xs) a =
     All-insert P x (sorted xs) (All-head P x xs a) (All-sorted P xs (All-tail P x xs a))

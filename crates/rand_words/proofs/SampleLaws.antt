@@ -39,7 +39,7 @@ length-insert x (y ∷ ys) =
       | inr from ↦ rw (le-leb x y from) refl
     ]
 
-length-sorted : (xs : List ℕ) → length (sorted xs) ≡ length xs
+pub length-sorted : (xs : List ℕ) → length (sorted xs) ≡ length xs
 length-sorted [] = refl
 length-sorted (x ∷ xs) = length-insert x (sorted xs) ∙ ap suc (length-sorted xs)
 

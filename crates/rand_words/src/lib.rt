@@ -7,13 +7,16 @@
 //! these words. All memory is taken before the first word, so `OutOfMemory` leaves the words as
 //! they were. [`laws`] says which list `sorted` is.
 //!
-//! That the words can't be foretold is ChaCha's claim. Nothing here is constant time: the time of a
-//! sort depends on the words.
+//! That the words can't be foretold is ChaCha's claim. No branch and no address depends on a word but
+//! by the sort's test that its words are in order, which they are: tested over the built program, not
+//! proved. Nothing is wiped.
 #![tactic(auto)]
 
 pub mod laws;
 mod marks;
+mod network;
 mod samples;
+mod sorting;
 mod streams;
 mod words;
 

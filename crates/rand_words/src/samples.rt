@@ -9,6 +9,7 @@ ghost use Rattle.rand_words.specs.Sorted.{sorted};
 ghost use Rattle.rand_words.specs.Words.{words_from};
 
 use crate::marks::mark;
+use crate::sorting::sort;
 use crate::words::{Words, draw};
 use ring_core::{Params, Small};
 use std::alloc::{AllocError as OutOfMemory, Global};
@@ -72,13 +73,6 @@ fn write_coefficients(words: &[u32], list: &mut [i8])
     for i in 0..words.len() {
         list[i] = short_coefficient_of(words[i]);
     }
-}
-
-// Sorts the words upwards.
-fn sort(words: &mut [u32])
-    ensures { words.new ≡ sorted words.old }
-{
-    words.sort_unstable();
 }
 
 // Writes the short polynomial of weight w, and leaves the words marked and sorted.

@@ -1,8 +1,8 @@
 -- Decryption gives back each short polynomial that was encrypted.
-use Rattle.std.proofs.Common.{◌≡◌, ℕ, ◌+◌, ◌-◌, ◌*◌, ◌/◌, ◌%◌, ◌<◌, ◌≤◌, Bool, cond, ℤ, pos, List, length, map, arith, ap, sym, subst, ◌∙◌, refl}
+use Rattle.std.proofs.Common.{◌≡◌, ◌≢◌, ℕ, ◌+◌, ◌-◌, ◌*◌, ◌/◌, ◌%◌, ◌<◌, ◌≤◌, Bool, cond, ℤ, pos, List, length, map, arith, ap, sym, subst, ◌∙◌, refl, inl, inr}
 use Rattle.std.specs.Prelude.{◌+ℤ◌, ◌-ℤ◌, ◌*ℤ◌, unsigned_abs}
 use Rattle.std.proofs.lemmas.Int.{ints}
-use Rattle.std.proofs.lemmas.Bool.{eq-eqb}
+use Rattle.std.proofs.lemmas.Bool.{cases_eq, eq-eqb, ne_eqb}
 use Rattle.std.proofs.lemmas.List.{get_or-map, length-map}
 use Rattle.std.proofs.lemmas.List.FromFn.{fill_by_all, length-map-range_with_len}
 use Rattle.ring_core.specs.Product.{Series, coefficients, conv, wrapped, centred, product, one, weight, IsCentred}
@@ -145,6 +145,15 @@ divided p g r ginv two eg cr ei inverse =
 pub shortened_short : (set : Set) (a r : List ℤ) → a ≡ r → weight r ≡ set.w → shortened set a ≡ r
 shortened_short set a r e h =
     ap (λ t. shortened set t) e ∙ ap (λ (b : Bool). cond b r (ones set)) (eq-eqb (weight r) set.w h)
+
+-- what was chosen by the weight
+pub shortened_by : (set : Set) (r list : List ℤ) → (weight r ≡ set.w → list ≡ r) → (weight r ≢ set.w → list ≡ ones set) → list ≡ shortened set r
+shortened_by set r list short other =
+    elim (cases_eq (weight r) set.w) [
+      | inl same ↦ short same ∙ sym (shortened_short set r r refl same)
+      | inr differs ↦
+          other differs ∙ sym (ap (λ (b : Bool). cond b r (ones set)) (ne_eqb (weight r) set.w differs))
+    ]
 
 pub decrypted_is : (set : Set) (f g h ginv r : List ℤ) → Encrypts set f g h ginv r → decrypted set (encrypted set r h) f ginv ≡ r
 decrypted_is set f g h ginv r e =

@@ -3,3 +3,4 @@ pub mod Quotient
 pub mod Draws
 pub mod Bound
 pub mod Decryption
+pub mod Masks

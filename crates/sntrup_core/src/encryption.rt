@@ -5,16 +5,19 @@ ghost use Rattle.ring_core.specs.Bounds.{IsWithin};
 ghost use Rattle.ring_core.specs.Product.{centred};
 ghost use Rattle.sntrup_core.specs.Encryption.{rounded, encrypted, decrypted};
 
+use crate::choosing::{choose_list, mask_of};
 use crate::keys::{PublicPoly, SecretPolys};
 use ring_core::{Multiplier, Params, Rq, Small};
 use ring_inverse::times_3f;
 use std::alloc::{AllocError as OutOfMemory, Global};
 
-// The centred residue modulo 3.
+// The centred residue modulo 3. The number is secret: a multiple of 3 makes it positive, since the
+// remainder of a signed number by a constant may come to a jump on its sign, and that of an unsigned
+// one is a product and a shift.
 fn residue_3(number: i16) -> i8
     ensures { result ≡ centred 3 number }
 {
-    ((i32::from(number) + 1).rem_euclid(3) - 1) as i8
+    ((i32::from(number) + 32770) as u32 % 3) as i8 - 1
 }
 
 // The multiple of 3 that is nearest.
@@ -70,7 +73,8 @@ fn ones_and_zeros(alloc: Global, p: usize, w: usize) -> Result<Vec<i8>, OutOfMem
 
 /// Decrypt (NTRU Prime round 3): e = 3 f c in R/q, taken modulo 3, times 1/g.
 ///
-/// Where the result is not short, it is w ones followed by zeros. So every `c` is taken.
+/// Where the result is not short, it is w ones followed by zeros. So every `c` is taken. These are
+/// made each time, and the choice between the two branches on neither.
 pub fn decrypt<S: Params, M: Multiplier>(
     alloc: Global,
     mult: &M,
@@ -82,9 +86,7 @@ pub fn decrypt<S: Params, M: Multiplier>(
     let tripled = times_3f(alloc, mult, c, &secret.f)?;
     let e = Small::from_vec(residues_3(alloc, tripled.as_slice())?);
     let r = mult.mul_3(alloc, &e, &secret.ginv)?;
-    if r.weight() == S::W {
-        Ok(r)
-    } else {
-        Ok(Small::from_vec(ones_and_zeros(alloc, S::P, S::W)?))
-    }
+    let mut list = ones_and_zeros(alloc, S::P, S::W)?;
+    choose_list(mask_of(r.weight(), S::W), r.as_slice(), &mut list);
+    Ok(Small::from_vec(list))
 }

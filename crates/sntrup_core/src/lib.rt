@@ -8,9 +8,13 @@
 //! encrypted, with every key of `keygen`.
 //!
 //! The bytes of keys and ciphertexts, the hashes and the rejection of other ciphertexts are not
-//! here. Nothing is constant time or wiped.
+//! here. That no branch and no address of `encrypt` and `decrypt` depends on r, f or 1/g, with a
+//! multiplier of which this holds, is tested over the built program, and not proved; whether what
+//! was decrypted is short is such a secret. The time of `keygen` tells how many polynomials it drew.
+//! Nothing is wiped.
 #![tactic(auto)]
 
+mod choosing;
 mod encryption;
 mod keys;
 pub mod laws;

@@ -1,6 +1,10 @@
-use Rattle.std.proofs.Common.{◌≡◌, ◌≢◌, ℕ, ◌<◌, ◌≤◌}
-use Rattle.radix_pack.specs.Codings.{bits_at}
+use Rattle.std.proofs.Common.{◌≡◌, true, false}
+use Rattle.radix_pack.specs.Codings.{IsMalformed}
+use Rattle.radix_pack.proofs.Digits.{AreGoodBelow}
 use Rattle.radix_pack.proofs.small.is_malformed.Given as goal
 
 abbrev pub invariant-loop-k : goal.invariant-loop-k
-invariant-loop-k l = (j : ℕ) → j < l.k → (bits_at l.bytes j ≢ 3) × (l.degree ≤ j → bits_at l.bytes j ≡ 0)
+invariant-loop-k l = record {
+  some : l.found ≡ true → IsMalformed l.degree l.bytes;
+  none : l.found ≡ false → AreGoodBelow l.k l.degree l.bytes;
+}
