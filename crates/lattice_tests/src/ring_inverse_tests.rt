@@ -1,6 +1,7 @@
 ghost use Rattle.std.specs.Prelude.{◌≤◌, unsigned_abs};
 
 use crate::expected::{assert_at, assert_same};
+use rand_words::{SeedStream, short_random, small_random};
 use ring_core::{Multiplier, Params, Plain, Small, Sntrup761, Sntrup857};
 use ring_inverse::quick::{quick_3, quick_3f};
 use ring_inverse::{Reciprocal, reciprocal_3, reciprocal_3f};
@@ -245,5 +246,23 @@ fn a_dense_element_has_its_inverses(rt: HostRuntime) -> Result<(), Fail> {
     assert!(rt; quick_3f(rt.alloc(), &Plain, &a)?.is_some());
     assert_dense_modulo_3(&rt, rt.alloc(), &a)?;
     assert_dense_modulo_q(&rt, rt.alloc(), &a)?;
+    Ok(())
+}
+
+// No contract says that the division steps find the inverses of what KeyGen draws.
+fn assert_found<S: Params>(rt: &impl Abort, alloc: Global, seed: u8) -> Result<(), OutOfMemory> {
+    let g: Small<S> = small_random(alloc, &mut SeedStream::new(&[seed; 32], 0))?;
+    assert!(rt; quick_3(alloc, &Plain, &g)?.is_some());
+    let f: Small<S> = short_random(alloc, &mut SeedStream::new(&[seed; 32], 1))?;
+    assert!(rt; quick_3f(alloc, &Plain, &f)?.is_some());
+    Ok(())
+}
+
+#[test]
+fn the_steps_find_inverses_of_drawn_elements(rt: HostRuntime) -> Result<(), Fail> {
+    for seed in 0..4 {
+        assert_found::<Sntrup761>(&rt, rt.alloc(), seed)?;
+        assert_found::<Sntrup857>(&rt, rt.alloc(), seed)?;
+    }
     Ok(())
 }

@@ -9,7 +9,10 @@
 //! An inverse is looked for by division steps first, and tested by one product: for 3f by
 //! [`times_3f`], which decryption uses too. Only where that fails does the elimination decide.
 //!
-//! The time depends on the element: nothing here is constant time.
+//! In the division steps and the test no branch and no address depends on f or g, but on whether an
+//! inverse was found. That is tested over the built program, and not proved; and it holds as far as
+//! the multiplier keeps to it. The elimination isn't constant time: it runs for elements without an
+//! inverse alone, unless the steps fail.
 #![tactic(auto)]
 
 mod division;

@@ -2,7 +2,7 @@
 //!
 //! An inverse that is given is one. `None` says nothing of the element: that the steps find each
 //! inverse there is, no clause says. A wrong candidate costs [`crate::reciprocal_3`] the time of an
-//! elimination, and no more.
+//! elimination, and no more. So the steps owe no proof but that of their safety.
 
 ghost use Rattle.std.specs.Prelude.{◌≡◌, ℤ, pos, ◌*ℤ◌, Bool, true, List, length, map, IfOk, IfSome};
 ghost use Rattle.ring_core.specs.Product.{one, product, IsCentred};
@@ -16,16 +16,16 @@ use ring_core::words::small_to_16;
 use ring_core::{Multiplier, Params, Rq, Small};
 use std::alloc::{AllocError as OutOfMemory, Global};
 
-// Whether the list is 1 and then zeros.
+// Whether the list is 1 and then zeros. All of it is looked at, so that the answer alone can be told
+// from the time.
 fn is_one(list: &[i16]) -> bool
     ensures { result ≡ true → list.now ≡ one (length list.now) }
 {
+    let mut same = true;
     for k in 0..list.len() {
-        if list[k] != i16::from(k == 0) {
-            return false;
-        }
+        same &= list[k] == i16::from(k == 0);
     }
-    true
+    same
 }
 
 // Whether v a = 1 in R/3.

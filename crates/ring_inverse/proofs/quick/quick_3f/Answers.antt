@@ -10,9 +10,9 @@ pub candidate_3f-requires-clause-few : goal.candidate_3f-requires-clause-few
 candidate_3f-requires-clause-few g c =
     length_most _ _ _ _ c.as_slice.ensures.list c.as_slice.ensures.centred.0 g.S.Params.degree_most
 
-pub candidate_3f-requires-clause-modulus_least : goal.candidate_3f-requires-clause-modulus_least
-candidate_3f-requires-clause-modulus_least g c =
-    omega (arith, c.modulus.ensures, g.S.Params.modulus_least)
+pub candidate_3f-requires-clause-modulus_most : goal.candidate_3f-requires-clause-modulus_most
+candidate_3f-requires-clause-modulus_most g c =
+    omega (arith, c.modulus.ensures, g.S.Params.modulus_most)
 
 pub from_coefficients-requires : goal.from_coefficients-requires
 from_coefficients-requires g c =
