@@ -23,19 +23,15 @@ folders_of() {
     sed 's/[ :].*//; s/^/crates\//'
 }
 
-# The files that the program is made from, and their folders, each ended by a zero byte. No README.md.
-sources() {
+# A sum of the program's lines of crates.txt, and of the name and the bytes of each file that the program
+# is made from. No date counts, and no README.md.
+sum_of_sources() {
     local folders
     mapfile -t folders < <(rows | folders_of)
-    find HANDLES crates.txt "${folders[@]}" \( -name out -o -name must-fail -o -name README.md \) -prune -o "$@"
-}
-
-# A sum of the program's lines of crates.txt, and of the name and the bytes of each file that the program
-# is made from. No date counts.
-sum_of_sources() {
     {
         rows
-        sources -type f ! -name crates.txt -print0 | LC_ALL=C sort -z | xargs -0 sha256sum
+        find HANDLES "${folders[@]}" \( -name out -o -name must-fail -o -name README.md \) -prune -o -type f -print0 |
+            LC_ALL=C sort -z | xargs -0 sha256sum
     } | sha256sum
 }
 
@@ -45,12 +41,13 @@ keep_sum() {
     echo "$1$(sha256sum <"$program")" >"$program.sources"
 }
 
-# Whether the sums were compared before, and no source and no program was changed since: the system keeps of
-# each file and each folder when it was last changed, whatever date it is given. (Where the clock was
+# Whether the sums were compared before, and no file of any crate and no program was changed since: the system
+# keeps of each file and each folder when it was last changed, whatever date it is given. (Where the clock was
 # set back a change may be missed.)
 is_as_seen() {
     [ -f "$program.seen" ] &&
-        [ -z "$(sources -cnewer "$program.seen" -print -quit; find "$program" "$program.sources" -cnewer "$program.seen")" ]
+        [ -z "$(find crates crates.txt HANDLES "$program" "$program.sources" \
+            \( -name out -o -name must-fail -o -name README.md \) -prune -o -cnewer "$program.seen" -print -quit)" ]
 }
 
 # Whether the program that stands was built from the sources as they are.
