@@ -1,9 +1,10 @@
 -- Eight states by bits.
-use Rattle.std.proofs.Common.{◌≡◌, ℕ, zero, suc, ◌+◌, ◌-◌, ◌*◌, ◌%◌, ◌^◌, ◌<◌, Bool, true, false, cond, eqb, List, [], ◌∷◌, ◌++◌, length, get_or, map, replicate, bit_xor, bit_and, refl, sym, ap, subst, drop, length-drop, ◌/◌, ◌≤◌, ◌∙◌, arith}
+use Rattle.std.proofs.Common.{◌≡◌, ℕ, zero, suc, ◌+◌, ◌-◌, ◌*◌, ◌%◌, ◌^◌, ◌<◌, Bool, true, false, cond, eqb, List, [], ◌∷◌, ◌++◌, length, get_or, map, replicate, bit_xor, bit_and, refl, sym, ap, subst, take, set, length-set, length-append, inl, inr, ◌≢◌, drop, length-drop, ◌/◌, ◌≤◌, ◌∙◌, arith}
 use Rattle.std.specs.List.{range_with_len}
 use Rattle.std.specs.Int.{bit_at}
 use Rattle.std.proofs.Math.Nat.{zero-add}
-use Rattle.std.proofs.lemmas.List.{ext_get_or, length-map, get_or-map, length-take-le, get_or-take, get_or-drop}
+use Rattle.std.proofs.lemmas.List.{ext_get_or, length-map, get_or-map, length-take-le, get_or-take, get_or-drop, get_or-set_same, get_or-set_other, get_or_append_left, get_or_at}
+use Rattle.std.proofs.lemmas.Bool.{cases_lt}
 use Rattle.std.proofs.lemmas.List.FromFn.{get_or-map-range_with_len, length-range_with_len}
 use Rattle.std.proofs.lemmas.Simd.{length-zip2, get_or-zip2}
 use Rattle.std.proofs.lemmas.Nat.Bits.{bit_at_xor, bit_at-lt, bit_at-zero, bit_at_ones, and_pow}
@@ -150,17 +151,20 @@ added_bytes a b r la lb h p i P =
 
 -- ---- a key
 
+all_bits : (b i : ℕ) → b < 2 → i < 8 → bit_at (b * 255) i ≡ b
+all_bits zero i lt I = bit_at-zero i
+all_bits (suc zero) i lt I = bit_at_ones 8 i I
+all_bits (suc (suc b)) i lt I = absurd (omega arith)
+
+spread_bit : (x : List ℕ) (p i k : ℕ) → length x ≡ 16 → p < 16 → i < 8 → bit_at (get_or (map (picked_lane (2 ^ k) 255) x) p 0) i ≡ bit_at (get_or x p 0) k
+spread_bit x p i k long P I =
+    ap (λ n. bit_at n i) (picked_here p k 255 P x (map (picked_lane (2 ^ k) 255) x) long refl).is
+    ∙ all_bits (bit_at (get_or x p 0) k) i (bit_at-lt (get_or x p 0) k) I
+
 pub key_bytes : (x : List ℕ) (r : List (List ℕ)) → length x ≡ 16 → ((p : ℕ) → p < 16 → get_or x p 0 < 256)
     → ((k : ℕ) → k < 8 → get_or r k [] ≡ map (picked_lane (2 ^ k) 255) x) → (p i : ℕ) → p < 16 → i < 8 → gathered r p i ≡ get_or x p 0
 key_bytes x r long small h p i P I =
-    gathered_from r p i (get_or x p 0) (small p P) (λ k K.
-    let lane = picked_here p k 255 P x (get_or r k []) long (h k K) in
-    ap (λ n. bit_at n i) lane.is ∙ all_bits (bit_at (get_or x p 0) k) i (bit_at-lt (get_or x p 0) k) I)
-  where
-    all_bits : (b i : ℕ) → b < 2 → i < 8 → bit_at (b * 255) i ≡ b
-    all_bits zero i lt I = bit_at-zero i
-    all_bits (suc zero) i lt I = bit_at_ones 8 i I
-    all_bits (suc (suc b)) i lt I = absurd (omega arith)
+    gathered_from r p i (get_or x p 0) (small p P) (λ k K. ap (λ zs. bit_at (get_or zs p 0) i) (h k K) ∙ spread_bit x p i k long P I)
 
 -- register m % 8 of round key m / 8
 abbrev pub key_register : List ℕ → ℕ → List ℕ
@@ -182,6 +186,80 @@ keys_from w keys nr long small filled j J q same =
       long = size;
       bytes = key_bytes x q size (λ p P. subst (λ n. n < 256) (sym (get_or-take 16 (drop (16 * j) w) p 0 P ∙ get_or-drop (16 * j) w p 0)) (small (16 * j + p))) here;
     }
+
+-- ---- blocks that count
+
+pub record HasCounted (x : List ℕ) (r : List (List ℕ)) : Type 0 where
+  pub r0 : get_or r 0 [] ≡ set (map (picked_lane (2 ^ 0) 255) x) 15 0xaa
+  pub r1 : get_or r 1 [] ≡ set (map (picked_lane (2 ^ 1) 255) x) 15 0xcc
+  pub r2 : get_or r 2 [] ≡ set (map (picked_lane (2 ^ 2) 255) x) 15 0xf0
+  pub r3 : get_or r 3 [] ≡ map (picked_lane (2 ^ 3) 255) x
+  pub r4 : get_or r 4 [] ≡ map (picked_lane (2 ^ 4) 255) x
+  pub r5 : get_or r 5 [] ≡ map (picked_lane (2 ^ 5) 255) x
+  pub r6 : get_or r 6 [] ≡ map (picked_lane (2 ^ 6) 255) x
+  pub r7 : get_or r 7 [] ≡ map (picked_lane (2 ^ 7) 255) x
+
+pub counted_long : (x : List ℕ) (r : List (List ℕ)) → length x ≡ 16 → HasCounted x r → IsState r
+counted_long x r long h =
+    let size : (f : ℕ → ℕ) → length (map f x) ≡ 16 = λ f. length-map x f ∙ long in
+    eight (λ k. length (get_or r k []) ≡ 16)
+    (ap length h.r0 ∙ length-set (map (picked_lane (2 ^ 0) 255) x) 15 0xaa ∙ size (picked_lane (2 ^ 0) 255))
+    (ap length h.r1 ∙ length-set (map (picked_lane (2 ^ 1) 255) x) 15 0xcc ∙ size (picked_lane (2 ^ 1) 255))
+    (ap length h.r2 ∙ length-set (map (picked_lane (2 ^ 2) 255) x) 15 0xf0 ∙ size (picked_lane (2 ^ 2) 255))
+    (ap length h.r3 ∙ size (picked_lane (2 ^ 3) 255))
+    (ap length h.r4 ∙ size (picked_lane (2 ^ 4) 255))
+    (ap length h.r5 ∙ size (picked_lane (2 ^ 5) 255))
+    (ap length h.r6 ∙ size (picked_lane (2 ^ 6) 255))
+    (ap length h.r7 ∙ size (picked_lane (2 ^ 7) 255))
+
+counted_front : (x : List ℕ) (r : List (List ℕ)) (p i : ℕ) → length x ≡ 16 → HasCounted x r → get_or x p 0 < 256 → p < 15 → i < 8
+    → gathered r p i ≡ get_or x p 0
+counted_front x r p i long h small P' I =
+    let P : p < 16 = omega arith in
+    let other : p ≢ 15 = omega arith in
+    gathered_from r p i (get_or x p 0) small (eight (λ k. bit_of r k p i ≡ bit_at (get_or x p 0) k)
+    (ap (λ zs. bit_at (get_or zs p 0) i) h.r0 ∙ ap (λ n. bit_at n i) (get_or-set_other (map (picked_lane (2 ^ 0) 255) x) 15 p 0xaa 0 other) ∙ spread_bit x p i 0 long P I)
+    (ap (λ zs. bit_at (get_or zs p 0) i) h.r1 ∙ ap (λ n. bit_at n i) (get_or-set_other (map (picked_lane (2 ^ 1) 255) x) 15 p 0xcc 0 other) ∙ spread_bit x p i 1 long P I)
+    (ap (λ zs. bit_at (get_or zs p 0) i) h.r2 ∙ ap (λ n. bit_at n i) (get_or-set_other (map (picked_lane (2 ^ 2) 255) x) 15 p 0xf0 0 other) ∙ spread_bit x p i 2 long P I)
+    (ap (λ zs. bit_at (get_or zs p 0) i) h.r3 ∙ spread_bit x p i 3 long P I)
+    (ap (λ zs. bit_at (get_or zs p 0) i) h.r4 ∙ spread_bit x p i 4 long P I)
+    (ap (λ zs. bit_at (get_or zs p 0) i) h.r5 ∙ spread_bit x p i 5 long P I)
+    (ap (λ zs. bit_at (get_or zs p 0) i) h.r6 ∙ spread_bit x p i 6 long P I)
+    (ap (λ zs. bit_at (get_or zs p 0) i) h.r7 ∙ spread_bit x p i 7 long P I))
+
+counted_end : (x : List ℕ) (r : List (List ℕ)) (i : ℕ) → length x ≡ 16 → HasCounted x r → get_or x 15 0 < 256 → i < 8
+    → gathered r 15 i ≡ get_or x 15 0 / 8 * 8 + i
+counted_end x r i long h small I =
+    let v = get_or x 15 0 in
+    let last : (k : ℕ) → 15 < length (map (picked_lane (2 ^ k) 255) x) = λ k. omega (arith, length-map x (picked_lane (2 ^ k) 255)) in
+    gathered_from r 15 i (v / 8 * 8 + i) (omega arith) (eight (λ k. bit_of r k 15 i ≡ bit_at (v / 8 * 8 + i) k)
+    (ap (λ zs. bit_at (get_or zs 15 0) i) h.r0 ∙ ap (λ n. bit_at n i) (get_or-set_same (map (picked_lane (2 ^ 0) 255) x) 15 0xaa 0 (last 0)) ∙ eight (λ i. bit_at 0xaa i ≡ bit_at i 0) refl refl refl refl refl refl refl refl i I ∙ omega arith)
+    (ap (λ zs. bit_at (get_or zs 15 0) i) h.r1 ∙ ap (λ n. bit_at n i) (get_or-set_same (map (picked_lane (2 ^ 1) 255) x) 15 0xcc 0 (last 1)) ∙ eight (λ i. bit_at 0xcc i ≡ bit_at i 1) refl refl refl refl refl refl refl refl i I ∙ omega arith)
+    (ap (λ zs. bit_at (get_or zs 15 0) i) h.r2 ∙ ap (λ n. bit_at n i) (get_or-set_same (map (picked_lane (2 ^ 2) 255) x) 15 0xf0 0 (last 2)) ∙ eight (λ i. bit_at 0xf0 i ≡ bit_at i 2) refl refl refl refl refl refl refl refl i I ∙ omega arith)
+    (ap (λ zs. bit_at (get_or zs 15 0) i) h.r3 ∙ spread_bit x 15 i 3 long (omega arith) I ∙ omega arith)
+    (ap (λ zs. bit_at (get_or zs 15 0) i) h.r4 ∙ spread_bit x 15 i 4 long (omega arith) I ∙ omega arith)
+    (ap (λ zs. bit_at (get_or zs 15 0) i) h.r5 ∙ spread_bit x 15 i 5 long (omega arith) I ∙ omega arith)
+    (ap (λ zs. bit_at (get_or zs 15 0) i) h.r6 ∙ spread_bit x 15 i 6 long (omega arith) I ∙ omega arith)
+    (ap (λ zs. bit_at (get_or zs 15 0) i) h.r7 ∙ spread_bit x 15 i 7 long (omega arith) I ∙ omega arith))
+
+pub counted_is : (x : List ℕ) (r : List (List ℕ)) → length x ≡ 16 → ((p : ℕ) → p < 16 → get_or x p 0 < 256) → HasCounted x r → (i : ℕ) → i < 8
+    → state_at r i ≡ take 15 x ++ (get_or x 15 0 / 8 * 8 + i) ∷ []
+counted_is x r long small h i I =
+    let e = get_or x 15 0 / 8 * 8 + i in
+    let size : length (state_at r i) ≡ 16 = length-map (range_with_len 0 16) (λ p. gathered r p i) ∙ length-range_with_len 0 16 in
+    let front : length (take 15 x) ≡ 15 = length-take-le 15 x (omega arith) in
+    let whole : length (take 15 x ++ e ∷ []) ≡ 16 = omega (arith, length-append (take 15 x) (e ∷ []), front) in
+    ext_get_or 0 (state_at r i) (take 15 x ++ e ∷ []) (size ∙ sym whole) (λ p lt.
+    let P : p < 16 = omega (arith, size) in
+    get_or-map-range_with_len (λ p. gathered r p i) 0 16 p p 0 P (zero-add p)
+    ∙ elim (cases_lt p 15) [
+      | inl low ↦ counted_front x r p i long h (small p P) low I
+          ∙ sym (get_or_append_left (take 15 x) (e ∷ []) 0 p (omega (arith, front)) ∙ get_or-take 15 x p 0 low)
+      | inr high ↦
+          let is : p ≡ 15 = omega arith in
+          ap (λ p. gathered r p i) is ∙ counted_end x r i long h (small 15 (omega arith)) I
+          ∙ sym (ap (λ p. get_or (take 15 x ++ e ∷ []) p 0) is ∙ get_or_at (take 15 x) e [] 0 15 front)
+    ])
 
 -- ---- whole states
 

@@ -1,11 +1,13 @@
 //! Keys of AES (FIPS 197).
 
-ghost use Rattle.std.specs.Prelude.{◌≡◌, ◌≤◌, ◌<◌, ◌*◌, ◌⊎◌, ℕ, [], length, slice_index_or};
+ghost use Rattle.std.specs.Prelude.{◌≡◌, ◌≤◌, ◌<◌, ◌+◌, ◌*◌, ◌/◌, ◌⊎◌, ◌++◌, ◌∷◌, ℕ, [], length, take, slice_index, slice_index_or};
+ghost use Rattle.aes_block.specs.Sliced.{IsState, state_at};
 ghost use Rattle.aes_block.specs.Cipher.{expanded_key, round_key, round_count, cipher};
 
+use crate::gates::State;
 use crate::key_expansion::expanded;
 use crate::rounds::{add_key, last_round, round};
-use crate::slices::{SlicedKeys, key_at, sliced, sliced_keys, unsliced};
+use crate::slices::{SlicedKeys, counted, key_at, sliced, sliced_keys, unsliced};
 use arrayvec::ArrayVec;
 use std::marker::Model;
 
@@ -75,19 +77,36 @@ impl AesKey {
         &keys[i]
     }
 
-    /// Cipher (FIPS 197, 5.1): the encryption of each of eight blocks. Its inverse isn't here: the
-    /// modes that this crate serves encrypt counters alone.
+    // Cipher (FIPS 197, 5.1) of eight states. A call of its own: the rounds need all registers.
     #[inline(never)]
-    pub fn encrypt_eight(&self, blocks: &[[u8; 16]; 8]) -> [[u8; 16]; 8]
-        ensures { (i : ℕ) → i < 8
-            → slice_index_or result i [] ≡ cipher self.now (slice_index_or blocks.now i []) }
+    fn encrypt_states(&self, start: State) -> [[u8; 16]; 8]
+        requires { IsState start }
+        ensures { (i : ℕ) → i < 8 → slice_index_or result i [] ≡ cipher self.now (state_at start i) }
     {
-        let mut state = add_key(sliced(blocks), key_at(&self.sliced, 0));
+        let mut state = add_key(start, key_at(&self.sliced, 0));
         'rounds: for i in 1..self.rounds {
             let next = round(state, key_at(&self.sliced, i));
             state = next;
         }
         unsliced(last_round(state, key_at(&self.sliced, self.rounds)))
+    }
+
+    /// Cipher (FIPS 197, 5.1): the encryption of each of eight blocks. Its inverse isn't here: the
+    /// modes that this crate serves encrypt counters alone.
+    pub fn encrypt_eight(&self, blocks: &[[u8; 16]; 8]) -> [[u8; 16]; 8]
+        ensures { (i : ℕ) → i < 8
+            → slice_index_or result i [] ≡ cipher self.now (slice_index_or blocks.now i []) }
+    {
+        self.encrypt_states(sliced(blocks))
+    }
+
+    /// The same of eight blocks that a mode counts up: `block`, but that the last three bits of its
+    /// last byte count from 0 to 7. Such blocks need no turning, so it is a little faster.
+    pub fn encrypt_counted(&self, block: &[u8; 16]) -> [[u8; 16]; 8]
+        ensures { (i : ℕ) → i < 8 → slice_index_or result i [] ≡ cipher self.now
+            (take 15 block.now ++ (slice_index block.now 15 / 8 * 8 + i) ∷ []) }
+    {
+        self.encrypt_states(counted(block))
     }
 
     /// Cipher (FIPS 197, 5.1): the encryption of one block. It takes as long as that of eight.

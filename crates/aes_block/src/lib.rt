@@ -2,9 +2,10 @@
 //!
 //! A contract sees an [`AesKey`] as its key's bytes. [`AesKey::encrypt_block`] is Cipher of the
 //! standard, `cipher` of `specs/Cipher.antt`, for every key and block; [`AesKey::encrypt_eight`] is
-//! it for each of eight blocks, and takes as long as one. The definition works by operations of the
-//! field, with the S-box from the inverse. The code has eight states by bits and the S-box as a
-//! circuit (`gates.rt`), in the rounds and in the key expansion alike.
+//! it for each of eight blocks, and takes as long as one; [`AesKey::encrypt_counted`] is it for eight
+//! that count up. The definition works by operations of the field, with the S-box from the inverse.
+//! The code has eight states by bits and the S-box as a circuit (`gates.rt`), in the rounds and in
+//! the key expansion alike.
 //!
 //! No branch and no address depends on a key or on a block: each step is an operation on whole
 //! vectors, and the loops count rounds and words. That is so by construction and tested over the

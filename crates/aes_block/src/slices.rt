@@ -9,7 +9,7 @@
 //!
 //! A round key is the same for all blocks, so each of its lanes has all bits set or none.
 
-ghost use Rattle.std.specs.Prelude.{◌≡◌, ◌≤◌, ◌+◌, ◌*◌, ◌<◌, ◌==◌, ◌^◌, if◌then◌else◌, map, slice_index, slice_index_or, [], ◌∷◌, ℕ, length, bit_and};
+ghost use Rattle.std.specs.Prelude.{◌≡◌, ◌≤◌, ◌+◌, ◌*◌, ◌<◌, ◌==◌, ◌^◌, if◌then◌else◌, map, slice_index, slice_index_or, slice_set, take, ◌++◌, ◌/◌, [], ◌∷◌, ℕ, length, bit_and};
 ghost use Rattle.std.specs.Simd.Lanes.{zip2};
 ghost use Rattle.aes_block.specs.Sliced.{IsState, AreBytes, AreKeysOf, bit_of, state_at, lower, upper, place};
 
@@ -192,6 +192,38 @@ fn spread(x: u8x16, k: usize) -> u8x16
     (x & bit)
         .simd_eq(bit)
         .select(u8x16::splat(255), u8x16::splat(0))
+}
+
+// A register with another last lane.
+#[inline(always)]
+fn ended(x: u8x16, end: u8) -> u8x16
+    requires { length x ≡ 16 }
+    ensures { result ≡ slice_set x 15 end }
+{
+    let mut lanes = x.to_array();
+    lanes[15] = end;
+    u8x16::from_array(lanes)
+}
+
+// Eight blocks by bits: this one, but that the last three bits of its last byte count from 0 to 7.
+// Each of these bits alternates from block to block, and all other bits are the same in all.
+#[inline(always)]
+pub(crate) fn counted(block: &[u8; 16]) -> State
+    ensures long { IsState result }
+    ensures states { (i : ℕ) → i < 8 → state_at result i
+        ≡ take 15 block.now ++ (slice_index block.now 15 / 8 * 8 + i) ∷ [] }
+{
+    let x = lanes(block);
+    [
+        ended(spread(x, 0), 0xaa),
+        ended(spread(x, 1), 0xcc),
+        ended(spread(x, 2), 0xf0),
+        spread(x, 3),
+        spread(x, 4),
+        spread(x, 5),
+        spread(x, 6),
+        spread(x, 7),
+    ]
 }
 
 /// The registers of the round keys, eight a key. What stands behind the last key is 0.

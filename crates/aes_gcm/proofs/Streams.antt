@@ -1,8 +1,9 @@
 -- The key stream, block by block.
-use Rattle.std.proofs.Common.{◌≡◌, ◌<◌, ◌≤◌, ◌+◌, ◌-◌, ◌*◌, ◌%◌, ◌^◌, ℕ, suc, List, [], ◌∷◌, ◌++◌, length, take, drop, min, inl, inr, sym, ◌∙◌, ap, refl, arith, append_assoc, length-drop, drop-drop}
-use Rattle.std.proofs.lemmas.List.{append-nil, take-append-drop, length-take-le, take_all, take_at, drop_at}
+use Rattle.std.proofs.Common.{◌≡◌, ◌<◌, ◌≤◌, ◌+◌, ◌-◌, ◌*◌, ◌/◌, ◌%◌, ◌^◌, ℕ, suc, List, [], ◌∷◌, ◌++◌, length, take, drop, get_or, min, inl, inr, sym, ◌∙◌, ap, refl, arith, append_assoc, length-drop, drop-drop}
+use Rattle.std.proofs.lemmas.List.{append-nil, take-append-drop, length-take-le, take_all, take_at, drop_at, get_or-append-add}
 use Rattle.std.proofs.lemmas.Nat.{from_be_bytes-to_be_bytes_4}
 use Rattle.std.proofs.Math.ListN.{drop_of_length-le}
+use Rattle.std.proofs.Math.Seq.{take-append-add}
 use Rattle.std.proofs.lemmas.Bool.{cases_lt}
 use Rattle.std.specs.Int.{w32, div_ceil, from_be_bytes}
 use Rattle.byte_strings.specs.Bytes.{i2osp, xor_bytes}
@@ -98,6 +99,43 @@ gctr_from-rest key nonce i text stream is size some short =
     ∙ ap (λ xs. xor_bytes (take n text) stream ++ xs) (gctr_from-none key nonce (i + 1) (drop n text) none)
     ∙ append-nil (xor_bytes (take n text) stream)
     ∙ ap (λ xs. xor_bytes xs stream) (take_all n text (omega arith))
+
+-- counter blocks that differ in the last byte alone
+run_block : (nonce : List ℕ) (i j last : ℕ) → length nonce ≡ 12 → (1 + i) / 256 ≡ (1 + j) / 256 → last ≡ (1 + j) % 256
+    → take 15 (counter_block nonce i) ++ last ∷ [] ≡ counter_block nonce j
+unfolding counter_block
+run_block nonce i j last size same is =
+    let m = (1 + i) % 2 ^ 32 in
+    let n = (1 + j) % 2 ^ 32 in
+    let high : m / 256 ≡ n / 256 = omega arith in
+    let b3 : m / 16777216 % 256 ≡ n / 16777216 % 256 = omega arith in
+    let b2 : m / 65536 % 256 ≡ n / 65536 % 256 = omega arith in
+    let b1 : m / 256 % 256 ≡ n / 256 % 256 = omega arith in
+    let b0 : last ≡ n % 256 = omega arith in
+    let place : 15 ≡ length nonce + 3 = omega arith in
+    ap (λ k. take k (nonce ++ i2osp m 4) ++ last ∷ []) place
+    ∙ ap (λ xs. xs ++ last ∷ []) (take-append-add nonce (i2osp m 4) 3)
+    ∙ append_assoc nonce (m / 16777216 % 256 ∷ m / 65536 % 256 ∷ m / 256 % 256 ∷ []) (last ∷ [])
+    ∙ ap (λ x. nonce ++ x ∷ m / 65536 % 256 ∷ m / 256 % 256 ∷ last ∷ []) b3
+    ∙ ap (λ x. nonce ++ n / 16777216 % 256 ∷ x ∷ m / 256 % 256 ∷ last ∷ []) b2
+    ∙ ap (λ x. nonce ++ n / 16777216 % 256 ∷ n / 65536 % 256 ∷ x ∷ last ∷ []) b1
+    ∙ ap (λ x. nonce ++ n / 16777216 % 256 ∷ n / 65536 % 256 ∷ n / 256 % 256 ∷ x ∷ []) b0
+
+-- the last byte of a counter block
+last_of : (nonce : List ℕ) (i : ℕ) → length nonce ≡ 12 → get_or (counter_block nonce i) 15 0 ≡ (1 + i) % 256
+unfolding counter_block
+last_of nonce i size =
+    let n = (1 + i) % 2 ^ 32 in
+    let place : 15 ≡ length nonce + 3 = omega arith in
+    let low : n % 256 ≡ (1 + i) % 256 = omega arith in
+    ap (λ k. get_or (nonce ++ i2osp n 4) k 0) place ∙ get_or-append-add nonce (i2osp n 4) 3 0 ∙ low
+
+-- the block that stands at j in the group of counter block i
+pub group_block : (nonce : List ℕ) (i j m : ℕ) → length nonce ≡ 12 → j < 8 → 1 + m ≡ (1 + i) / 8 * 8 + j
+    → take 15 (counter_block nonce i) ++ (get_or (counter_block nonce i) 15 0 / 8 * 8 + j) ∷ [] ≡ counter_block nonce m
+group_block nonce i j m size J is =
+    let end = last_of nonce i size in
+    run_block nonce i m (get_or (counter_block nonce i) 15 0 / 8 * 8 + j) size (omega (arith, is)) (omega (arith, is, end))
 
 -- the counter block after a counter block
 pub counter_block-next : (nonce : List ℕ) (i : ℕ) → length nonce ≡ 12 → counter_block nonce (i + 1) ≡ inc32 (counter_block nonce i)

@@ -1,6 +1,6 @@
 //! Counter blocks (SP 800-38D, 6.2 and 7.1).
 
-ghost use Rattle.std.specs.Prelude.{◌≡◌, ◌<◌, ◌+◌, ◌^◌, ℕ, [], slice_index_or};
+ghost use Rattle.std.specs.Prelude.{◌≡◌, ◌<◌, ◌^◌};
 ghost use Rattle.aes_gcm.specs.Gcm.{counter_block};
 
 /// A block of the cipher.
@@ -20,21 +20,4 @@ pub(crate) fn counter_block(nonce: &[u8; 12], i: u64) -> Block
     block[..12].copy_from_slice(nonce);
     block[12..].copy_from_slice(&counter.to_be_bytes());
     block
-}
-
-// Eight counter blocks, from counter block `first` on.
-pub(crate) fn counter_blocks(nonce: &[u8; 12], first: u64) -> Blocks
-    requires { first < 2 ^ 62 }
-    ensures { (k : ℕ) → k < 8 → slice_index_or result k [] ≡ counter_block nonce.now (first + k) }
-{
-    [
-        counter_block(nonce, first),
-        counter_block(nonce, first + 1),
-        counter_block(nonce, first + 2),
-        counter_block(nonce, first + 3),
-        counter_block(nonce, first + 4),
-        counter_block(nonce, first + 5),
-        counter_block(nonce, first + 6),
-        counter_block(nonce, first + 7),
-    ]
 }

@@ -7,7 +7,7 @@ ghost use Rattle.aes_gcm.specs.Groups.{IsGroup};
 
 use crate::adding::{add_block_at, add_blocks, add_rest};
 use crate::checks::Checks;
-use crate::counters::{Block, Blocks, counter_block, counter_blocks};
+use crate::counters::{Block, Blocks, counter_block};
 use aes_block::AesKey;
 use ghash_core::{Ghash, GhashKey};
 use std::marker::Model;
@@ -81,28 +81,27 @@ impl GcmKey {
         [a, b, c, d]
     }
 
-    // The ciphers of eight counter blocks, from counter block `first` on.
-    fn eight(&self, nonce: &[u8; 12], first: u64) -> Blocks
-        requires { first < 2 ^ 62 }
-        ensures { (j : ℕ) → j < 8
-            → slice_index_or result j [] ≡ cipher self.now (counter_block nonce.now (first + j)) }
+    // The ciphers of the counter blocks among which counter block `i` is encrypted.
+    fn group(&self, nonce: &[u8; 12], i: u64) -> Blocks
+        requires { i < 2 ^ 63 }
+        ensures { IsGroup self.now nonce.now i result }
     {
-        self.aes.encrypt_eight(&counter_blocks(nonce, first))
+        self.aes.encrypt_counted(&counter_block(nonce, i))
     }
 
     // The cipher of counter block `i`. `group` is the group of the one before, and then that of `i`.
     #[inline(always)]
     fn next_block(&self, nonce: &[u8; 12], i: u64, group: &mut Blocks) -> Block
         requires some { 1 ≤ i }
-        requires fits { i < 2 ^ 62 }
+        requires fits { i < 2 ^ 63 }
         requires before { IsGroup self.now nonce.now (i - 1) group.old }
         ensures group { IsGroup self.now nonce.now i group.new }
         ensures block { result ≡ cipher self.now (counter_block nonce.now i) }
     {
-        if i % 8 == 0 {
-            *group = self.eight(nonce, i);
+        if (1 + i) % 8 == 0 {
+            *group = self.group(nonce, i);
         }
-        group[(i % 8) as usize]
+        group[((1 + i) % 8) as usize]
     }
 
     // Adds the key stream to the whole blocks of a text, and tells how many they are. `group` is that
@@ -133,15 +132,16 @@ impl GcmKey {
 
     // GCTR from counter block 1 on (SP 800-38D, 6.5), and the cipher of counter block 0, J0.
     //
-    // Counter blocks are encrypted in groups of eight. That of J0 stands in the first group, so a
-    // short text and the mask of its tag take one group together.
+    // Counter blocks are encrypted in groups of eight, those whose counters are equal but for the last
+    // three bits. J0, whose counter is 1, stands in the first group, so a text of up to six blocks
+    // and the mask of its tag take one group together.
     fn add_key_stream(&self, nonce: &[u8; 12], text: &[u8], out: &mut [u8]) -> Block
         requires { length out.old ≡ length text.now }
         ensures sum { out.new ≡ gctr self.now nonce.now text.now }
         ensures mask { result ≡ cipher self.now (j0 nonce.now) }
     {
-        let mut group = self.eight(nonce, 0);
-        let mask = group[0];
+        let mut group = self.group(nonce, 0);
+        let mask = group[1];
         let blocks = self.add_blocks_of(nonce, text, out, &mut group);
         if 16 * blocks < text.len() {
             let stream = self.next_block(nonce, blocks as u64 + 1, &mut group);

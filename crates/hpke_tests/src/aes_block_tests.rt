@@ -51,6 +51,8 @@ fn assert_block(
     assert_bytes(rt, alloc, &block, case.ciphertext, case.source, "block");
     let block = key.encrypt_eight(&[plaintext; 8])[5];
     assert_bytes(rt, alloc, &block, case.ciphertext, case.source, "one of eight");
+    let block = key.encrypt_counted(&plaintext)[(plaintext[15] % 8) as usize];
+    assert_bytes(rt, alloc, &block, case.ciphertext, case.source, "counted");
     Ok(())
 }
 

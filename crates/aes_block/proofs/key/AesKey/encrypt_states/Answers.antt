@@ -1,9 +1,9 @@
-use Rattle.std.proofs.Common.{◌≡◌, ◌-◌, ◌∙◌, [], ap, sym, subst, get_or, arith}
+use Rattle.std.proofs.Common.{◌≡◌, ◌-◌, ◌∙◌, ap, sym, subst, arith}
 use Rattle.byte_strings.specs.Bytes.{xor_bytes}
 use Rattle.aes_block.specs.Cipher.{state_after, expanded_key, round_count, round_key, cipher_rounds, mix_columns, shift_rows, sub_bytes}
-use Rattle.aes_block.specs.Sliced.{IsKeyOf}
+use Rattle.aes_block.specs.Sliced.{IsKeyOf, state_at}
 use Rattle.aes_block.proofs.Expanding.{state_after-none, state_after-step}
-use Rattle.aes_block.proofs.key.AesKey.encrypt_eight.Goals as goal
+use Rattle.aes_block.proofs.key.AesKey.encrypt_states.Goals as goal
 
 pub add_key-state-requires-clause-key : goal.add_key-state-requires-clause-key
 add_key-state-requires-clause-key c = (c.self.invariant.4 0 (omega arith) c.key_at.result c.key_at.ensures).registers
@@ -12,13 +12,12 @@ pub rounds-init : goal.rounds-init
 rounds-init c = record {
   long = c.add_key-state.ensures.long;
   states = λ j J.
-      let block = get_or c.args.blocks.now j [] in
+      let block = state_at c.args.start j in
       let w = expanded_key c.args.self.now in
       let same = c.self.invariant.2 ∙ ap expanded_key c.self.view_is in
       let is : IsKeyOf c.key_at.result (round_key w 0) =
       subst (λ w. IsKeyOf c.key_at.result (round_key w 0)) same (c.self.invariant.4 0 (omega arith) c.key_at.result c.key_at.ensures) in
-      c.add_key-state.ensures.states (round_key w 0) is j J ∙ ap (λ z. xor_bytes z (round_key w 0)) (c.sliced.ensures.states j J)
-      ∙ sym (state_after-none w block);
+      c.add_key-state.ensures.states (round_key w 0) is j J ∙ sym (state_after-none w block);
 }
 
 pub round-next-requires-clause-key : goal.round-next-requires-clause-key
@@ -28,7 +27,7 @@ pub rounds-preserved : goal.rounds-preserved
 rounds-preserved c = record {
   long = c.round-next.ensures.long;
   states = λ j J.
-      let block = get_or c.args.blocks.now j [] in
+      let block = state_at c.args.start j in
       let w = expanded_key c.args.self.now in
       let n = c.rounds.i in
       let same = c.self.invariant.2 ∙ ap expanded_key c.self.view_is in
@@ -45,7 +44,7 @@ last_round-requires-clause-key c = (c.self.invariant.4 c.self.inside.rounds (ome
 pub returns : goal.returns
 unfolding cipher_rounds
 returns c i I =
-    let block = get_or c.args.blocks.now i [] in
+    let block = state_at c.args.start i in
     let w = expanded_key c.args.self.now in
     let nr = c.self.inside.rounds in
     let end : c.rounds.i ≡ nr = omega arith in
