@@ -1,5 +1,9 @@
 pub mod Linear
-pub mod FourBits
-pub mod Rows
+pub mod PowersOfU
+pub mod Bytes
+pub mod Vectors
+pub mod Reductions
+pub mod Tables
 pub mod Sums
+pub mod FourBlocks
 pub mod Published

@@ -1,9 +1,9 @@
 -- The product is linear in both arguments, and so commutes and associates.
-use Rattle.std.proofs.Common.{◌≡◌, ◌<◌, ◌+◌, ◌-◌, ◌*◌, ◌/◌, ◌%◌, ◌^◌, ℕ, zero, suc, bit_xor, sym, ◌∙◌, ap, refl, arith, add-one, add-zero}
+use Rattle.std.proofs.Common.{◌≡◌, ◌<◌, ◌+◌, ◌-◌, ◌*◌, ◌/◌, ◌%◌, ◌^◌, ℕ, zero, suc, bit_and, bit_xor, sym, ◌∙◌, ap, refl, arith, add-one, add-zero}
 use Rattle.std.proofs.Math.Nat.{mul_assoc}
 use Rattle.std.specs.Int.{bit_at}
 use Rattle.std.specs.Int.Bits.{xor_assoc, xor_self, xor_zero_l, xor_zero_r}
-use Rattle.std.proofs.lemmas.Nat.{xor_comm, xor_shr, xor_mod, xor_lt, xor_block, shr-shr, pow_pos}
+use Rattle.std.proofs.lemmas.Nat.{and_comm, and_mask, xor_comm, xor_shr, xor_mod, xor_lt, xor_block, shr-shr, pow_pos}
 use Rattle.std.proofs.lemmas.Nat.Bits.{bit_at-lt}
 use Rattle.ghash_core.specs.Field.{coefficient, reduction, one, by_u, by_power, low_product, product}
 
@@ -269,12 +269,14 @@ pub product-whole : (a b : ℕ) → product a b ≡ low_product 128 a b
 unfolding product
 product-whole a b = refl
 
-pub taken : (p v : ℕ) → p ≡ 1 → p * v ≡ v
-taken p v e = ap (λ x. x * v) e ∙ omega arith
-
-pub left_out : (p v : ℕ) → p ≡ 0 → p * v ≡ 0
-left_out p v e = ap (λ x. x * v) e ∙ omega arith
+-- 0 - p at 128 bits has all bits where p is 1
+pub mask_is : (p a : ℕ) → p < 2 → a < 2 ^ 128 → bit_and ((0 + (2 ^ 128 - p)) % 2 ^ 128) a ≡ p * a
+mask_is zero a _ small = omega arith
+mask_is (suc zero) a _ small = and_comm (2 ^ 128 - 1) a ∙ and_mask a 128 ∙ omega arith
+mask_is (suc (suc p)) a below small = absurd (omega arith)
 
 pub ruleset product_steps = (low_product-more, by_power-more, low_product-none, by_power-none, product-whole, xor_zero_r)
+
+pub ruleset mask_facts = (mask_is)
 
 pub ruleset product_laws = (product-comm, product-assoc, product-xor_r, one-product)

@@ -83,10 +83,6 @@ pub sum_after-none : (h y : ℕ) → sum_after h y [] ≡ y
 unfolding sum_after
 sum_after-none h y = refl
 
-pub sum_after-one : (h y x : ℕ) → sum_after h y (x ∷ []) ≡ product (bit_xor y x) h
-unfolding sum_after
-sum_after-one h y x = refl
-
 pub ghash-none : (h : ℕ) → ghash h [] ≡ 0
 unfolding ghash
 ghash-none h = refl

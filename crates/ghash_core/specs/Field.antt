@@ -1,7 +1,7 @@
 -- The field of GCM (SP 800-38D, 6.3). An element is a block, a number below 2 ^ 128 whose highest
 -- bit is the block's leftmost bit. Bit i from the left is the coefficient of u^i in a polynomial
 -- over two elements, modulo u^128 + u^7 + u^2 + u + 1. The sum of two elements is `bit_xor`.
-use Rattle.std.specs.Prelude.{◌≡◌, ◌<◌, List, slice_index, slice_index_or, [], ◌∷◌, ℕ, zero, suc, ◌+◌, ◌-◌, ◌*◌, ◌/◌, ◌%◌, ◌^◌, bit_xor}
+use Rattle.std.specs.Prelude.{◌≡◌, ◌<◌, List, slice_index, ℕ, zero, suc, ◌-◌, ◌*◌, ◌/◌, ◌%◌, ◌^◌, bit_xor}
 use Rattle.std.specs.Int.{bit_at}
 
 -- the coefficient of u^i
@@ -42,26 +42,3 @@ power h (suc n) = product (power h n) h
 -- entry i is the product of h and the block i * 2^124, the polynomial of i's four bits
 abbrev pub IsProducts : List ℕ → ℕ → Type 0
 IsProducts products h = (i : ℕ) → i < 16 → slice_index products i ≡ product (i * 2 ^ 124) h
-
--- ---- for the proofs
-
--- the same, times u^(4 j)
-abbrev pub IsRow : List ℕ → ℕ → ℕ → Type 0
-IsRow row j h = (i : ℕ) → i < 16 → slice_index row i ≡ by_power (4 * j) (product (i * 2 ^ 124) h)
-
--- the rows of h, one for each four bits of a block
-abbrev pub IsRows : List (List ℕ) → ℕ → Type 0
-IsRows rows h = (j : ℕ) → j < 32 → IsRow (slice_index_or rows j []) j h
-
--- the first 4 j bits of a, times h
-unfoldable pub head_product : ℕ → ℕ → ℕ → ℕ
-head_product a j h = product (a / 2 ^ (128 - 4 * j) * 2 ^ (128 - 4 * j)) h
-
--- the low and the high 64 bits of a block
-abbrev pub halves : ℕ → List ℕ
-halves a = a % 2 ^ 64 ∷ a / 2 ^ 64 ∷ []
-
--- the entries of the rows of h, one row after another, each as its halves
-abbrev pub IsEntries : List (List ℕ) → ℕ → Type 0
-IsEntries entries h = (j : ℕ) → j < 32 → (i : ℕ) → i < 16
-    → slice_index_or entries (16 * j + i) [] ≡ halves (by_power (4 * j) (product (i * 2 ^ 124) h))

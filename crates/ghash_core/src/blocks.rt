@@ -1,7 +1,8 @@
-//! Blocks of 16 bytes as elements of the field.
+//! Blocks of 16 bytes as elements of the field, and as vectors.
 
-ghost use Rattle.std.specs.Prelude.{◌≡◌, ◌≤◌, ◌++◌, ◌-◌, length, replicate};
+ghost use Rattle.std.specs.Prelude.{◌≡◌, ◌≤◌, ◌++◌, ◌-◌, length, replicate, take};
 ghost use Rattle.ghash_core.specs.Hash.{block_of, block_bytes};
+ghost use Rattle.ghash_core.specs.Rows.{element};
 
 use std::simd::prelude::*;
 
@@ -22,27 +23,41 @@ pub(crate) fn from_block(bytes: [u8; 16]) -> u128
     u128::from_be_bytes(bytes)
 }
 
-// The block that at most 16 bytes begin, with zeros after them.
-#[tactic(auto, using(crate::proofs::Sums::block_facts))]
-pub(crate) fn padded_block(bytes: &[u8]) -> u128
-    requires { length bytes.now ≤ 16 }
-    ensures { result ≡ block_of bytes.now }
-{
-    from_block(padded(bytes))
-}
-
-// The block of 16 bytes.
-#[tactic(auto, using(crate::proofs::Sums::block_facts))]
-pub(crate) fn whole_block(bytes: &[u8]) -> u128
-    requires { length bytes.now ≡ 16 }
-    ensures { result ≡ block_of bytes.now }
-{
-    from_block(u8x16::from_slice(bytes).to_array())
-}
-
 #[tactic(auto, unfolding(crate::specs::Hash::block_bytes))]
 pub(crate) fn to_block(block: u128) -> [u8; 16]
     ensures { result ≡ block_bytes block }
 {
     block.to_be_bytes()
+}
+
+// The block that at most 16 bytes begin, with zeros after them.
+#[inline(always)]
+pub(crate) fn padded_lanes(bytes: &[u8]) -> u8x16
+    requires { length bytes.now ≤ 16 }
+    ensures { element result ≡ block_of bytes.now }
+{
+    u8x16::from_array(padded(bytes))
+}
+
+// The block of the first 16 bytes.
+#[inline(always)]
+pub(crate) fn first_lanes(bytes: &[u8]) -> u8x16
+    requires { 16 ≤ length bytes.now }
+    ensures { element result ≡ block_of (take 16 bytes.now) }
+{
+    u8x16::from_slice(bytes)
+}
+
+#[inline(always)]
+pub(crate) fn to_lanes(block: u128) -> u8x16
+    ensures { element result ≡ block }
+{
+    u8x16::from_array(to_block(block))
+}
+
+#[inline(always)]
+pub(crate) fn from_lanes(lanes: u8x16) -> u128
+    ensures { result ≡ element lanes }
+{
+    from_block(lanes.to_array())
 }

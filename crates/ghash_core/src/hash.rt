@@ -1,33 +1,38 @@
 //! The hash key, and a hash that is being taken (SP 800-38D, 6.4).
 
-ghost use Rattle.std.specs.Prelude.{◌≡◌, ◌+◌, ◌<◌, ◌^◌, ◌*◌, ◌++◌, ℕ, List, [], ◌∷◌, length};
+ghost use Rattle.std.specs.Prelude.{◌≡◌, ◌+◌, ◌<◌, ◌^◌, ◌*◌, ◌++◌, ℕ, List, [], ◌∷◌, length, bit_xor};
 ghost use Rattle.ghash_core.specs.Field.{product, IsProducts};
+ghost use Rattle.ghash_core.specs.Rows.{element};
 ghost use Rattle.ghash_core.specs.Hash.{block_of, block_bytes, padded_blocks, length_block, sum_after, ghash, Took};
 
-use crate::blocks::{from_block, padded_block, to_block, whole_block};
-use crate::products::{Entries, entries_of, mul_by_entries, products_of, rows_of};
+use crate::blocks::{first_lanes, from_block, from_lanes, padded_lanes, to_block, to_lanes};
+use crate::powers::{Powers, powers_of, sum_of_products};
+use crate::products::product_by;
+use crate::rows::products_of;
 use std::marker::Model;
+use std::simd::prelude::*;
 
 /// The hash subkey H (SP 800-38D, 6.4), ready for hashing. A contract sees its block.
 ///
-/// It is 8 KiB and more of tables, made once a key.
+/// It is 2 KiB of tables and the sixteen [`products`](GhashKey::products), made once a key.
 #[derive(Drop)]
 pub struct GhashKey {
     h: u128,
     products: [u128; 16],
-    entries: Entries,
+    powers: Powers,
 }
 
 impl Model for GhashKey {
     ghost use Rattle.std.specs.Prelude.{ℕ, ◌<◌, ◌^◌};
-    ghost use Rattle.ghash_core.specs.Field.{IsProducts, IsEntries};
+    ghost use Rattle.ghash_core.specs.Field.{IsProducts};
+    ghost use Rattle.ghash_core.specs.Rows.{ArePowers};
 
     ghost Value = { ℕ };
 
     ghost view = { λ k. k.h };
 
     ghost invariant = { λ k. (k.h < 2 ^ 128) × IsProducts k.products k.h
-        × IsEntries k.entries k.h };
+        × ArePowers k.powers k.h };
 }
 
 impl GhashKey {
@@ -36,12 +41,10 @@ impl GhashKey {
         ensures { result ≡ block_of h.now }
     {
         let h = from_block(*h);
-        let products = products_of(h);
-        let entries = entries_of(&rows_of(&products));
         GhashKey {
             h,
-            products,
-            entries,
+            products: products_of(h),
+            powers: powers_of(h),
         }
     }
 
@@ -53,39 +56,64 @@ impl GhashKey {
         &self.products
     }
 
-    // The product of a block and H.
-    fn times(&self, a: u128) -> u128
-        ensures { result ≡ product a self.now }
+    // One step of the standard: from Y_(j - 1) and X_j, Y_j.
+    fn next(&self, sum: u8x16, x: u8x16) -> u8x16
+        ensures { element result ≡ product (bit_xor (element sum) (element x)) self.now }
     {
-        mul_by_entries(&self.entries, a)
+        product_by(&self.powers.first, sum ^ x)
+    }
+
+    // Four steps.
+    fn next_four(&self, sum: u8x16, a: u8x16, b: u8x16, c: u8x16, d: u8x16) -> u8x16
+        ensures { element result ≡ sum_after self.now (element sum)
+            (element a ∷ element b ∷ element c ∷ element d ∷ []) }
+    {
+        sum_of_products(&self.powers, sum ^ a, b, c, d)
     }
 }
 
 // From the hash of some blocks, the hash of these and of the one block that fewer than 16 bytes are
 // padded to. No byte gives no block.
-fn hash_rest(key: &GhashKey, sum: u128, bytes: &[u8]) -> u128
+fn hash_rest(key: &GhashKey, sum: u8x16, bytes: &[u8]) -> u8x16
     requires { length bytes.now < 16 }
-    ensures { result ≡ sum_after key.now sum (padded_blocks bytes.now) }
+    ensures { element result ≡ sum_after key.now (element sum) (padded_blocks bytes.now) }
 {
     if bytes.is_empty() {
         sum
     } else {
-        key.times(sum ^ padded_block(bytes))
+        key.next(sum, padded_lanes(bytes))
     }
 }
 
-// From the hash of some blocks, the hash of these and of those that the bytes are padded to.
-fn hash_blocks(key: &GhashKey, sum: u128, bytes: &[u8]) -> u128
-    ensures { result ≡ sum_after key.now sum (padded_blocks bytes.now) }
+// From the hash of some blocks, the hash of these and of those that the bytes are padded to, one
+// block at a time.
+fn hash_ones(key: &GhashKey, sum: u8x16, bytes: &[u8]) -> u8x16
+    ensures { element result ≡ sum_after key.now (element sum) (padded_blocks bytes.now) }
 {
     let mut sum = sum;
     let mut rest = bytes;
     while rest.len() >= 16 {
-        let (block, after) = rest.split_at(16);
-        sum = key.times(sum ^ whole_block(block));
-        rest = after;
+        sum = key.next(sum, first_lanes(rest));
+        rest = &rest[16..];
     }
     hash_rest(key, sum, rest)
+}
+
+// The same, four blocks at a time while there are as many.
+fn hash_blocks(key: &GhashKey, sum: u8x16, bytes: &[u8]) -> u8x16
+    ensures { element result ≡ sum_after key.now (element sum) (padded_blocks bytes.now) }
+{
+    let mut sum = sum;
+    let mut rest = bytes;
+    while rest.len() >= 64 {
+        let a = first_lanes(rest);
+        let b = first_lanes(&rest[16..]);
+        let c = first_lanes(&rest[32..]);
+        let d = first_lanes(&rest[48..]);
+        sum = key.next_four(sum, a, b, c, d);
+        rest = &rest[64..];
+    }
+    hash_ones(key, sum, rest)
 }
 
 /// GHASH of the blocks that were taken so far (SP 800-38D, 6.4).
@@ -95,15 +123,16 @@ fn hash_blocks(key: &GhashKey, sum: u128, bytes: &[u8]) -> u128
 #[derive(Drop)]
 pub struct Ghash<'a> {
     key: &'a GhashKey,
-    sum: u128,
+    sum: [u8; 16],
 }
 
 impl<'a> Model for Ghash<'a> {
     ghost use Rattle.ghash_core.specs.Hash.{Hashing};
+    ghost use Rattle.ghash_core.specs.Rows.{element};
 
     ghost Value = { Hashing };
 
-    ghost view = { λ g. record { h = g.key.now; sum = g.sum } };
+    ghost view = { λ g. record { h = g.key.now; sum = element g.sum } };
 }
 
 impl<'a> Ghash<'a> {
@@ -114,7 +143,7 @@ impl<'a> Ghash<'a> {
     {
         // Reading the key tells the proof its invariant, by which H is below 2^128.
         let _ = &key.h;
-        Ghash { key, sum: 0 }
+        Ghash { key, sum: [0; 16] }
     }
 
     /// Takes the bytes, with zero bytes after them up to a whole number of 16-byte blocks. No byte
@@ -125,7 +154,7 @@ impl<'a> Ghash<'a> {
             → Took self.new (xs ++ padded_blocks bytes.now) }
     {
         let key = self.key;
-        self.sum = hash_blocks(key, self.sum, bytes);
+        self.sum = hash_blocks(key, u8x16::from_array(self.sum), bytes).to_array();
     }
 
     /// Takes the block of both lengths and gives the hash. `aad_len` and `text_len` are in bytes;
@@ -139,6 +168,7 @@ impl<'a> Ghash<'a> {
             (xs ++ length_block (8 * aad_len) (8 * text_len) ∷ [])) }
     {
         let lengths = ((8 * aad_len) as u128) << 64 | (8 * text_len) as u128;
-        to_block(self.key.times(self.sum ^ lengths))
+        let sum = u8x16::from_array(self.sum);
+        to_block(from_lanes(self.key.next(sum, to_lanes(lengths))))
     }
 }

@@ -6,17 +6,20 @@
 //! to whole blocks, and gives `ghash` of `specs/Hash.antt`: the sum of the blocks times the powers
 //! of the key. [`laws`] says that this is the standard's recursion, and states the field's laws.
 //!
-//! A contract sees a [`GhashKey`] as its block. The key keeps its products with each four bits of a
-//! block, in fixed arrays. Nothing here refuses, takes memory, is constant time (tables are indexed
-//! by secret bits) or is wiped.
+//! A contract sees a [`GhashKey`] as its block. The key keeps 2 KiB of tables of its first four
+//! powers, in fixed arrays, which are read in registers. No branch and no address depends on the key
+//! or on what is hashed: that is tested over the built program, not proved. Nothing here refuses,
+//! takes memory or is wiped.
 #![tactic(auto)]
 
 mod blocks;
 mod field;
 mod hash;
+mod lanes;
 pub mod laws;
+mod powers;
 mod products;
-mod reductions;
+mod rows;
 
 pub use field::field_mul;
 pub use hash::{Ghash, GhashKey};

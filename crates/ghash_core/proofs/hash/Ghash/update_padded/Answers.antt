@@ -11,7 +11,7 @@ returns-clause-more c = λ xs took.
     let blocks = padded_blocks c.args.bytes.now in
     record {
       fits = fits;
-      sum = c.hash_blocks-self-inside.ensures
+      sum = c.hash_blocks.ensures
           ∙ ap (λ y. sum_after h y blocks) (ap (λ g. g.sum) c.self.view_is ∙ took.sum)
           ∙ ap (λ k. sum_after h (ghash k xs) blocks) (sym same)
           ∙ sum_after-ghash h xs blocks fits;
