@@ -8,6 +8,7 @@ from __future__ import annotations
 import secrets
 from concurrent.futures import Executor
 from dataclasses import dataclass
+from itertools import accumulate
 from typing import Callable, Iterable, Iterator, List, NamedTuple, Optional, Sequence, Tuple, TypeVar, Union
 
 from .batch import Batch, Lane
@@ -160,8 +161,8 @@ def seal(
     whoever has the public key can seal: then a message that opens is whole, but may be anybody's.
 
     Messages that one batch can't hold are sealed in several parts (see `Sealed`). An `executor` runs the parts:
-    one of threads, of processes, or of many machines; without one they run here, one after another. `progress` is
-    called with the count of messages that are done, and of all.
+    one of threads, of processes, or of many machines, which then are given the messages and the psk, and by `open` the
+    secret key. Without one the parts run here, one after another. `progress` is called with the count of messages that are done, and of all.
     """
     kem_of_public(to)
     if isinstance(messages, (bytes, bytearray, memoryview, str)):
@@ -240,8 +241,9 @@ def export(
         raise TypeError("export wants `to`, or `key` and `enc`")
     call = batch.lane().export(context, label, size)
     reply = batch.run(workers=1, runner=runner)
-    sent = reply[context].enc
-    return Exported(enc if sent is None and enc is not None else sent or b"", reply[call].secret)
+    used = reply[context].enc or enc
+    assert used is not None
+    return Exported(used, reply[call].secret)
 
 
 # ---- parts
@@ -294,8 +296,7 @@ def _dealt(aads: Optional[List[bytes]], counts: Sequence[int]) -> List[Optional[
         return [None] * len(counts)
     if len(aads) != sum(counts):
         raise ValueError(f"there are {sum(counts):,} messages and {len(aads):,} aads")
-    ends = [sum(counts[: place + 1]) for place in range(len(counts))]
-    return [aads[end - count : end] for count, end in zip(counts, ends)]
+    return [aads[end - count : end] for count, end in zip(counts, accumulate(counts))]
 
 
 def _run_all(

@@ -9,7 +9,7 @@ import unittest
 from common import HERE, command, examples, example
 from hpkebatch import CapsuleReply, Reply, read_batch, read_capsules
 
-RANDOM = 40
+RANDOM = 24
 
 
 def asked(words, text):

@@ -83,7 +83,7 @@ class Files(InAFolder):
             self.assertEqual(sorted(os.listdir("there")), sorted(contents))
 
     def test_a_file_of_several_batches(self):
-        data = os.urandom(1 << 20) * 34 + b"end"
+        data = os.urandom(1 << 20) * 29 + b"end"
         self.sealed(large=data)
         os.remove("large")
         self.assertEqual(self.told("open", "--key", "bob.key", "large.hpke"), (0, "", ""))
