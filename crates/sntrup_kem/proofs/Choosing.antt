@@ -1,8 +1,12 @@
 -- A decapsulation step by step.
-use Rattle.std.proofs.Common.{◌≡◌, ℕ, ℤ, List, take, ap, ◌∙◌}
+use Rattle.std.proofs.Common.{◌≡◌, ℕ, Bool, true, false, cond, ℤ, List, take, bit_and, ap, sym, ◌∙◌, refl}
+use Rattle.std.proofs.lemmas.Bool.{false≢true}
+use Rattle.std.proofs.lemmas.Slice.Eq.{bytes_eq-Decides}
+use Rattle.std.specs.Str.{bytes_eq}
 use Rattle.ring_core.specs.Sets.{Set}
 use Rattle.radix_pack.specs.Codings.{small_encode}
 use Rattle.sntrup_kem.specs.Sizes.{rounded_size}
+use Rattle.sntrup_kem.specs.Hashes.{hash_session}
 use Rattle.sntrup_kem.specs.Kem.{f_part, ginv_part, public_part, rho_part, cache_part, hidden, plaintext, decrypted_r, hidden_again, chosen, decapsulated}
 
 -- r is the decryption, by the codings that are in the secret key
@@ -26,3 +30,28 @@ chosen_from set sk enc again r_enc rho key r er ea ec eh ek =
     ∙ ap (λ (t : List ℕ). chosen t r_enc rho enc) ea
     ∙ ap (λ (t : List ℕ). chosen (hidden_again set sk enc) t rho enc) (ec ∙ ap (λ (t : List ℤ). small_encode set.p t) er)
     ∙ ap (λ (t : List ℕ). chosen (hidden_again set sk enc) (small_encode set.p (decrypted_r set sk enc)) t enc) eh
+
+chosen_at : (b : Bool) (agree other key : List ℕ) → (b ≡ true → key ≡ agree) → (b ≡ false → key ≡ other) → key ≡ cond b agree other
+chosen_at true agree other key same differs = same refl
+chosen_at false agree other key same differs = differs refl
+
+-- the key of two cases
+pub chosen_by : (again r_enc rho enc key : List ℕ) → (again ≡ enc → key ≡ hash_session 1 r_enc enc) → ((again ≡ enc → ⊥) → key ≡ hash_session 0 rho enc) → key ≡ chosen again r_enc rho enc
+chosen_by again r_enc rho enc key same other =
+    let d = bytes_eq-Decides again enc in
+    chosen_at (bytes_eq again enc) (hash_session 1 r_enc enc) (hash_session 0 rho enc) key
+    (λ t. same (d.0 t))
+    (λ f. other (λ e. absurd (false≢true (sym f ∙ d.1 e))))
+
+-- what is hashed for either
+pub session_with : (b : ℕ) (y y' enc key : List ℕ) → key ≡ hash_session (bit_and b 1) y enc → b ≡ 255 → y ≡ y' → key ≡ hash_session 1 y' enc
+session_with b y y' enc key e eb ey =
+    e
+    ∙ ap (λ t. hash_session (bit_and t 1) y enc) eb
+    ∙ ap (λ t. hash_session 1 t enc) ey
+
+pub rejected_with : (b : ℕ) (y y' enc key : List ℕ) → key ≡ hash_session (bit_and b 1) y enc → b ≡ 0 → y ≡ y' → key ≡ hash_session 0 y' enc
+rejected_with b y y' enc key e eb ey =
+    e
+    ∙ ap (λ t. hash_session (bit_and t 1) y enc) eb
+    ∙ ap (λ t. hash_session 0 t enc) ey

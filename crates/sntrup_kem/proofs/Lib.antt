@@ -4,3 +4,4 @@ mod Drawing
 mod Agreement
 mod Generating
 mod Choosing
+pub mod Differences

@@ -1,6 +1,6 @@
 //! Session keys, and the encapsulations that carry them.
 
-ghost use Rattle.std.specs.Prelude.{◌≡◌, ◌+◌, ◌++◌, ◌^◌, ◌≤◌, length, IfOk, OnOk};
+ghost use Rattle.std.specs.Prelude.{◌≡◌, ◌+◌, ◌++◌, ◌^◌, ◌≤◌, length, take, IfOk, OnOk};
 ghost use Rattle.radix_pack.specs.Codings.{small_length, small_encode, small_decode, rq_length, rounded_length, IsMalformed};
 ghost use Rattle.rand_words.specs.Words.{TakesAtMost};
 ghost use Rattle.sntrup_kem.specs.Sizes.{hash_size};
@@ -8,6 +8,7 @@ ghost use Rattle.sntrup_kem.specs.Kem.{drawn_r, ciphertext, hidden, plaintext, e
 
 use crate::hashes::{hash_confirm, hash_session, key_hash};
 use crate::keys::{PublicKey, SecretKey};
+use crate::masks::{choose, difference, mask_of};
 use crate::params::KemParams;
 use radix_pack::{ByteList, rounded_decode, rounded_encode, rq_decode, small_decode, small_encode};
 use rand_words::{Words, short_random};
@@ -91,6 +92,7 @@ pub(crate) fn hide<S: Params, M: Multiplier>(
     ensures enc { IfOk result (λ h. h.enc ≡ hidden S.set public.now cache.now r.now) }
     ensures count { IfOk result (λ h. length h.enc ≡ rounded_length S.set + hash_size) }
     ensures r_enc { IfOk result (λ h. h.r_enc ≡ small_encode S.set.p r.now) }
+    ensures r_count { IfOk result (λ h. length h.r_enc ≡ small_length S.set.p) }
 {
     let c_enc = ciphertext(alloc, mult, public, r)?;
     let r_enc = small_encode(alloc, r)?;
@@ -194,15 +196,34 @@ fn decrypted<S: Params, M: Multiplier>(
     decrypt(alloc, mult, &c, &secret)
 }
 
-// The session key where Hide makes all bytes of the encapsulation, and else the rejection key.
+// These bytes, with zeros behind them.
+fn padded(bytes: &[u8]) -> [u8; 256]
+    requires { length bytes.now ≤ 256 }
+    ensures { take (length bytes.now) result ≡ bytes.now }
+{
+    let mut list = [0u8; 256];
+    list[..bytes.len()].copy_from_slice(bytes);
+    list
+}
+
+// The session key where Hide makes all bytes of the encapsulation, and else the rejection key. What
+// is hashed for either is made, and one of the two is hashed: the coding of r, or rho.
 fn chosen_key(again: &Hidden, enc: &[u8], rho: &[u8]) -> [u8; 32]
+    requires enc { length again.now.enc ≡ length enc.now }
+    requires enc_long { 16 ≤ length enc.now }
+    requires rho { length again.now.r_enc ≡ length rho.now }
+    requires rho_short { length rho.now ≤ 256 }
     ensures { result ≡ chosen again.now.enc again.now.r_enc rho.now enc.now }
 {
-    if again.enc.as_slice() == enc {
-        hash_session(1, again.r_enc.as_slice(), enc)
-    } else {
-        hash_session(0, rho, enc)
-    }
+    let agrees = mask_of(difference(again.enc.as_slice(), enc));
+    let mut secret = [0u8; 256];
+    choose(
+        agrees,
+        &padded(again.r_enc.as_slice()),
+        &padded(rho),
+        &mut secret,
+    );
+    hash_session(agrees & 1, &secret[..rho.len()], enc)
 }
 
 /// Decap (NTRU Prime round 3): the session key that the encapsulation carries, or a rejection key

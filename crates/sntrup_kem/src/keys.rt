@@ -248,7 +248,8 @@ impl<S: KemParams> SecretKey<S> {
 
     // What the rejection key is made of.
     pub(crate) fn rho(&self) -> &[u8]
-        ensures { result.now ≡ rho_part S.set self.now }
+        ensures bytes { result.now ≡ rho_part S.set self.now }
+        ensures count { length result.now ≡ small_size S.set }
     {
         let size = small_size::<S>();
         part(self.bytes.as_slice(), 2 * size + S::PUBLIC, size)

@@ -9,8 +9,10 @@
 //! of an encapsulation get a key that is made from them and a secret of the key. [`laws`] says that
 //! both ends get the same key, with every pair of keys that [`generate`] gives.
 //!
-//! Nothing is claimed of secrecy, and nothing is constant time or wiped; the comparison in
-//! [`decap`] may end early.
+//! Nothing is claimed of secrecy, and nothing is wiped. That no branch and no address of [`encap`]
+//! and [`decap`] depends on r, f, 1/g, rho or a session key, with a multiplier of which this holds,
+//! is tested over the built program, and not proved. The time of [`generate`] tells how many
+//! polynomials were drawn for g, and what `ring_inverse` says of inverses.
 #![tactic(auto)]
 
 mod encapsulation;
@@ -18,6 +20,7 @@ mod generation;
 mod hashes;
 mod keys;
 pub mod laws;
+mod masks;
 mod params;
 
 pub use encapsulation::{Enc, decap, encap};
