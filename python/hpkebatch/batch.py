@@ -6,11 +6,10 @@ printed in that of the format.
 
 from __future__ import annotations
 
-import itertools
 import secrets
 import threading
 from binascii import hexlify
-from typing import Any, Dict, Iterable, List, NoReturn, Optional, Sequence, Tuple, TypeVar, Union
+from typing import Any, Dict, Iterable, Iterator, List, NoReturn, Optional, Sequence, Tuple, TypeVar, Union
 
 from .asked import (
     Added,
@@ -33,9 +32,10 @@ from .suites import LIMITS, MOST_MESSAGES, SEED_SIZE, SNTRUP761, TAG_SIZE, Aead,
 
 C = TypeVar("C", bound=Call[Any])
 # Outcomes of which docs/FORMAT.md says that nothing was written: the batch can be run again.
-NOTHING_WRITTEN = (CommandNotFound, UsageError, BadBatch, ReadFault, OutOfMemory, BuildFailed)
+NOTHING_WRITTEN = (OverLimit, CommandNotFound, UsageError, BadBatch, ReadFault, OutOfMemory, BuildFailed)
 # What one argument of a command holds on Linux.
 MOST_SCHEDULE = 131_071
+LINES_OF_PIECE = 256
 
 
 def octets(data: bytes, most: int, what: str) -> bytes:
@@ -54,15 +54,35 @@ def number(value: int, least: int, most: int, what: str) -> bytes:
 
 
 class Line:
-    """A line of a lane that names an added context: its number isn't known before all lanes are."""
+    """A line of a lane. The number of an added context isn't known before all lanes are."""
 
     __slots__ = ("word", "context", "rest")
 
-    def __init__(self, word: bytes, context: Added, rest: bytes) -> None:
+    def __init__(self, word: bytes, context: Optional[AnyContext], rest: bytes) -> None:
         self.word, self.context, self.rest = word, context, rest
 
     def text(self) -> bytes:
-        return b"%b %b%b" % (self.word, self.context.name, self.rest)
+        name = b"" if self.context is None else b" " + self.context.name
+        return b"%b%b%b\n" % (self.word, name, self.rest)
+
+
+class Lines:
+    """Lines that seal or open many messages: their digits are made when they are written."""
+
+    __slots__ = ("fronts", "texts")
+
+    def __init__(self, fronts: Sequence[bytes], texts: Sequence[bytes]) -> None:
+        self.fronts, self.texts = fronts, texts  # one front is that of each line
+
+    def pieces(self) -> Iterator[bytes]:
+        one = self.fronts[0] if len(self.fronts) == 1 else None
+        for at in range(0, len(self.texts), LINES_OF_PIECE):
+            texts = self.texts[at : at + LINES_OF_PIECE]
+            if one is not None:
+                yield b"".join([one + (hexlify(text) or b"-") + b"\n" for text in texts])
+            else:
+                pairs = zip(self.fronts[at:], texts)
+                yield b"".join([front + (hexlify(text) or b"-") + b"\n" for front, text in pairs])
 
 
 class SeededBatch:
@@ -130,11 +150,22 @@ class SeededBatch:
         if asked.batch is not self:
             raise ValueError("this key, context or call is of another batch")
 
-    def _joined(self, lines: Iterable[bytes]) -> bytes:
-        text = b"\n".join(lines)
-        if len(text) > self.limits.input:
-            raise OverLimit(f"the batch has {len(text):,} bytes, and at most {self.limits.input:,} are allowed")
-        return text
+    def text(self) -> bytes:
+        """The batch as the program reads it. It has the seed and the secrets in plain text."""
+        return b"".join(self._within())
+
+    def pieces(self) -> Iterator[bytes]:
+        """The text, in pieces."""
+        raise NotImplementedError
+
+    def _within(self) -> Iterator[bytes]:
+        """The pieces, as long as they are within the limit."""
+        size = 0
+        for piece in self.pieces():
+            size += len(piece)
+            if size > self.limits.input:
+                raise OverLimit(f"the batch has more than {self.limits.input:,} bytes")
+            yield piece
 
     def __reduce_ex__(self, protocol: object) -> NoReturn:
         raise TypeError("a batch can't be copied or sent to another process: both could run it, with one seed")
@@ -147,7 +178,7 @@ class Lane:
         self.batch, self.number = batch, number
         self.calls: List[Call[Any]] = []
         self.has_openings = False  # of several messages: these have answers of several lines
-        self._lines: List[Union[bytes, Line]] = []
+        self._lines: List[Union[Line, Lines]] = []
 
     def seal(self, context: AnyContext, plaintext: bytes, aad: bytes = b"") -> SealCall:
         """Seals a message under a sender's context (RFC 9180, 5.2)."""
@@ -232,28 +263,25 @@ class Lane:
         self, word: bytes, context: Context, texts: Sequence[bytes], aads: Optional[Sequence[bytes]], most: int
     ) -> None:
         self.batch._own(context)
-        fronts: Iterable[bytes] = itertools.repeat(b"%b %b - " % (word, context.name), len(texts))
+        fronts = [b"%b %b - " % (word, context.name)]
         if aads is not None:
             limit = self.batch.limits.field
             fronts = [b"%b %b %b " % (word, context.name, octets(aad, limit, "associated data")) for aad in aads]
             if len(fronts) != len(texts):
                 raise ValueError(f"there are {len(texts):,} messages and {len(fronts):,} aads")
-        if max(map(len, texts), default=0) > most:
+        # Bytes stay as they are; of what may change, a copy is kept.
+        kept = [text if type(text) is bytes else memoryview(text).tobytes() for text in texts]
+        if max(map(len, kept), default=0) > most:
             raise OverLimit(f"a message has more than {most:,} bytes")
-        self.batch._count(len(texts), 0)
-        self._lines += [front + (hexlify(text) or b"-") for front, text in zip(fronts, texts)]
+        self.batch._count(len(kept), 0)
+        self._lines.append(Lines(fronts, kept))
 
     def _put(self, word: bytes, context: Optional[AnyContext], rest: bytes, items: int = 1, exported: int = 0) -> None:
+        if context is not None:
+            self.batch._own(context)
         self.batch._count(items, exported)
-        if context is None:
-            self._lines.append(word + rest)
-            return
-        self.batch._own(context)
-        if isinstance(context, Added):
-            self._lines.append(Line(word, context, rest))
-        else:
-            self._lines.append(b"%b %b%b" % (word, context.name, rest))
-        if not isinstance(context, Context):
+        self._lines.append(Line(word, context, rest))
+        if isinstance(context, (Added, AddedName)):
             self.batch._for_live()
 
     def _keep(self, call: C) -> C:
@@ -423,13 +451,14 @@ class Batch(SeededBatch):
 
     # ---- its text
 
-    def text(self) -> bytes:
-        """The batch as the program reads it. It has the seed and the secrets in plain text."""
-        lines = [*self._head(), *self._context_lines]
+    def pieces(self) -> Iterator[bytes]:
+        """The text, in pieces."""
+        yield b"\n".join([*self._head(), *self._context_lines, b""])
         for lane in self.lanes:
-            lines.append(b"lane")
-            lines += [line if isinstance(line, bytes) else line.text() for line in lane._lines]
-        return self._joined([*lines, b"end", b""])
+            yield b"lane\n"
+            for line in lane._lines:
+                yield from line.pieces() if isinstance(line, Lines) else (line.text(),)
+        yield b"end\n"
 
     def place_of(self, added: Added) -> int:
         """The number of an `add` line in the order of the text."""
@@ -479,10 +508,9 @@ class Batch(SeededBatch):
         return self._answered(["rehearse", word], runner)
 
     def _answered(self, words: Sequence[str], runner: Optional[Runner]) -> Reply:
-        text = self.text()
         before = self._close(words)
         try:
-            output = output_of(runner, words, text, self.asked_at)
+            output = output_of(runner, words, self._within(), self.asked_at)
         except NOTHING_WRITTEN:
             self._closed = before
             raise

@@ -3,12 +3,12 @@
 from __future__ import annotations
 
 import secrets
-from typing import Dict, List, Optional, TypeVar, Union, cast
+from typing import Dict, Iterator, List, Optional, TypeVar, Union, cast
 
 from .answers import LineAnswer, printed
 from .asked import Answer, AnyAsked, Ask, Asked, Key, Take
 from .batch import SeededBatch, number, octets, options
-from .command import Runner, output_of
+from .command import Runner, Text, output_of
 from .errors import OverLimit, ReplyError
 from .lines import Lines
 from .reply import Answered, answer_at, fitting, given
@@ -102,9 +102,8 @@ class CapsuleBatch(SeededBatch):
         self.capsules.append(capsule)
         return capsule
 
-    def text(self) -> bytes:
-        """The batch as the program reads it. It has the seed and the secrets in plain text."""
-        return self._joined([*self._head(), *self._capsule_lines, b"end", b""])
+    def pieces(self) -> Iterator[bytes]:
+        yield b"\n".join([*self._head(), *self._capsule_lines, b"end", b""])
 
     def asked_at(self, line: int) -> Optional[AnyAsked]:
         """What a line of the text was made for; None for a line that asks for nothing."""
@@ -114,7 +113,7 @@ class CapsuleBatch(SeededBatch):
 
     def run(self, *, mult: Optional[str] = None, runner: Optional[Runner] = None) -> CapsuleReply:
         words = ["capsules", *options(None, mult)]
-        output = output_of(runner, words, self.text(), self.asked_at)
+        output = output_of(runner, words, self._within(), self.asked_at)
         self._closed = " ".join(words)
         return CapsuleReply(self, output)
 
@@ -122,7 +121,7 @@ class CapsuleBatch(SeededBatch):
 class CapsuleReply:
     """The reply to a batch of capsules: `reply[asked]`, and `reply.answer(asked)`, as of other batches."""
 
-    def __init__(self, batch: CapsuleBatch, text: bytes) -> None:
+    def __init__(self, batch: CapsuleBatch, text: Text) -> None:
         self.batch = batch
         self._lines = Lines(text)
         self._places: Dict[int, int] = {id(it): at for at, it in enumerate((*batch.keys, *batch.capsules), 1)}

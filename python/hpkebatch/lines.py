@@ -2,19 +2,20 @@
 
 from __future__ import annotations
 
+from binascii import unhexlify
 from typing import List, Union
 
-from .answers import get
+from .command import Text
 from .errors import ReplyError
 
 
 class Lines:
     """The lines of a whole reply, numbered from 0, without their line feeds. A line that isn't there is empty."""
 
-    def __init__(self, text: bytes) -> None:
+    def __init__(self, text: Text) -> None:
         self.text = text
         self._starts = [0]  # where each line begins, and one behind it, as far as was looked
-        if not text.endswith(b"\nend\n"):
+        if text[-5:] != b"\nend\n":
             raise ReplyError(len(self) + 1, "the reply is cut: its last line isn't `end`")
 
     def __len__(self) -> int:
@@ -43,9 +44,11 @@ class Lines:
         self._look(end)
         text, starts, texts = self.text, self._starts, []
         for number in range(end - first):
-            start = starts[first + number]
             front = form % number
-            if not text.startswith(front, start):
+            start = starts[first + number]
+            middle = start + len(front)
+            if text[start:middle] != front:
                 return number
-            texts.append(get(text[start + len(front) : starts[first + number + 1] - 1]))
+            digits = text[middle : starts[first + number + 1] - 1]
+            texts.append(b"" if digits == b"-" else unhexlify(digits))
         return texts

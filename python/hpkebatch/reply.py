@@ -18,7 +18,7 @@ from .answers import (
     read_batch_line,
 )
 from .asked import Added, AnyAsked, AnyContext, Asked, Call, Key, UnsealAllCall
-from .command import Runner, output_of
+from .command import Runner, Text, output_of
 from .errors import IllegalReply, ReplyError
 from .lines import Lines
 
@@ -97,7 +97,7 @@ class Reply:
     """The reply to a batch. `reply[asked]` is the answer to a key, a context or a call, and raises where there is
     none; `reply.answer(asked)` tells of refusals too, and raises for none of them."""
 
-    def __init__(self, batch: Batch, text: bytes, *, is_live: bool = False) -> None:
+    def __init__(self, batch: Batch, text: Text, *, is_live: bool = False) -> None:
         self.batch, self.is_live = batch, is_live
         self.lines = Lines(text)
         self.lines.expect(0, b"hpkebatch %d" % batch.version)
@@ -252,7 +252,7 @@ class Reply:
         if self.is_live:
             raise ValueError("the program judges replies of run and rehearse, and none of live")
         try:
-            check(self.batch.text(), self.lines.text, mult=mult, runner=runner)
+            _check([*self.batch.pieces(), self.lines.text], mult, runner)
         except IllegalReply as fault:
             raise IllegalReply(fault.kind, fault.at, self._about(fault)) from None
         return self
@@ -265,7 +265,11 @@ class Reply:
 
 def check(batch: bytes, reply: bytes, *, mult: Optional[str] = None, runner: Optional[Runner] = None) -> None:
     """Has the program judge two texts, whoever wrote them; raises BadBatch or IllegalReply."""
-    output_of(runner, ["check", *([] if mult is None else ["--mult", mult])], batch + reply)
+    _check([batch, reply], mult, runner)
+
+
+def _check(pieces: Sequence[Text], mult: Optional[str], runner: Optional[Runner]) -> None:
+    output_of(runner, ["check", *([] if mult is None else ["--mult", mult])], pieces)
 
 
 def rows_at(lines: Lines, at: int, width: int) -> Tuple[List[List[int]], int]:

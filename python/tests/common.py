@@ -40,6 +40,6 @@ class Told:
     def __init__(self, output=b"", status=0, errors=b""):
         self.finished, self.asked = Finished(status, output, errors), []
 
-    def __call__(self, words, text):
-        self.asked.append((list(words), text))
+    def __call__(self, words, pieces):
+        self.asked.append((list(words), b"".join(pieces)))
         return self.finished

@@ -144,9 +144,9 @@ class Parts(unittest.TestCase):
             for messages in ([b"x"] * 35, [bytes(n * 40) for n in range(35)]):
                 batches = []
 
-                def runner(words, text):
-                    batches.append(text)
-                    return command(words, text)
+                def runner(words, pieces):
+                    batches.append(b"".join(pieces))
+                    return command(words, [batches[-1]])
 
                 aads = [b"%d" % n for n in range(35)]
                 sealed = hpkebatch.seal(messages, to=PAIR.public, aads=aads, runner=runner, limits=limits)
