@@ -10,7 +10,7 @@
 //! with `None` exactly where an item wasn't checked there.
 //!
 //! Nothing here waits for a lock, decrypts, or keeps a sequence number. Only making a table takes
-//! memory. Nothing is constant time: a table is indexed by numbers, and its key by secret bytes.
+//! memory. A table is indexed by numbers, which are public, and holds verdicts, which are told.
 #![tactic(auto)]
 
 mod rows;
