@@ -1,5 +1,5 @@
--- Rows that grow verdict by verdict, and tables that grow row by row.
-use Rattle.std.proofs.Common.{◌≡◌, ◌≢◌, ℕ, ◌+◌, ◌-◌, ◌<◌, ◌≤◌, ◌↔◌, min, Bool, false, IsTrue, List, length, get_or, arith, below_more, get_or-set_other, get_or-set_same, set, sym, subst, ◌∙◌, take, slice_index_or, slice_get, [], ◌++◌, Some, get_or-take, length-take, length-append, Option, None, refl}
+-- Rows of four verdicts, and tables that grow row by row.
+use Rattle.std.proofs.Common.{◌≡◌, ℕ, ◌+◌, ◌-◌, ◌<◌, ◌≤◌, ◌↔◌, min, Bool, false, IsTrue, List, length, get_or, arith, sym, subst, ◌∙◌, take, slice_index_or, slice_get, [], ◌++◌, Some, get_or-take, length-take, length-append, Option, None, refl}
 use Rattle.std.proofs.lemmas.List.{get_or_append_left, length-take-le, length-map}
 use Rattle.std.proofs.lemmas.Option.{slice_get-map, slice_get_within, none-some, same_Some}
 use Rattle.std.specs.Option.{option_map}
@@ -23,27 +23,6 @@ row_of_four guess limit key base_nonce i x row right n c =
     let most : n ≤ guess + i = c.0 in
     let least : guess + i ≤ n + min i 3 = c.1 in
     right (guess + i - n) (omega arith) n (omega arith) (omega arith) c.2
-
--- one verdict more, at a number where the item is checked
-pub right_more : (guess limit : ℕ) (key base_nonce : List ℕ) (i : ℕ) (x : SealedMessage) (row : List Bool) (m number : ℕ) (v : Bool)
-    → ((k : ℕ) → k < m → IsRight guess limit key base_nonce i x row k) → m < length row → number + m ≡ guess + i
-    → IsTrue v ↔ OpensAt key base_nonce number x
-    → (k : ℕ) → k < m + 1 → IsRight guess limit key base_nonce i x (set row m v) k
-right_more guess limit key base_nonce i x row m number v right within is_number verdict =
-    below_more _ _ (λ k h n e l w.
-    let other : k ≢ m = omega arith in
-    subst (λ b. IsTrue b ↔ OpensAt key base_nonce n x) (sym (get_or-set_other row m k v false other)) (right k h n e l w))
-    (λ n e l w.
-    let same : number ≡ n = omega arith in
-    subst (λ b. IsTrue b ↔ OpensAt key base_nonce n x) (sym (get_or-set_same row m v false within))
-    (subst (λ p. IsTrue v ↔ OpensAt key base_nonce p x) same verdict))
-
--- one verdict more, where the item isn't checked
-pub right_past : (guess limit : ℕ) (key base_nonce : List ℕ) (i : ℕ) (x : SealedMessage) (row : List Bool) (m : ℕ)
-    → ((k : ℕ) → k < m → IsRight guess limit key base_nonce i x row k) → (m ≤ i → limit + m < guess + i)
-    → (k : ℕ) → k < m + 1 → IsRight guess limit key base_nonce i x row k
-right_past guess limit key base_nonce i x row m right past =
-    below_more _ _ right (λ n e l w. let above : limit + m < guess + i = past l in absurd (omega arith))
 
 -- what the check of a hashed ciphertext tells
 pub opens_is : (key base_nonce : List ℕ) (n : ℕ) (x : SealedMessage) (h : HashedView) (aad ct nonce : List ℕ) (v : Bool)

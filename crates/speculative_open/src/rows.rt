@@ -4,6 +4,7 @@ ghost use Rattle.std.specs.Prelude.{◌≡◌, ◌≤◌, ◌<◌, ◌+◌, ◌�
 ghost use Rattle.call_places.specs.declared.spans.Item.{Item};
 ghost use Rattle.call_places.specs.Messages.{sealed_message};
 ghost use Rattle.call_places.specs.Spans.{ItemIsInPool};
+ghost use Rattle.key_schedule.specs.Nonces.{compute_nonce};
 ghost use Rattle.speculative_open.specs.Tables.{IsChecked, IsRow};
 
 use aes_gcm::GcmKey;
@@ -16,7 +17,7 @@ use std::thread::Threads;
 const WINDOW: usize = 4;
 
 /// Verdict k of row i is that of item i at the number guess + i - k. Where the item isn't checked
-/// there it is false, and nobody reads it.
+/// there, nobody reads it.
 pub(crate) type Row = [bool; WINDOW];
 
 /// A row before its item is checked.
@@ -49,21 +50,16 @@ pub(crate) struct Opener<'a> {
 }
 
 impl Opener<'_> {
-    // The number guess + i - k, if item i is checked there.
-    fn number(&self, i: usize, k: usize) -> Option<u64>
-        ensures some { IfSome result (λ n. (n + k ≡ self.now.guess + i) × (k ≤ i)
-            × (n ≤ self.now.limit)) }
-        ensures none { IsNone result → k ≤ i → self.now.limit + k < self.now.guess + i }
+    // The nonce of the number guess + i - k. Where that is no number up to LIMIT, it is any nonce.
+    fn nonce(&self, i: usize, k: usize) -> [u8; 12]
+        ensures { (n : ℕ) → n + k ≡ self.now.guess + i → n ≤ self.now.limit
+            → result ≡ compute_nonce self.now.base_nonce.now n }
     {
-        let ahead = i.checked_sub(k)?;
-        let number = self.guess.checked_add(ahead as u64)?;
-        if number > self.limit {
-            return None;
-        }
-        Some(number)
+        let number = self.guess.wrapping_add(i as u64).wrapping_sub(k as u64);
+        nonce_at(self.base_nonce, number)
     }
 
-    // Row i, of this item. One hash of the item serves all its numbers.
+    // Row i, of this item. One hash of the item serves all its numbers, and one call of the cipher.
     pub(crate) fn row<R: Threads>(&self, rt: &R, i: usize, item: Item) -> Row
         requires { ItemIsInPool (length self.now.pool.now) item }
         ensures { IsRow self.now.guess self.now.limit self.now.key.now self.now.base_nonce.now i
@@ -72,13 +68,12 @@ impl Opener<'_> {
         let hashed = self
             .key
             .hash_ciphertext(rt, item.aad.of(self.pool), item.text.of(self.pool));
-        let mut row = BLANK;
-        for k in 0..WINDOW {
-            if let Some(number) = self.number(i, k) {
-                row[k] = hashed.holds_at(&nonce_at(self.base_nonce, number));
-            }
-        }
-        row
+        hashed.hold_at(&[
+            self.nonce(i, 0),
+            self.nonce(i, 1),
+            self.nonce(i, 2),
+            self.nonce(i, 3),
+        ])
     }
 
     // The rows of the items from index `start` on.
