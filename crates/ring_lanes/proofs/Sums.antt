@@ -1,16 +1,17 @@
 -- Rows of products, and the convolution that they sum up to.
-use Rattle.std.proofs.Common.{◌≡◌, ℕ, zero, suc, ◌+◌, ◌-◌, ◌*◌, ◌^◌, ◌<◌, ◌≤◌, ℤ, pos, List, length, take, arith, ap, sym, ◌∙◌, inl, inr}
-use Rattle.std.specs.Prelude.{◌+ℤ◌, ◌*ℤ◌, unsigned_abs}
+use Rattle.std.proofs.Common.{◌≡◌, ℕ, zero, suc, ◌+◌, ◌-◌, ◌*◌, ◌^◌, ◌<◌, ◌≤◌, ℤ, pos, negsuc, List, length, take, set, get_or-set_same, get_or-set_other, arith, ap, sym, ◌∙◌, refl, inl, inr}
+use Rattle.std.specs.Prelude.{◌+ℤ◌, ◌-ℤ◌, ◌*ℤ◌, ◌≤ℤ◌, unsigned_abs}
+use Rattle.std.specs.Int.RustNames.{int_div}
 use Rattle.std.proofs.lemmas.Bool.{cases_lt}
 use Rattle.std.proofs.lemmas.Int.{ints, unsigned_abs-mul}
-use Rattle.std.proofs.lemmas.List.{get_or_past, length-take}
+use Rattle.std.proofs.lemmas.List.{get_or_past, length-set, length-take}
 use Rattle.std.proofs.lemmas.Nat.{mul-le}
 use Rattle.ring_core.specs.Product.{Series, coefficients, conv}
 use Rattle.ring_core.specs.Rows.{shifted}
 use Rattle.ring_core.proofs.IntegerLaws.{int_zero-mul, int_mul-zero, int_mul_comm}
 use Rattle.ring_core.proofs.Partial.{conv_more, conv_none}
 use Rattle.ring_core.proofs.QuotientLaws.{below, below_low, below_high, shifted_low, shifted_high, conv_shifted, same_series}
-use Rattle.ring_core.proofs.SeriesLaws.{conv_comm}
+use Rattle.ring_core.proofs.SeriesLaws.{conv_add, conv_comm, conv_scale}
 use Rattle.ring_lanes.specs.Rows.{rows_sum}
 
 -- the first i rows, and n more
@@ -154,6 +155,13 @@ shifted_within p most s t k e wide =
 pub taken_past : (n k : ℕ) (xs ys : List ℤ) → ys ≡ take n xs → n ≤ k → coefficients ys k ≡ pos 0
 taken_past n k xs ys e h = get_or_past ys k (pos 0) (omega (arith, ap length e, length-take n xs))
 
+pub taken_within : (bound n m : ℕ) (xs : List ℤ) → n ≡ m → ((k : ℕ) → k < m → unsigned_abs (coefficients (take n xs) k) ≤ bound) → (k : ℕ) → unsigned_abs (coefficients (take n xs) k) ≤ bound
+taken_within bound n m xs e h k =
+    elim (cases_lt k m) [
+      | inl low ↦ h k low
+      | inr past ↦ omega (arith, ap unsigned_abs (taken_past n k xs (take n xs) refl (omega arith)))
+    ]
+
 -- the rows that are not left out, at place l of the block that begins at `at`
 pub block_sum : (f h : Series) (count size at first last l : ℕ) → ((k : ℕ) → k < 32 → h k ≡ pos 0) → ((k : ℕ) → count + 32 ≤ k → h k ≡ pos 0) → ((i : ℕ) → size ≤ i → f i ≡ pos 0) → 8 * first ≤ at - count → first ≤ last → 8 * last ≤ at + 32 → ((i : ℕ) → 8 * last ≤ i → i < at + 32 → size ≤ i) → l < 32 → rows_sum (λ i. f (8 * first + i)) h (at + 32 - 8 * first + l) (8 * (last - first)) ≡ conv f h (at + l + 32)
 block_sum f h count size at first last l front back ends start order low high lane =
@@ -175,3 +183,68 @@ block_sum f h count size at first last l front back ends start order low high la
       ap (rows_sum f h k) (let e : 8 * first + n ≡ 8 * last = omega arith in e),
       ap (λ t. rows_sum (λ i. f (8 * first + i)) h t n) (let e : at + 32 - 8 * first + l ≡ k - 8 * first = omega arith in e),
     )
+
+-- ---- two sums in one number
+
+-- the terms of an odd place: those of even and odd factors apart
+conv_odd : (f g : Series) (n : ℕ) → conv f g (2 * n + 1) ≡ conv (λ i. f (2 * i)) (λ i. g (2 * i + 1)) n +ℤ conv (λ i. f (2 * i + 1)) (λ i. g (2 * i)) n
+conv_odd f g zero = omega (arith, ints)
+conv_odd f g (suc n) =
+    let e : 2 * suc n + 1 ≡ suc (suc (2 * n + 1)) = omega arith in
+    let shift : (i : ℕ) → 2 * suc i ≡ suc (suc (2 * i)) = λ i. omega arith in
+    omega (
+      arith,
+      ints,
+      ap (conv f g) e,
+      conv_odd (λ i. f (suc (suc i))) g n,
+      ap (λ t. f 0 *ℤ g t) (let a : suc (suc (2 * n + 1)) ≡ 2 * suc n + 1 = omega arith in a),
+      ap (λ t. f 1 *ℤ g t) (let a : suc (2 * n + 1) ≡ 2 * suc n = omega arith in a),
+      ap (λ s. conv s (λ i. g (2 * i + 1)) n) (same_series (λ i. f (2 * suc i)) (λ i. f (suc (suc (2 * i)))) (λ i. ap f (shift i))),
+      ap (λ s. conv s (λ i. g (2 * i)) n) (same_series (λ i. f (2 * suc i + 1)) (λ i. f (suc (suc (2 * i + 1)))) (λ i. ap f (let a : 2 * suc i + 1 ≡ suc (suc (2 * i + 1)) = omega arith in a))),
+    )
+
+-- each number holds two neighbouring sums
+pub conv_pairs : (f g h : Series) (n : ℕ) → ((k : ℕ) → h k ≡ shifted 1 g k +ℤ (pos 2048 *ℤ g k)) → conv (λ i. f (2 * i)) (λ i. h (2 * i + 1)) n +ℤ conv (λ i. f (2 * i + 1)) (λ i. h (2 * i)) n ≡ conv f g (2 * n) +ℤ (pos 2048 *ℤ conv f g (2 * n + 1))
+conv_pairs f g h n e =
+    sym (conv_odd f h n)
+    ∙ conv_comm f h (2 * n + 1)
+    ∙ ap (λ s. conv s f (2 * n + 1)) (same_series h (λ k. shifted 1 g k +ℤ (pos 2048 *ℤ g k)) e)
+    ∙ conv_add (shifted 1 g) (λ k. pos 2048 *ℤ g k) f (2 * n + 1)
+    ∙ ap (λ t. t +ℤ conv (λ k. pos 2048 *ℤ g k) f (2 * n + 1)) (conv_shifted 1 g f (2 * n + 1) ∙ shifted_high 1 (conv g f) (2 * n) (2 * n + 1) (omega arith) ∙ conv_comm g f (2 * n))
+    ∙ ap (λ t. conv f g (2 * n) +ℤ t) (conv_scale (pos 2048) g f (2 * n + 1) ∙ ap (λ t. pos 2048 *ℤ t) (conv_comm g f (2 * n + 1)))
+
+-- the same of the lists that the code has
+pub held_pairs : (f g h f0 f1 h0 h1 : Series) (even odd : ℤ) (n : ℕ) → ((k : ℕ) → h k ≡ shifted 1 g k +ℤ (pos 2048 *ℤ g k)) → ((i : ℕ) → f0 i ≡ f (2 * i)) → ((i : ℕ) → h1 i ≡ h (2 * i + 1)) → ((i : ℕ) → f1 i ≡ f (2 * i + 1)) → ((i : ℕ) → h0 i ≡ h (2 * i)) → even ≡ conv f0 h1 n → odd ≡ conv f1 h0 n → even +ℤ odd ≡ conv f g (2 * n) +ℤ (pos 2048 *ℤ conv f g (2 * n + 1))
+held_pairs f g h f0 f1 h0 h1 even odd n is ef0 eh1 ef1 eh0 e o =
+    omega (
+      arith,
+      ints,
+      e
+          ∙ ap (λ s. conv s h1 n) (same_series f0 (λ i. f (2 * i)) ef0)
+          ∙ ap (λ s. conv (λ i. f (2 * i)) s n) (same_series h1 (λ i. h (2 * i + 1)) eh1),
+      o
+          ∙ ap (λ s. conv s h0 n) (same_series f1 (λ i. f (2 * i + 1)) ef1)
+          ∙ ap (λ s. conv (λ i. f (2 * i + 1)) s n) (same_series h0 (λ i. h (2 * i)) eh0),
+      conv_pairs f g h n is,
+    )
+
+-- the two sums of a number stand apart
+pub apart_more : (sums : List ℤ) (c : Series) (n : ℕ) (x y : ℤ) → 2 * n + 1 < length sums → x ≡ c (2 * n) → y ≡ c (2 * n + 1) → ((k : ℕ) → k < 2 * n → coefficients sums k ≡ c k) → (k : ℕ) → k < 2 * (n + 1) → coefficients (set (set sums (2 * n) x) (2 * n + 1) y) k ≡ c k
+apart_more sums c n x y fit ex ey before k l =
+    let first : List ℤ = set sums (2 * n) x in
+    elim (cases_lt k (2 * n + 1)) [
+      | inl low ↦ get_or-set_other first (2 * n + 1) k y (pos 0) (omega arith) ∙ elim (cases_lt k (2 * n)) [
+        | inl lower ↦ get_or-set_other sums (2 * n) k x (pos 0) (omega arith) ∙ before k lower
+        | inr at ↦
+            let same : 2 * n ≡ k = omega arith in
+            ap (coefficients first) (sym same) ∙ get_or-set_same sums (2 * n) x (pos 0) (omega arith) ∙ ex ∙ ap c same
+      ]
+      | inr from ↦
+          let same : 2 * n + 1 ≡ k = omega arith in
+          ap (coefficients (set first (2 * n + 1) y)) (sym same) ∙ get_or-set_same first (2 * n + 1) y (pos 0) (omega (arith, length-set sums (2 * n) x)) ∙ ey ∙ ap c same
+    ]
+
+-- the second of the two sums of a number that was moved up
+pub second_is : (z first second : ℤ) → unsigned_abs first ≤ 1023 → z ≡ first +ℤ (pos 2048 *ℤ second) +ℤ pos 8389632 → pos 0 ≤ℤ z → int_div z (pos 2048) -ℤ pos 4096 ≡ second
+second_is (pos a) first second small e low = omega (arith, ints)
+second_is (negsuc a) first second small e low = absurd (omega (arith, ints))

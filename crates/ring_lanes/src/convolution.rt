@@ -96,7 +96,7 @@ fn write_sums(sums: &mut [i32], factors: &[i16], long: &[i16], count: usize)
 // The 2n sums of the convolution of `small` and `long`, of n coefficients each.
 pub(crate) fn convolution(
     alloc: Global,
-    small: &[i8],
+    small: &[i16],
     long: &[i16],
 ) -> Result<Vec<i32>, OutOfMemory>
     requires same { length small.now ≡ length long.now }

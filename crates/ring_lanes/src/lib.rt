@@ -13,5 +13,6 @@
 mod convolution;
 mod multiplier;
 mod padding;
+mod pairs;
 
 pub use multiplier::Lanes;

@@ -1,6 +1,7 @@
 //! Products in both rings.
 
 use crate::convolution::convolution;
+use crate::pairs::small_convolution;
 use ring_core::words::small_to_16;
 use ring_core::{Multiplier, Params, Rq, Small};
 use std::alloc::{AllocError as OutOfMemory, Global};
@@ -16,7 +17,7 @@ impl Multiplier for Lanes {
         a: &Rq<S>,
         b: &Small<S>,
     ) -> Result<Rq<S>, OutOfMemory> {
-        let sums = convolution(alloc, b.as_slice(), a.as_slice())?;
+        let sums = convolution(alloc, &small_to_16(alloc, b.as_slice())?, a.as_slice())?;
         Rq::from_sums(alloc, &sums)
     }
 
@@ -26,7 +27,7 @@ impl Multiplier for Lanes {
         a: &Small<S>,
         b: &Small<S>,
     ) -> Result<Small<S>, OutOfMemory> {
-        let sums = convolution(alloc, b.as_slice(), &small_to_16(alloc, a.as_slice())?)?;
+        let sums = small_convolution(alloc, b.as_slice(), a.as_slice())?;
         Small::from_sums(alloc, &sums)
     }
 }

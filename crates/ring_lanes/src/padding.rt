@@ -35,18 +35,18 @@ pub(crate) fn padded(
 }
 
 // Writes each number eight times, over zeros.
-fn write_eightfold(copies: &mut [i16], list: &[i8])
+fn write_eightfold(copies: &mut [i16], list: &[i16])
     requires room { 8 * length list.now ≤ length copies.old }
     requires zeros { (k : ℕ) → coefficients copies.old k ≡ pos 0 }
     ensures { (i j : ℕ) → j < 8 → coefficients copies.new (8 * i + j) ≡ coefficients list.now i }
 {
     for i in 0..list.len() {
-        i16x8::splat(i16::from(list[i])).copy_to_slice(&mut copies[8 * i..]);
+        i16x8::splat(list[i]).copy_to_slice(&mut copies[8 * i..]);
     }
 }
 
 // Eight copies of each number, with zeros up to `count` numbers behind them.
-pub(crate) fn eightfold(alloc: Global, list: &[i8], count: usize) -> Result<Vec<i16>, OutOfMemory>
+pub(crate) fn eightfold(alloc: Global, list: &[i16], count: usize) -> Result<Vec<i16>, OutOfMemory>
     requires room { 8 * length list.now ≤ count }
     ensures count { IfOk result (λ v. vec_len v ≡ count) }
     ensures copies { IfOk result (λ v. AreEights v.items) }

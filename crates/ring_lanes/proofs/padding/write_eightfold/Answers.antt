@@ -1,7 +1,7 @@
 use Rattle.std.proofs.Common.{◌≡◌, ◌+◌, ◌*◌, pos, arith, rules, sym, ◌∙◌, inl, inr}
 use Rattle.std.proofs.lemmas.Bool.{cases_lt}
 use Rattle.std.proofs.lemmas.List.{get_or_past}
-use Rattle.std.specs.Int.{cast_signed, cast_unsigned, w8, w16}
+use Rattle.std.specs.Int.{cast_signed, cast_unsigned, w16}
 use Rattle.std.specs.Int.RustNames.{FitsSigned}
 use Rattle.std.proofs.lemmas.Int.{to_z-of_z}
 use Rattle.std.proofs.lemmas.Simd.{length-put_chunk}
@@ -14,10 +14,9 @@ loop-i-preserved c =
     let copies = c.loop-i.copies in
     let list = c.args.list.now in
     let i = c.loop-i.i in
-    let x = cast_signed w16 (cast_unsigned w16 c.from.result) in
-    let fits : FitsSigned w8 (coefficients list i) = search rules in
-    let fits_from : FitsSigned w16 c.from.result = search rules in
-    let value : x ≡ coefficients list i = to_z-of_z w16 c.from.result fits_from ∙ (simp to_z-of_z at c.from.ensures) in (
+    let x = cast_signed w16 (cast_unsigned w16 (coefficients list i)) in
+    let fits : FitsSigned w16 (coefficients list i) = search rules in
+    let value : x ≡ coefficients list i = to_z-of_z w16 (coefficients list i) fits in (
       length-put_chunk (8 * i) copies _ ∙ c.loop-i.invariant.0,
       eightfold_more copies list i x value (omega (arith, c.loop-i.invariant.0)) c.loop-i.invariant.1,
       eightfold_left copies i x c.loop-i.invariant.2,

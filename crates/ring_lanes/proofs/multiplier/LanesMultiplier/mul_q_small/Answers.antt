@@ -1,4 +1,4 @@
-use Rattle.std.proofs.Common.{arith}
+use Rattle.std.proofs.Common.{arith, ◌∙◌}
 use Rattle.ring_core.proofs.Reduce.{product_from_lists}
 use Rattle.ring_lanes.proofs.Residues.{IsCentred-within}
 use Rattle.ring_lanes.proofs.multiplier.LanesMultiplier.mul_q_small.Goals as goal
@@ -10,4 +10,4 @@ convolution-requires-clause-long_small g c =
 
 pub returns : goal.returns
 returns g c =
-    rw (product_from_lists g.S.Params.set.q g.S.Params.set.p _ _ _ _ _ _ c.as_slice-2.ensures.list c.as_slice.ensures.list c.as_slice-2.ensures.centred.0 c.deref.ensures.value c.in_ok-sums.ensures.sums) at c.from_sums.ensures
+    rw (product_from_lists g.S.Params.set.q g.S.Params.set.p _ _ _ _ _ _ c.as_slice-2.ensures.list (c.deref.ensures.value ∙ c.in_ok-small_to_16.ensures ∙ c.as_slice.ensures.list) c.as_slice-2.ensures.centred.0 c.deref-2.ensures.value c.in_ok-sums.ensures.sums) at c.from_sums.ensures
