@@ -202,7 +202,8 @@ class Work:
                         if file in self.faults:
                             break
                         yield self.read(file, part, head, source)
-                    self._expect_end(job, source)
+                    else:
+                        self._expect_end(job, source)
             except OSError as fault:
                 self.faults[file] = FileFault(job.source, fault.strerror or "it can't be read")
             except FileFault as fault:
