@@ -31,7 +31,7 @@ from typing import BinaryIO, Callable, Dict, Iterator, List, NamedTuple, Optiona
 
 from .command import Runner
 from .errors import FileFault
-from .messages import Contents, KeyPair, Part, Suite, open_contexts, seal_contexts
+from .messages import Contents, KeyPair, Suite, open_contexts, seal_contexts
 from .suites import KEMS, LIMITS, TAG_SIZE, Aead, Kdf, Kem, kem_of_public, kem_of_secret
 
 MAGIC = b"hpkebatch sealed 1\n"
@@ -202,7 +202,8 @@ class Work:
                         if file in self.faults:
                             break
                         yield self.read(file, part, head, source)
-                    self._expect_end(job, source)
+                    else:
+                        self._expect_end(job, source)
             except OSError as fault:
                 self.faults[file] = FileFault(job.source, fault.strerror or "it can't be read")
             except FileFault as fault:

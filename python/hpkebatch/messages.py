@@ -9,7 +9,7 @@ import secrets
 from concurrent.futures import Executor
 from dataclasses import dataclass
 from itertools import accumulate
-from typing import Callable, Iterable, Iterator, List, NamedTuple, Optional, Sequence, Tuple, TypeVar, Union
+from typing import Callable, Generic, Iterable, Iterator, List, NamedTuple, Optional, Sequence, Tuple, TypeVar, Union
 
 from .batch import Batch, Lane
 from .command import Runner
@@ -308,10 +308,10 @@ def _run_all(
 ) -> Iterator[List[T]]:
     """What each task gives, in their order."""
     done = 0
-    futures = None if executor is None else [executor.submit(_do, secrets.token_bytes(16), task, *it) for it in tasks]
+    futures = None if executor is None else [executor.submit(_Task(task, it)) for it in tasks]
     try:
         for place, it in enumerate(tasks):
-            yield task(*it) if futures is None else futures[place].result()
+            yield task(*it) if futures is None else futures[place].result().made
             done += counts[place]
             if progress is not None:
                 progress(done, sum(counts))
@@ -323,9 +323,20 @@ def _run_all(
 # ---- one batch: functions that an executor may send to another process
 
 
-def _do(_: bytes, task: Callable[..., List[T]], *given: object) -> List[T]:
-    """Does a task. Its token is random, since some engines give two tasks with the same arguments one result."""
-    return task(*given)
+class _Task(Generic[T]):
+    """A task with what it is given and what it gives, as one object: some engines look at each message of a list.
+
+    Its token is random, since some engines give two tasks that are the same one result.
+    """
+
+    def __init__(self, task: Callable[..., List[T]], given: Tuple[object, ...]) -> None:
+        self.task, self.given, self.token = task, given, secrets.token_bytes(16)
+        self.made: List[T] = []
+
+    def __call__(self) -> _Task[T]:
+        done = _Task(self.task, ())
+        done.made = self.task(*self.given)
+        return done
 
 
 class Suite(NamedTuple):

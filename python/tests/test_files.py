@@ -88,6 +88,15 @@ class Files(InAFolder):
         os.remove("large")
         self.assertEqual(self.told("open", "--key", "bob.key", "large.hpke"), (0, "", ""))
         self.assertTrue(read("large") == data)
+        os.remove("large")
+        with open("large.hpke", "r+b") as file:
+            file.seek(5_000_000)
+            file.write(b"~~")
+        self.assertEqual(
+            self.told("open", "--key", "bob.key", "large.hpke"),
+            (1, "", "hpkebatch: large.hpke: it is spoilt in its MiB number 5; nothing of it was written\n"),
+        )
+        self.assertEqual(sorted(os.listdir()), ["bob.key", "bob.pub", "large.hpke"])
 
     def test_long_work_tells_how_far_it_is(self):
         self.write("text", bytes(3 << 20))
