@@ -10,13 +10,9 @@
 //! and answers `None` if the item wasn't checked there, and only then.
 //!
 //! Nothing here waits for a lock, decrypts, or keeps a sequence number. Only making a table takes
-<<<<<<< HEAD
-//! memory. A table is indexed by sequence numbers, which are public.
+//! memory. A table is indexed by sequence numbers, which are public, and holds verdicts.
 //!
 //! Tests: `core_tests`.
-=======
-//! memory. A table is indexed by numbers, which are public, and holds verdicts, which are told.
->>>>>>> 10fe8fb01d9ada3badfdc256f811bd4bd708c78e
 #![tactic(auto)]
 
 mod rows;
