@@ -50,7 +50,14 @@ fn assert_block(
     let block = key.encrypt_block(&plaintext);
     assert_bytes(rt, alloc, &block, case.ciphertext, case.source, "block");
     let block = key.encrypt_eight(&[plaintext; 8])[5];
-    assert_bytes(rt, alloc, &block, case.ciphertext, case.source, "one of eight");
+    assert_bytes(
+        rt,
+        alloc,
+        &block,
+        case.ciphertext,
+        case.source,
+        "one of eight",
+    );
     let block = key.encrypt_counted(&plaintext)[(plaintext[15] % 8) as usize];
     assert_bytes(rt, alloc, &block, case.ciphertext, case.source, "counted");
     Ok(())
