@@ -58,8 +58,6 @@ fn assert_block(
         case.source,
         "one of eight",
     );
-    let block = key.encrypt_counted(&plaintext)[(plaintext[15] % 8) as usize];
-    assert_bytes(rt, alloc, &block, case.ciphertext, case.source, "counted");
     Ok(())
 }
 
