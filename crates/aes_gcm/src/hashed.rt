@@ -5,6 +5,7 @@ ghost use Rattle.aes_block.specs.Cipher.{cipher};
 ghost use Rattle.aes_gcm.specs.Gcm.{j0, Holds, last_16};
 
 use crate::adding::add_blocks;
+use crate::checks::MayCheck;
 use crate::counters::Block;
 use crate::key::GcmKey;
 use std::marker::Model;
@@ -57,6 +58,20 @@ impl GcmKey {
     pub fn hash_ciphertext<'a, R: Threads>(
         &'a self,
         _rt: &R,
+        aad: &'a [u8],
+        ct: &'a [u8],
+    ) -> HashedCiphertext<'a>
+        requires ct { length ct.now ≤ 2 ^ 36 - 16 }
+        requires aad { length aad.now < 2 ^ 61 }
+        ensures { result ≡ record { key = self.now; aad = aad.now; ct = ct.now } }
+    {
+        self.hashed(aad, ct)
+    }
+
+    /// Hashes a ciphertext, as [`GcmKey::hash_ciphertext`] does, for who may check tags.
+    pub fn hash_ciphertext_by<'a>(
+        &'a self,
+        _permission: MayCheck,
         aad: &'a [u8],
         ct: &'a [u8],
     ) -> HashedCiphertext<'a>

@@ -21,6 +21,6 @@ mod hashed;
 mod key;
 pub mod laws;
 
-pub use checks::Checks;
+pub use checks::{Checks, MayCheck};
 pub use hashed::HashedCiphertext;
 pub use key::GcmKey;
