@@ -6,7 +6,7 @@ use Rattle.std.specs.Int.Bits.{xor_assoc, xor_self, xor_zero_l, xor_zero_r}
 use Rattle.std.specs.List.{range_with_len}
 use Rattle.std.specs.Simd.Lanes.{zip2, Each1, pick_l}
 use Rattle.std.proofs.lemmas.List.{length-append, length-replicate}
-use Rattle.std.proofs.lemmas.Nat.{pow-add, mod-pow-add, mod_below, mul-add-lt, pow_pos, xor_lt, xor_mod, xor_shr}
+use Rattle.std.proofs.lemmas.Nat.{div-mul-add, pow-add, mod-pow-add, mod_below, mul-add-lt, pow_pos, xor_lt, xor_mod, xor_shr}
 use Rattle.std.proofs.lemmas.Simd.{Each1-from_get_or, pick_l_whole}
 use Rattle.ghash_core.specs.Field.{by_u, by_power}
 use Rattle.ghash_core.specs.Hash.{block_of, block_bytes}
@@ -186,6 +186,30 @@ element-block bs long small =
     let none : 128 - 8 * length bs ≡ 0 = omega arith in
     element-number bs (omega arith) small ∙ ap (λ i. number bs * 2 ^ i) none ∙ omega arith
     ∙ ap number (sym (pick_l_whole 0 bs 16 long)) ∙ spelt bs
+
+-- the bytes of what bytes spell, whatever stands before them
+spelt_back : (bs : List ℕ) (m : ℕ) → AreBytes bs → bytes_high_first (length bs) (m * 2 ^ (8 * length bs) + number bs) ≡ bs
+unfolding number
+spelt_back [] m small = refl
+spelt_back (b ∷ bs) m small =
+    let k = length bs in
+    let s = 2 ^ (8 * k) in
+    let n = (m * 256 + b) * s + number bs in
+    let first : b < 256 = small.0 in
+    let all : 2 ^ (8 * length (b ∷ bs)) ≡ s * 2 ^ 8 = ap (λ i. 2 ^ i) (omega arith) ∙ pow-add 2 (8 * k) 8 in
+    let split : m * 2 ^ (8 * length (b ∷ bs)) + number (b ∷ bs) ≡ n = ap (λ x. m * x + (b * s + number bs)) all ∙ grind arith in
+    let high : n / s ≡ m * 256 + b = div-mul-add (m * 256 + b) s (number bs) (number-lt bs small.1) in
+    let here : byte_at k n ≡ b = byte_at_is k n ∙ ap (λ x. x % 2 ^ 8) high ∙ omega arith in
+    ap (bytes_high_first (suc k)) split ∙ ap (λ x. x ∷ bytes_high_first k n) here ∙ ap (λ xs. b ∷ xs) (spelt_back bs (m * 256 + b) small.1)
+
+pub block_bytes-element : (bs : List ℕ) → length bs ≡ 16 → AreBytes bs → block_bytes (element bs) ≡ bs
+unfolding block_bytes
+block_bytes-element bs long small =
+    let none : 128 - 8 * length bs ≡ 0 = omega arith in
+    let is : element bs ≡ number bs = element-number bs (omega arith) small ∙ ap (λ i. number bs * 2 ^ i) none ∙ omega arith in
+    let none_before : number bs ≡ 0 * 2 ^ (8 * length bs) + number bs = omega arith in
+    ap (bytes_high_first 16) is ∙ ap (λ k. bytes_high_first k (number bs)) (sym long)
+    ∙ ap (bytes_high_first (length bs)) none_before ∙ spelt_back bs 0 small
 
 -- the same where the bytes end early and zeros follow
 pub element-padded : (bs : List ℕ) (n : ℕ) → length bs + n ≡ 16 → ((i : ℕ) → Fits w8 (get_or bs i 0)) → element (bs ++ replicate n 0) ≡ block_of bs

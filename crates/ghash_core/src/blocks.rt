@@ -61,3 +61,11 @@ pub(crate) fn from_lanes(lanes: u8x16) -> u128
 {
     from_block(lanes.to_array())
 }
+
+// The bytes of the block in a vector. They stand there as they are.
+#[inline(always)]
+pub(crate) fn lane_bytes(lanes: u8x16) -> [u8; 16]
+    ensures { result ≡ block_bytes (element lanes) }
+{
+    lanes.to_array()
+}

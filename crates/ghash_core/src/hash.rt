@@ -5,7 +5,7 @@ ghost use Rattle.ghash_core.specs.Field.{product, IsProducts};
 ghost use Rattle.ghash_core.specs.Rows.{element};
 ghost use Rattle.ghash_core.specs.Hash.{block_of, block_bytes, padded_blocks, length_block, sum_after, ghash, Took};
 
-use crate::blocks::{first_lanes, from_block, from_lanes, padded_lanes, to_block, to_lanes};
+use crate::blocks::{first_lanes, from_block, lane_bytes, padded_lanes, to_lanes};
 use crate::powers::{Powers, powers_of, sum_of_products};
 use crate::products::product_by;
 use crate::rows::products_of;
@@ -169,6 +169,6 @@ impl<'a> Ghash<'a> {
     {
         let lengths = ((8 * aad_len) as u128) << 64 | (8 * text_len) as u128;
         let sum = u8x16::from_array(self.sum);
-        to_block(from_lanes(self.key.next(sum, to_lanes(lengths))))
+        lane_bytes(self.key.next(sum, to_lanes(lengths)))
     }
 }

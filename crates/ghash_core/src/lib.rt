@@ -10,6 +10,8 @@
 //! powers, in fixed arrays, which are read in registers. No branch and no address depends on the key
 //! or on what is hashed: that is tested over the built program, not proved. Nothing here refuses,
 //! takes memory or is wiped.
+//!
+//! Tests: `hpke_tests`.
 #![tactic(auto)]
 
 mod blocks;

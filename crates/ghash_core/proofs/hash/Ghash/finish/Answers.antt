@@ -11,8 +11,8 @@ returns c = λ xs took.
     let same : h ≡ c.args.self.h = ap (λ g. g.h) c.self.view_is in
     let fits : h < 2 ^ 128 = subst (λ k. k < 2 ^ 128) (sym same) took.fits in
     let lengths = length_block (8 * c.args.aad_len) (8 * c.args.text_len) in
-    c.to_block.ensures ∙ ap block_bytes (
-    c.from_lanes.ensures ∙ c.next.ensures
+    c.lane_bytes.ensures ∙ ap block_bytes (
+    c.next.ensures
     ∙ ap (λ x. product (bit_xor (element c.self.inside.sum) x) h)
     (c.to_lanes.ensures ∙ length_block_is (8 * c.args.aad_len) (8 * c.args.text_len) (omega arith) (omega arith))
     ∙ ap (λ y. product (bit_xor y lengths) h) (ap (λ g. g.sum) c.self.view_is ∙ took.sum)
