@@ -5,12 +5,14 @@ use Rattle.std.specs.List.{range_with_len}
 use Rattle.std.specs.Int.{bit_at}
 use Rattle.std.proofs.Math.Nat.{zero-add}
 use Rattle.std.proofs.lemmas.List.FromFn.{get_or-map-range_with_len}
-use Rattle.std.proofs.lemmas.Simd.{length-zip2, get_or-zip2, get_or-replicate}
-use Rattle.std.proofs.lemmas.Nat.Bits.{bit_at_xor, bit_at_and, bit_at_ones, bit_at-lt}
+use Rattle.std.proofs.lemmas.Simd.{length-zip2, get_or-zip2}
+use Rattle.std.proofs.lemmas.Nat.{xor_lt}
+use Rattle.std.proofs.lemmas.Nat.Bits.{bit_at_xor, bit_at_and, bit_at-lt}
+use Rattle.std.specs.Int.Bits.{xor_assoc, xor_zero_r}
 use Rattle.aes_block.specs.Field.{xtime, by_power, low_product, product, inverse_among, inverse, affine_bits, s_box}
-use Rattle.aes_block.specs.Sliced.{bit_of, gathered, byte_from, IsState}
+use Rattle.aes_block.specs.Sliced.{bit_of, gathered, byte_from, constant, without_constant, IsState}
 use lib.Lanes.{zip2, Each2}
-use Rattle.aes_block.specs.Circuit.{ones, outer_sums, inner_sums, inner_inverse, inner_products, last_sums, circuit}
+use Rattle.aes_block.specs.Circuit.{outer_sums, inner_sums, inner_inverse, inner_products, last_sums, circuit}
 
 -- bit i of lane p is bit v of the number
 pub record Same (p i v : ℕ) (xs : List ℕ) (n : ℕ) : Type 0 where
@@ -41,12 +43,6 @@ and_same {p} {i} {v} P {xs} {ys} {m} {n} a b =
           ∙ ap (λ z. min z (bit_at (get_or ys p 0) i)) a.bit ∙ ap (min (bit_at m v)) b.bit ∙ sym (bit_at_and m n v);
     }
 
-ones_same : (p i v : ℕ) → p < 16 → i < 8 → v < 256 → Same p i v ones (2 ^ 256 - 1)
-ones_same p i v P I V = record {
-  long = refl;
-  bit = ap (λ z. bit_at z i) (get_or-replicate 16 p 255 0 P) ∙ bit_at_ones 8 i I ∙ sym (bit_at_ones 256 v V);
-}
-
 related : (n p i v : ℕ) → (q : List (List ℕ)) (Q : List ℕ) → length q ≡ n → length Q ≡ n → Each2 (Same p i v) q Q → Related n p i v q Q
 related zero p i v q Q e f h k lt = absurd (omega arith)
 related (suc n) p i v [] Q e f h k lt = absurd (omega arith)
@@ -55,7 +51,7 @@ related (suc n) p i v (x ∷ q) (m ∷ Q) e f h zero lt = h.0
 related (suc n) p i v (x ∷ q) (m ∷ Q) e f h (suc k) lt = related n p i v q Q (omega arith) (omega arith) h.1 k (omega arith)
 
 pub outer_sums_related : (p i v : ℕ) → p < 16 → i < 8 → v < 256 → (q : List (List ℕ)) (Q : List ℕ) → Related 8 p i v q Q
-    → Related 22 p i v (outer_sums [] ones (zip2 bit_xor) (zip2 bit_and) q) (outer_sums 0 (2 ^ 256 - 1) bit_xor bit_and Q)
+    → Related 22 p i v (outer_sums [] (zip2 bit_xor) (zip2 bit_and) q) (outer_sums 0 bit_xor bit_and Q)
 unfolding outer_sums
 outer_sums_related p i v P I V q Q rq =
     let hq0 = rq 0 (omega arith) in
@@ -89,10 +85,10 @@ outer_sums_related p i v P I V q Q rq =
     let hy16 = xor_same P ht0 hy11 in
     let hy21 = xor_same P hy13 hy16 in
     let hy18 = xor_same P hq7 hy16 in
-    related 22 p i v (outer_sums [] ones (zip2 bit_xor) (zip2 bit_and) q) (outer_sums 0 (2 ^ 256 - 1) bit_xor bit_and Q) refl refl (hy1, (hy2, (hy3, (hy4, (hy5, (hy6, (hy7, (hy8, (hy9, (hy10, (hy11, (hy12, (hy13, (hy14, (hy15, (hy16, (hy17, (hy18, (hy19, (hy20, (hy21, (hq0, tt))))))))))))))))))))))
+    related 22 p i v (outer_sums [] (zip2 bit_xor) (zip2 bit_and) q) (outer_sums 0 bit_xor bit_and Q) refl refl (hy1, (hy2, (hy3, (hy4, (hy5, (hy6, (hy7, (hy8, (hy9, (hy10, (hy11, (hy12, (hy13, (hy14, (hy15, (hy16, (hy17, (hy18, (hy19, (hy20, (hy21, (hq0, tt))))))))))))))))))))))
 
 pub inner_sums_related : (p i v : ℕ) → p < 16 → i < 8 → v < 256 → (y : List (List ℕ)) (Y : List ℕ) → Related 22 p i v y Y
-    → Related 4 p i v (inner_sums [] ones (zip2 bit_xor) (zip2 bit_and) y) (inner_sums 0 (2 ^ 256 - 1) bit_xor bit_and Y)
+    → Related 4 p i v (inner_sums [] (zip2 bit_xor) (zip2 bit_and) y) (inner_sums 0 bit_xor bit_and Y)
 unfolding inner_sums
 inner_sums_related p i v P I V y Y ry =
     let hy1 = ry 0 (omega arith) in
@@ -140,10 +136,10 @@ inner_sums_related p i v P I V y Y ry =
     let ht22 = xor_same P ht18 hy19 in
     let ht23 = xor_same P ht19 hy21 in
     let ht24 = xor_same P ht20 hy18 in
-    related 4 p i v (inner_sums [] ones (zip2 bit_xor) (zip2 bit_and) y) (inner_sums 0 (2 ^ 256 - 1) bit_xor bit_and Y) refl refl (ht21, (ht22, (ht23, (ht24, tt))))
+    related 4 p i v (inner_sums [] (zip2 bit_xor) (zip2 bit_and) y) (inner_sums 0 bit_xor bit_and Y) refl refl (ht21, (ht22, (ht23, (ht24, tt))))
 
 pub inner_inverse_related : (p i v : ℕ) → p < 16 → i < 8 → v < 256 → (t : List (List ℕ)) (T : List ℕ) → Related 4 p i v t T
-    → Related 9 p i v (inner_inverse [] ones (zip2 bit_xor) (zip2 bit_and) t) (inner_inverse 0 (2 ^ 256 - 1) bit_xor bit_and T)
+    → Related 9 p i v (inner_inverse [] (zip2 bit_xor) (zip2 bit_and) t) (inner_inverse 0 bit_xor bit_and T)
 unfolding inner_inverse
 inner_inverse_related p i v P I V t T rt =
     let ht21 = rt 0 (omega arith) in
@@ -171,10 +167,10 @@ inner_inverse_related p i v P I V t T rt =
     let ht43 = xor_same P ht29 ht40 in
     let ht44 = xor_same P ht33 ht37 in
     let ht45 = xor_same P ht42 ht41 in
-    related 9 p i v (inner_inverse [] ones (zip2 bit_xor) (zip2 bit_and) t) (inner_inverse 0 (2 ^ 256 - 1) bit_xor bit_and T) refl refl (ht29, (ht33, (ht37, (ht40, (ht41, (ht42, (ht43, (ht44, (ht45, tt)))))))))
+    related 9 p i v (inner_inverse [] (zip2 bit_xor) (zip2 bit_and) t) (inner_inverse 0 bit_xor bit_and T) refl refl (ht29, (ht33, (ht37, (ht40, (ht41, (ht42, (ht43, (ht44, (ht45, tt)))))))))
 
 pub inner_products_related : (p i v : ℕ) → p < 16 → i < 8 → v < 256 → (y : List (List ℕ)) (Y : List ℕ) (t : List (List ℕ)) (T : List ℕ) → Related 22 p i v y Y → Related 9 p i v t T
-    → Related 18 p i v (inner_products [] ones (zip2 bit_xor) (zip2 bit_and) y t) (inner_products 0 (2 ^ 256 - 1) bit_xor bit_and Y T)
+    → Related 18 p i v (inner_products [] (zip2 bit_xor) (zip2 bit_and) y t) (inner_products 0 bit_xor bit_and Y T)
 unfolding inner_products
 inner_products_related p i v P I V y Y t T ry rt =
     let hy1 = ry 0 (omega arith) in
@@ -222,10 +218,10 @@ inner_products_related p i v P I V y Y t T ry rt =
     let hz15 = and_same P ht42 hy9 in
     let hz16 = and_same P ht45 hy14 in
     let hz17 = and_same P ht41 hy8 in
-    related 18 p i v (inner_products [] ones (zip2 bit_xor) (zip2 bit_and) y t) (inner_products 0 (2 ^ 256 - 1) bit_xor bit_and Y T) refl refl (hz0, (hz1, (hz2, (hz3, (hz4, (hz5, (hz6, (hz7, (hz8, (hz9, (hz10, (hz11, (hz12, (hz13, (hz14, (hz15, (hz16, (hz17, tt))))))))))))))))))
+    related 18 p i v (inner_products [] (zip2 bit_xor) (zip2 bit_and) y t) (inner_products 0 bit_xor bit_and Y T) refl refl (hz0, (hz1, (hz2, (hz3, (hz4, (hz5, (hz6, (hz7, (hz8, (hz9, (hz10, (hz11, (hz12, (hz13, (hz14, (hz15, (hz16, (hz17, tt))))))))))))))))))
 
 pub last_sums_related : (p i v : ℕ) → p < 16 → i < 8 → v < 256 → (z : List (List ℕ)) (Z : List ℕ) → Related 18 p i v z Z
-    → Related 8 p i v (last_sums [] ones (zip2 bit_xor) (zip2 bit_and) z) (last_sums 0 (2 ^ 256 - 1) bit_xor bit_and Z)
+    → Related 8 p i v (last_sums [] (zip2 bit_xor) (zip2 bit_and) z) (last_sums 0 bit_xor bit_and Z)
 unfolding last_sums
 last_sums_related p i v P I V z Z rz =
     let hz0 = rz 0 (omega arith) in
@@ -246,7 +242,6 @@ last_sums_related p i v P I V z Z rz =
     let hz15 = rz 15 (omega arith) in
     let hz16 = rz 16 (omega arith) in
     let hz17 = rz 17 (omega arith) in
-    let hones = ones_same p i v P I V in
     let ht46 = xor_same P hz15 hz16 in
     let ht47 = xor_same P hz10 hz11 in
     let ht48 = xor_same P hz5 hz13 in
@@ -269,22 +264,18 @@ last_sums_related p i v P I V z Z rz =
     let ht65 = xor_same P ht61 ht62 in
     let ht66 = xor_same P hz1 ht63 in
     let hs0 = xor_same P ht59 ht63 in
-    let hnt62 = xor_same P ht62 hones in
-    let hs6 = xor_same P ht56 hnt62 in
-    let hnt60 = xor_same P ht60 hones in
-    let hs7 = xor_same P ht48 hnt60 in
+    let hs6 = xor_same P ht56 ht62 in
+    let hs7 = xor_same P ht48 ht60 in
     let ht67 = xor_same P ht64 ht65 in
     let hs3 = xor_same P ht53 ht66 in
     let hs4 = xor_same P ht51 ht66 in
     let hs5 = xor_same P ht47 ht65 in
-    let hns3 = xor_same P hs3 hones in
-    let hs1 = xor_same P ht64 hns3 in
-    let hnt67 = xor_same P ht67 hones in
-    let hs2 = xor_same P ht55 hnt67 in
-    related 8 p i v (last_sums [] ones (zip2 bit_xor) (zip2 bit_and) z) (last_sums 0 (2 ^ 256 - 1) bit_xor bit_and Z) refl refl (hs7, (hs6, (hs5, (hs4, (hs3, (hs2, (hs1, (hs0, tt))))))))
+    let hs1 = xor_same P ht64 hs3 in
+    let hs2 = xor_same P ht55 ht67 in
+    related 8 p i v (last_sums [] (zip2 bit_xor) (zip2 bit_and) z) (last_sums 0 bit_xor bit_and Z) refl refl (hs7, (hs6, (hs5, (hs4, (hs3, (hs2, (hs1, (hs0, tt))))))))
 
 pub circuit_related : (p i v : ℕ) → p < 16 → i < 8 → v < 256 → (q : List (List ℕ)) (Q : List ℕ) → Related 8 p i v q Q
-    → Related 8 p i v (circuit [] ones (zip2 bit_xor) (zip2 bit_and) q) (circuit 0 (2 ^ 256 - 1) bit_xor bit_and Q)
+    → Related 8 p i v (circuit [] (zip2 bit_xor) (zip2 bit_and) q) (circuit 0 bit_xor bit_and Q)
 unfolding circuit
 circuit_related p i v P I V q Q h =
     let y = outer_sums_related p i v P I V q Q h in
@@ -297,11 +288,11 @@ circuit_related p i v P I V q Q h =
 abbrev pub inputs : List ℕ
 inputs = 0xaaaaaaaaaaaaaaaaaaaaaaaaaaaaaaaaaaaaaaaaaaaaaaaaaaaaaaaaaaaaaaaa ∷ 0xcccccccccccccccccccccccccccccccccccccccccccccccccccccccccccccccc ∷ 0xf0f0f0f0f0f0f0f0f0f0f0f0f0f0f0f0f0f0f0f0f0f0f0f0f0f0f0f0f0f0f0f0 ∷ 0xff00ff00ff00ff00ff00ff00ff00ff00ff00ff00ff00ff00ff00ff00ff00ff00 ∷ 0xffff0000ffff0000ffff0000ffff0000ffff0000ffff0000ffff0000ffff0000 ∷ 0xffffffff00000000ffffffff00000000ffffffff00000000ffffffff00000000 ∷ 0xffffffffffffffff0000000000000000ffffffffffffffff0000000000000000 ∷ 0xffffffffffffffffffffffffffffffff00000000000000000000000000000000 ∷ []
 
--- bit v of column j is bit j of the S-box of v
+-- bit v of column j is bit j of the S-box of v, without the constant
 abbrev pub outputs : List ℕ
-outputs = 0x4f1ead396f247a0410bdb210c006eab568ab4bfa8acb7a13b14ede67096c6eed ∷ 0xc870974094ead8a96a450b2ef33486b4e61a4c5e97816f7a7bae007d4c53fc7d ∷ 0xac39b6c0d6ce2efc577d64e03b0c3ffb23a869a2a428c424a16387fb3b48b4c6 ∷ 0x4e9ddb76c892fb1be9da849cf6ac6c1b2568ea2effa8527d109020a2193d586a ∷ 0xf210a3aece472e532624b286bc48ecb4f7f17a494ce30f58c2b0f97752b8b11e ∷ 0x54b248130b4f256f7d8dcc4706319e086bc2aa4e0d787aa4f8045f7b6d98dd7f ∷ 0x21e0b833255917823f6bcb91b30db559e4851b3bf3ab2560980a3cc2c2fdb4ff ∷ 0x52379de7b844e3e14cb3770196ca0329e7bac28f866aac825caa2ec7bf977090 ∷ []
+outputs = 0xb0e152c690db85fbef424def3ff9154a9754b405753485ec4eb12198f6939112 ∷ 0x378f68bf6b15275695baf4d10ccb794b19e5b3a1687e90858451ff82b3ac0382 ∷ 0xac39b6c0d6ce2efc577d64e03b0c3ffb23a869a2a428c424a16387fb3b48b4c6 ∷ 0x4e9ddb76c892fb1be9da849cf6ac6c1b2568ea2effa8527d109020a2193d586a ∷ 0xf210a3aece472e532624b286bc48ecb4f7f17a494ce30f58c2b0f97752b8b11e ∷ 0xab4db7ecf4b0da90827233b8f9ce61f7943d55b1f287855b07fba08492672280 ∷ 0xde1f47ccdaa6e87dc094346e4cf24aa61b7ae4c40c54da9f67f5c33d3d024b00 ∷ 0x52379de7b844e3e14cb3770196ca0329e7bac28f866aac825caa2ec7bf977090 ∷ []
 
-pub circuit_run : circuit 0 (2 ^ 256 - 1) bit_xor bit_and inputs ≡ outputs
+pub circuit_run : circuit 0 bit_xor bit_and inputs ≡ outputs
 unfolding circuit outer_sums inner_sums inner_inverse inner_products last_sums
 circuit_run = refl
 
@@ -364,22 +355,29 @@ sum_bits a b c d e f g h A B C D E F G H (suc (suc (suc (suc (suc (suc (suc (suc
 abbrev output : ℕ → ℕ
 output v = bit_at (slice_index outputs 0) v + bit_at (slice_index outputs 1) v * 2 + bit_at (slice_index outputs 2) v * 4 + bit_at (slice_index outputs 3) v * 8 + bit_at (slice_index outputs 4) v * 16 + bit_at (slice_index outputs 5) v * 32 + bit_at (slice_index outputs 6) v * 64 + bit_at (slice_index outputs 7) v * 128
 
-outputs_table : map output (range_with_len 0 256) ≡ map s_box (range_with_len 0 256)
+outputs_table : map output (range_with_len 0 256) ≡ map (λ v. without_constant (s_box v)) (range_with_len 0 256)
 unfolding xtime by_power low_product product inverse_among inverse affine_bits s_box
 outputs_table = refl
 
-output_is : (v : ℕ) → v < 256 → output v ≡ s_box v
+output_is : (v : ℕ) → v < 256 → output v ≡ without_constant (s_box v)
 output_is v V =
     sym (get_or-map-range_with_len output 0 256 v v 0 V (zero-add v)) ∙ ap (λ zs. get_or zs v 0) outputs_table
-    ∙ get_or-map-range_with_len s_box 0 256 v v 0 V (zero-add v)
+    ∙ get_or-map-range_with_len (λ v. without_constant (s_box v)) 0 256 v v 0 V (zero-add v)
 
 output-lt : (v : ℕ) → output v < 256
 output-lt v = omega (arith, bit_at-lt (get_or outputs 0 0) v, bit_at-lt (get_or outputs 1 0) v, bit_at-lt (get_or outputs 2 0) v, bit_at-lt (get_or outputs 3 0) v, bit_at-lt (get_or outputs 4 0) v, bit_at-lt (get_or outputs 5 0) v, bit_at-lt (get_or outputs 6 0) v, bit_at-lt (get_or outputs 7 0) v)
 
-s_box-lt : (v : ℕ) → v < 256 → s_box v < 256
-s_box-lt v V = subst (λ s. s < 256) (output_is v V) (output-lt v)
+result-lt : (v : ℕ) → v < 256 → without_constant (s_box v) < 256
+result-lt v V = subst (λ s. s < 256) (output_is v V) (output-lt v)
 
-column_out : (k v : ℕ) → k < 8 → v < 256 → bit_at (get_or outputs k 0) v ≡ bit_at (s_box v) k
+-- what is taken out twice is there
+pub constant_back : (b : ℕ) → without_constant (without_constant b) ≡ b
+constant_back b = xor_assoc b constant constant ∙ xor_zero_r b
+
+pub s_box-lt : (v : ℕ) → v < 256 → s_box v < 256
+s_box-lt v V = subst (λ s. s < 256) (constant_back (s_box v)) (xor_lt 8 (without_constant (s_box v)) constant (result-lt v V) (omega arith))
+
+column_out : (k v : ℕ) → k < 8 → v < 256 → bit_at (get_or outputs k 0) v ≡ bit_at (without_constant (s_box v)) k
 column_out k v K V =
     sym (get_or-map-range_with_len (λ j. bit_at (get_or outputs j 0) v) 0 8 k k 0 K (zero-add k))
     ∙ sym (sum_bits (bit_at (get_or outputs 0 0) v) (bit_at (get_or outputs 1 0) v) (bit_at (get_or outputs 2 0) v) (bit_at (get_or outputs 3 0) v) (bit_at (get_or outputs 4 0) v) (bit_at (get_or outputs 5 0) v) (bit_at (get_or outputs 6 0) v) (bit_at (get_or outputs 7 0) v)
@@ -425,16 +423,16 @@ gathered_from q p i n small bits =
 
 -- the S-box of each byte
 pub circuit_is_s_box : (q : List (List ℕ)) → IsState q → (p i : ℕ) → p < 16 → i < 8
-    → gathered (circuit [] ones (zip2 bit_xor) (zip2 bit_and) q) p i ≡ s_box (gathered q p i)
+    → gathered (circuit [] (zip2 bit_xor) (zip2 bit_and) q) p i ≡ without_constant (s_box (gathered q p i))
 circuit_is_s_box q long p i P I =
     let v = gathered q p i in
     let V = gathered-lt q p i in
     let start : Related 8 p i v q inputs = λ k K. record { long = long k K; bit = sym (gathered_bit q p i k K) ∙ sym (column_in k v K V) } in
     let end = circuit_related p i v P I V q inputs start in
-    gathered_from (circuit [] ones (zip2 bit_xor) (zip2 bit_and) q) p i (s_box v) (s_box-lt v V) (λ k K. (end k K).bit ∙ ap (λ zs. bit_at (get_or zs k 0) v) circuit_run ∙ column_out k v K V)
+    gathered_from (circuit [] (zip2 bit_xor) (zip2 bit_and) q) p i (without_constant (s_box v)) (result-lt v V) (λ k K. (end k K).bit ∙ ap (λ zs. bit_at (get_or zs k 0) v) circuit_run ∙ column_out k v K V)
 
 -- its registers have 16 lanes
-pub circuit_long : (q : List (List ℕ)) → IsState q → IsState (circuit [] ones (zip2 bit_xor) (zip2 bit_and) q)
+pub circuit_long : (q : List (List ℕ)) → IsState q → IsState (circuit [] (zip2 bit_xor) (zip2 bit_and) q)
 circuit_long q long k K =
     let v = gathered q 0 0 in
     let V = gathered-lt q 0 0 in

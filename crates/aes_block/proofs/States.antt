@@ -3,18 +3,18 @@ use Rattle.std.proofs.Common.{◌≡◌, ℕ, zero, suc, ◌+◌, ◌-◌, ◌*�
 use Rattle.std.specs.List.{range_with_len}
 use Rattle.std.specs.Int.{bit_at}
 use Rattle.std.proofs.Math.Nat.{zero-add}
-use Rattle.std.proofs.lemmas.List.{ext_get_or, length-map, get_or-map, length-take-le, get_or-take, get_or-drop, get_or-set_same, get_or-set_other, get_or_append_left, get_or_at}
+use Rattle.std.proofs.lemmas.List.{ext_get_or, length-map, get_or-map, length-take-le, length-replicate, get_or-take, get_or-drop, get_or-set_same, get_or-set_other, get_or_append_left, get_or_at}
 use Rattle.std.proofs.lemmas.Bool.{cases_lt}
 use Rattle.std.proofs.lemmas.List.FromFn.{get_or-map-range_with_len, length-range_with_len}
-use Rattle.std.proofs.lemmas.Simd.{length-zip2, get_or-zip2}
+use Rattle.std.proofs.lemmas.Simd.{length-zip2, get_or-zip2, get_or-replicate}
 use Rattle.std.proofs.lemmas.Nat.Bits.{bit_at_xor, bit_at-lt, bit_at-zero, bit_at_ones, and_pow}
 use Rattle.std.proofs.lemmas.Nat.{xor_lt, pow_pos, xor_comm}
-use Rattle.std.specs.Int.Bits.{xor_assoc}
+use Rattle.std.specs.Int.Bits.{xor_assoc, xor_self, xor_zero_r}
 use Rattle.byte_strings.specs.Bytes.{xor_bytes}
 use lib.Lanes.{zip2, sel_l, top}
 use Rattle.aes_block.specs.Field.{xtime, by_power, low_product, product, s_box}
 use Rattle.aes_block.specs.Cipher.{mixed_column, mixed, mix_columns, shift_rows, sub_bytes, round_key}
-use Rattle.aes_block.specs.Sliced.{bit_of, byte_from, gathered, state_at, mixed_byte, IsState, AreKeysOf, moved, row_place, next_place, half_place}
+use Rattle.aes_block.specs.Sliced.{bit_of, byte_from, gathered, state_at, mixed_byte, IsState, IsKeyOf, AreKeysOf, constant, constant_of, without_constant, moved, lane_of, row_place, next_place, half_place}
 use Rattle.aes_block.proofs.Circuit.{gathered_from, gathered_bit, gathered-lt, bits_of}
 
 -- a fact of each register
@@ -34,6 +34,26 @@ pub spelled : (xs : List ℕ) (n : ℕ) → length xs ≡ n → xs ≡ map (λ i
 spelled xs n e =
     ext_get_or 0 xs _ (omega (arith, length-map (range_with_len 0 n) (λ i. get_or xs i 0), length-range_with_len 0 n)) (λ i h.
     sym (get_or-map-range_with_len (λ i. get_or xs i 0) 0 n i i 0 (omega arith) (zero-add i)))
+
+-- ---- lanes by rows
+
+pub lane-lt : (p : ℕ) → p < 16 → lane_of p < 16
+lane-lt p P = omega arith
+
+pub lane_back : (p : ℕ) → p < 16 → lane_of (lane_of p) ≡ p
+lane_back p P = omega arith
+
+pub moved_at : (f : ℕ → ℕ) (x : List ℕ) (p : ℕ) → p < 16 → get_or (moved f x) p 0 ≡ get_or x (f p) 0
+moved_at f x p P = get_or-map-range_with_len (λ p. get_or x (f p) 0) 0 16 p p 0 P (zero-add p)
+
+pub moved_size : (f : ℕ → ℕ) (x : List ℕ) → length (moved f x) ≡ 16
+moved_size f x = length-map (range_with_len 0 16) (λ p. get_or x (f p) 0) ∙ length-range_with_len 0 16
+
+pub moved_back : (x : List ℕ) → length x ≡ 16 → moved lane_of (moved lane_of x) ≡ x
+moved_back x long =
+    ext_get_or 0 (moved lane_of (moved lane_of x)) x (moved_size lane_of (moved lane_of x) ∙ sym long) (λ p lt.
+    let P : p < 16 = omega (arith, moved_size lane_of (moved lane_of x)) in
+    moved_at lane_of (moved lane_of x) p P ∙ moved_at lane_of x (lane_of p) (lane-lt p P) ∙ ap (λ p. get_or x p 0) (lane_back p P))
 
 -- ---- a bit of each lane picked
 
@@ -166,25 +186,47 @@ pub key_bytes : (x : List ℕ) (r : List (List ℕ)) → length x ≡ 16 → ((p
 key_bytes x r long small h p i P I =
     gathered_from r p i (get_or x p 0) (small p P) (λ k K. ap (λ zs. bit_at (get_or zs p 0) i) (h k K) ∙ spread_bit x p i k long P I)
 
+-- the lanes of a round key with c added to each
+abbrev pub key_lanes : List ℕ → ℕ → List ℕ
+key_lanes key c = zip2 bit_xor (moved lane_of key) (replicate 16 c)
+
+pub key_lanes_long : (key : List ℕ) (c : ℕ) → length (key_lanes key c) ≡ 16
+key_lanes_long key c = length-zip2 bit_xor (moved lane_of key) (replicate 16 c) (moved_size lane_of key ∙ sym (length-replicate {A = ℕ} 16 c)) ∙ moved_size lane_of key
+
+key_lanes_at : (key : List ℕ) (c p : ℕ) → p < 16 → get_or (key_lanes key c) p 0 ≡ bit_xor (get_or key (lane_of p) 0) c
+key_lanes_at key c p P =
+    get_or-zip2 bit_xor (moved lane_of key) (replicate 16 c) p 0 0 0 (omega (arith, moved_size lane_of key)) (omega (arith, length-replicate {A = ℕ} 16 c))
+    ∙ ap (λ z. bit_xor z (get_or (replicate 16 c) p 0)) (moved_at lane_of key p P) ∙ ap (bit_xor (get_or key (lane_of p) 0)) (get_or-replicate 16 p c 0 P)
+
 -- register m % 8 of round key m / 8
 abbrev pub key_register : List ℕ → ℕ → List ℕ
-key_register w m = map (picked_lane (2 ^ (m % 8)) 255) (round_key w (m / 8))
+key_register w m = map (picked_lane (2 ^ (m % 8)) 255) (key_lanes (round_key w (m / 8)) (constant_of m))
 
 pub keys_from : (w : List ℕ) (keys : List (List ℕ)) (nr : ℕ) → 16 * nr + 16 ≤ length w → ((p : ℕ) → get_or w p 0 < 256)
     → ((m : ℕ) → m < 8 * (nr + 1) → get_or keys m [] ≡ key_register w m) → AreKeysOf keys w nr
 keys_from w keys nr long small filled j J q same =
     let x = round_key w j in
+    let c = constant_of (8 * j) in
+    let lanes = key_lanes x c in
     let size : length x ≡ 16 = length-take-le 16 (drop (16 * j) w) (omega (arith, length-drop (16 * j) w)) in
-    let here : (k : ℕ) → k < 8 → get_or q k [] ≡ map (picked_lane (2 ^ k) 255) x =
+    let byte : (p : ℕ) → p < 16 → get_or x p 0 < 256 = λ p P. subst (λ n. n < 256) (sym (get_or-take 16 (drop (16 * j) w) p 0 P ∙ get_or-drop (16 * j) w p 0)) (small (16 * j + p)) in
+    let here : (k : ℕ) → k < 8 → get_or q k [] ≡ map (picked_lane (2 ^ k) 255) lanes =
     λ k K.
     let m = 8 * j + k in
     let low : m % 8 ≡ k = omega arith in
     let high : m / 8 ≡ j = omega arith in
-    same k K ∙ filled m (omega arith) ∙ ap (λ n. map (picked_lane (2 ^ n) 255) (round_key w (m / 8))) low ∙ ap (λ n. map (picked_lane (2 ^ k) 255) (round_key w n)) high in
+    let mark : constant_of m ≡ c = omega arith in
+    same k K ∙ filled m (omega arith) ∙ ap (λ n. map (picked_lane (2 ^ n) 255) (key_lanes (round_key w (m / 8)) (constant_of m))) low
+    ∙ ap (λ n. map (picked_lane (2 ^ k) 255) (key_lanes (round_key w n) (constant_of m))) high ∙ ap (λ n. map (picked_lane (2 ^ k) 255) (key_lanes x n)) mark in
+    let C : c < 256 = omega arith in
+    let lane : (p : ℕ) → p < 16 → get_or lanes p 0 < 256 =
+    λ p P. subst (λ n. n < 256) (sym (key_lanes_at x c p P)) (xor_lt 8 (get_or x (lane_of p) 0) c (byte (lane_of p) (lane-lt p P)) C) in
     record {
-      registers = λ k K. mapped_long (picked_lane (2 ^ k) 255) x (get_or q k []) size (here k K);
+      registers = λ k K. mapped_long (picked_lane (2 ^ k) 255) lanes (get_or q k []) (key_lanes_long x c) (here k K);
       long = size;
-      bytes = key_bytes x q size (λ p P. subst (λ n. n < 256) (sym (get_or-take 16 (drop (16 * j) w) p 0 P ∙ get_or-drop (16 * j) w p 0)) (small (16 * j + p))) here;
+      bytes = λ p i P I.
+          key_bytes lanes q (key_lanes_long x c) lane here (lane_of p) i (lane-lt p P) I
+          ∙ key_lanes_at x c (lane_of p) (lane-lt p P) ∙ ap (λ p. bit_xor (get_or x p 0) c) (lane_back p P);
     }
 
 -- ---- blocks that count
@@ -243,35 +285,37 @@ counted_end x r i long h small I =
     (ap (λ zs. bit_at (get_or zs 15 0) i) h.r7 ∙ spread_bit x 15 i 7 long (omega arith) I ∙ omega arith))
 
 pub counted_is : (x : List ℕ) (r : List (List ℕ)) → length x ≡ 16 → ((p : ℕ) → p < 16 → get_or x p 0 < 256) → HasCounted x r → (i : ℕ) → i < 8
-    → state_at r i ≡ take 15 x ++ (get_or x 15 0 / 8 * 8 + i) ∷ []
+    → state_at r i ≡ take 15 (moved lane_of x) ++ (get_or (moved lane_of x) 15 0 / 8 * 8 + i) ∷ []
 counted_is x r long small h i I =
-    let e = get_or x 15 0 / 8 * 8 + i in
-    let size : length (state_at r i) ≡ 16 = length-map (range_with_len 0 16) (λ p. gathered r p i) ∙ length-range_with_len 0 16 in
-    let front : length (take 15 x) ≡ 15 = length-take-le 15 x (omega arith) in
-    let whole : length (take 15 x ++ e ∷ []) ≡ 16 = omega (arith, length-append (take 15 x) (e ∷ []), front) in
-    ext_get_or 0 (state_at r i) (take 15 x ++ e ∷ []) (size ∙ sym whole) (λ p lt.
+    let block = moved lane_of x in
+    let e = get_or block 15 0 / 8 * 8 + i in
+    let size : length (state_at r i) ≡ 16 = length-map (range_with_len 0 16) (λ p. gathered r (lane_of p) i) ∙ length-range_with_len 0 16 in
+    let front : length (take 15 block) ≡ 15 = length-take-le 15 block (omega (arith, moved_size lane_of x)) in
+    let whole : length (take 15 block ++ e ∷ []) ≡ 16 = omega (arith, length-append (take 15 block) (e ∷ []), front) in
+    ext_get_or 0 (state_at r i) (take 15 block ++ e ∷ []) (size ∙ sym whole) (λ p lt.
     let P : p < 16 = omega (arith, size) in
-    get_or-map-range_with_len (λ p. gathered r p i) 0 16 p p 0 P (zero-add p)
+    get_or-map-range_with_len (λ p. gathered r (lane_of p) i) 0 16 p p 0 P (zero-add p)
     ∙ elim (cases_lt p 15) [
-      | inl low ↦ counted_front x r p i long h (small p P) low I
-          ∙ sym (get_or_append_left (take 15 x) (e ∷ []) 0 p (omega (arith, front)) ∙ get_or-take 15 x p 0 low)
+      | inl low ↦ counted_front x r (lane_of p) i long h (small (lane_of p) (lane-lt p P)) (omega arith) I
+          ∙ sym (get_or_append_left (take 15 block) (e ∷ []) 0 p (omega (arith, front)) ∙ get_or-take 15 block p 0 low ∙ moved_at lane_of x p P)
       | inr high ↦
           let is : p ≡ 15 = omega arith in
-          ap (λ p. gathered r p i) is ∙ counted_end x r i long h (small 15 (omega arith)) I
-          ∙ sym (ap (λ p. get_or (take 15 x ++ e ∷ []) p 0) is ∙ get_or_at (take 15 x) e [] 0 15 front)
+          ap (λ p. gathered r (lane_of p) i) is ∙ counted_end x r i long h (small 15 (omega arith)) I
+          ∙ ap (λ n. n / 8 * 8 + i) (sym (moved_at lane_of x 15 (omega arith)))
+          ∙ sym (ap (λ p. get_or (take 15 block ++ e ∷ []) p 0) is ∙ get_or_at (take 15 block) e [] 0 15 front)
     ])
 
 -- ---- whole states
 
-pub state_added : (q k r : List (List ℕ)) (key : List ℕ) → length key ≡ 16 → ((p i : ℕ) → p < 16 → i < 8 → gathered k p i ≡ get_or key p 0)
+pub state_added : (q k r : List (List ℕ)) (key : List ℕ) → length key ≡ 16 → ((p i : ℕ) → p < 16 → i < 8 → gathered k (lane_of p) i ≡ get_or key p 0)
     → ((p i : ℕ) → p < 16 → gathered r p i ≡ bit_xor (gathered q p i) (gathered k p i)) → (i : ℕ) → i < 8 → state_at r i ≡ xor_bytes (state_at q i) key
 state_added q k r key long kb rb i I =
-    let size : length (state_at r i) ≡ 16 = length-map (range_with_len 0 16) (λ p. gathered r p i) ∙ length-range_with_len 0 16 in
-    let qsize : length (state_at q i) ≡ 16 = length-map (range_with_len 0 16) (λ p. gathered q p i) ∙ length-range_with_len 0 16 in
+    let size : length (state_at r i) ≡ 16 = length-map (range_with_len 0 16) (λ p. gathered r (lane_of p) i) ∙ length-range_with_len 0 16 in
+    let qsize : length (state_at q i) ≡ 16 = length-map (range_with_len 0 16) (λ p. gathered q (lane_of p) i) ∙ length-range_with_len 0 16 in
     ext_get_or 0 (state_at r i) (xor_bytes (state_at q i) key) (size ∙ sym (length-zip2 bit_xor (state_at q i) key (qsize ∙ sym long) ∙ qsize)) (λ p lt.
     let P : p < 16 = omega (arith, size) in
-    get_or-map-range_with_len (λ p. gathered r p i) 0 16 p p 0 P (zero-add p) ∙ rb p i P ∙ ap (bit_xor (gathered q p i)) (kb p i P I)
-    ∙ ap (λ z. bit_xor z (get_or key p 0)) (sym (get_or-map-range_with_len (λ p. gathered q p i) 0 16 p p 0 P (zero-add p)))
+    get_or-map-range_with_len (λ p. gathered r (lane_of p) i) 0 16 p p 0 P (zero-add p) ∙ rb (lane_of p) i (lane-lt p P) ∙ ap (bit_xor (gathered q (lane_of p) i)) (kb p i P I)
+    ∙ ap (λ z. bit_xor z (get_or key p 0)) (sym (get_or-map-range_with_len (λ p. gathered q (lane_of p) i) 0 16 p p 0 P (zero-add p)))
     ∙ sym (get_or-zip2 bit_xor (state_at q i) key p 0 0 0 (omega (arith, qsize)) (omega arith)))
 
 -- ---- the columns
@@ -332,6 +376,11 @@ xtime_sum a b A B =
 swap : (a b c : ℕ) → bit_xor (bit_xor a b) c ≡ bit_xor (bit_xor a c) b
 swap a b c = xor_assoc a b c ∙ ap (bit_xor a) (xor_comm b c) ∙ sym (xor_assoc a c b)
 
+-- what both of two have
+cancel : (a b c : ℕ) → bit_xor (bit_xor a c) (bit_xor b c) ≡ bit_xor a b
+cancel a b c =
+    sym (xor_assoc (bit_xor a c) b c) ∙ ap (λ z. bit_xor z c) (swap a c b) ∙ xor_assoc (bit_xor a b) c c ∙ ap (bit_xor (bit_xor a b)) (xor_self c) ∙ xor_zero_r (bit_xor a b)
+
 flat : (a b c d e : ℕ) → bit_xor (bit_xor (bit_xor a b) c) (bit_xor d e) ≡ bit_xor (bit_xor (bit_xor (bit_xor a b) c) d) e
 flat a b c d e = sym (xor_assoc (bit_xor (bit_xor a b) c) d e)
 
@@ -373,27 +422,71 @@ column_is a b c d A B C D =
     let r3 = row3 (xtime a) a b c (xtime d) ∙ ap (λ z. bit_xor (bit_xor z a) (bit_xor b c)) (s d a D A) in
     rw (ta, tb, tc, td, ha, hb, hc, hd, r0, r1, r2, r3) refl
 
--- MixColumns of a state
-pub mixed_state : (r u : List (List ℕ)) → ((p i : ℕ) → p < 16 → i < 8 → gathered u p i ≡ mixed_byte (gathered r p i) (gathered r (next_place p) i) (gathered r (half_place p) i) (gathered r (next_place (half_place p)) i))
-    → (i : ℕ) → i < 8 → state_at u i ≡ mix_columns (state_at r i)
+-- MixColumns of a state with byte b l in lane l
+pub mixed_state : (b : ℕ → ℕ) → ((l : ℕ) → b l < 256)
+    → map (λ p. mixed_byte (b (lane_of p)) (b (next_place (lane_of p))) (b (half_place (lane_of p))) (b (next_place (half_place (lane_of p))))) (range_with_len 0 16)
+    ≡ mix_columns (map (λ p. b (lane_of p)) (range_with_len 0 16))
 unfolding mix_columns
-mixed_state r u h i I =
-    let g : (p : ℕ) → gathered r p i < 256 = λ p. gathered-lt r p i in
-    let c0 = column_is (gathered r 0 i) (gathered r 1 i) (gathered r 2 i) (gathered r 3 i) (g 0) (g 1) (g 2) (g 3) in
-    let c1 = column_is (gathered r 4 i) (gathered r 5 i) (gathered r 6 i) (gathered r 7 i) (g 4) (g 5) (g 6) (g 7) in
-    let c2 = column_is (gathered r 8 i) (gathered r 9 i) (gathered r 10 i) (gathered r 11 i) (g 8) (g 9) (g 10) (g 11) in
-    let c3 = column_is (gathered r 12 i) (gathered r 13 i) (gathered r 14 i) (gathered r 15 i) (g 12) (g 13) (g 14) (g 15) in
-    map_same (λ p. gathered u p i) (λ p. mixed_byte (gathered r p i) (gathered r (next_place p) i) (gathered r (half_place p) i) (gathered r (next_place (half_place p)) i)) (λ p P. h p i P I)
-    ∙ sym (ap (λ zs. zs ++ mixed (state_at r i) 1 ++ mixed (state_at r i) 2 ++ mixed (state_at r i) 3) c0
-    ∙ ap (λ zs. (mixed_byte (gathered r 0 i) (gathered r 1 i) (gathered r 2 i) (gathered r 3 i) ∷ mixed_byte (gathered r 1 i) (gathered r 2 i) (gathered r 3 i) (gathered r 0 i) ∷ mixed_byte (gathered r 2 i) (gathered r 3 i) (gathered r 0 i) (gathered r 1 i) ∷ mixed_byte (gathered r 3 i) (gathered r 0 i) (gathered r 1 i) (gathered r 2 i) ∷ [])
+mixed_state b g =
+    let state = map (λ p. b (lane_of p)) (range_with_len 0 16) in
+    let c0 = column_is (b 0) (b 4) (b 8) (b 12) (g 0) (g 4) (g 8) (g 12) in
+    let c1 = column_is (b 1) (b 5) (b 9) (b 13) (g 1) (g 5) (g 9) (g 13) in
+    let c2 = column_is (b 2) (b 6) (b 10) (b 14) (g 2) (g 6) (g 10) (g 14) in
+    let c3 = column_is (b 3) (b 7) (b 11) (b 15) (g 3) (g 7) (g 11) (g 15) in
+    sym (ap (λ zs. zs ++ mixed state 1 ++ mixed state 2 ++ mixed state 3) c0
+    ∙ ap (λ zs. (mixed_byte (b 0) (b 4) (b 8) (b 12) ∷ mixed_byte (b 4) (b 8) (b 12) (b 0) ∷ mixed_byte (b 8) (b 12) (b 0) (b 4) ∷ mixed_byte (b 12) (b 0) (b 4) (b 8) ∷ [])
     ++ zs.0 ++ zs.1 ++ zs.2) (triple c1 c2 c3))
   where
     triple : {A : Type 0} {a b c x y z : A} → a ≡ x → b ≡ y → c ≡ z → ◌≡◌ {A = A × A × A} (a, b, c) (x, y, z)
     triple {A} {a} {b} {c} {x} {y} {z} e f g = ap (λ (w : A). (w, b, c)) e ∙ ap (λ (w : A). (x, w, c)) f ∙ ap (λ (w : A). (x, y, w)) g
 
 -- SubBytes and ShiftRows of a state
-pub rows_state : (q s r : List (List ℕ)) → ((p i : ℕ) → p < 16 → i < 8 → gathered s p i ≡ s_box (gathered q p i)) → ((p i : ℕ) → p < 16 → gathered r p i ≡ gathered s (row_place p) i)
-    → (i : ℕ) → i < 8 → state_at r i ≡ shift_rows (sub_bytes (state_at q i))
+pub rows_state : (q : List (List ℕ)) (i : ℕ) → map (λ p. s_box (gathered q (row_place (lane_of p)) i)) (range_with_len 0 16) ≡ shift_rows (sub_bytes (state_at q i))
 unfolding shift_rows sub_bytes
-rows_state q s r hs hr i I =
-    map_same (λ p. gathered r p i) (λ p. s_box (gathered q (row_place p) i)) (λ p P. hr p i P ∙ hs (row_place p) i (omega arith) I)
+rows_state q i = refl
+
+-- ---- without the constant
+
+-- the constant, added to all four bytes, comes out as it is
+pub constants_out : (a b c d : ℕ) → mixed_byte (without_constant a) (without_constant b) (without_constant c) (without_constant d) ≡ without_constant (mixed_byte a b c d)
+constants_out a b c d =
+    let top = xtime (bit_xor a b) in
+    ap (λ z. bit_xor (bit_xor (xtime z) (without_constant b)) (bit_xor (without_constant c) (without_constant d))) (cancel a b constant)
+    ∙ ap (λ z. bit_xor (bit_xor top (without_constant b)) z) (cancel c d constant)
+    ∙ ap (λ z. bit_xor z (bit_xor c d)) (sym (xor_assoc top b constant)) ∙ swap (bit_xor top b) constant (bit_xor c d)
+
+-- the bytes after SubBytes and ShiftRows
+pub rows_bytes : (q s r : List (List ℕ)) → ((p i : ℕ) → p < 16 → i < 8 → gathered s p i ≡ without_constant (s_box (gathered q p i)))
+    → ((k : ℕ) → k < 8 → get_or r k [] ≡ moved row_place (get_or s k [])) → (l i : ℕ) → l < 16 → i < 8 → gathered r l i ≡ without_constant (s_box (gathered q (row_place l) i))
+rows_bytes q s r hs hr l i L I = moved_bytes row_place s r hr l i L ∙ hs (row_place l) i (omega arith) I
+
+-- and after MixColumns
+pub mixed_bytes : (r u : List (List ℕ)) (b : ℕ → ℕ) (i : ℕ) → i < 8 → ((l : ℕ) → l < 16 → gathered r l i ≡ without_constant (b l))
+    → ((p i : ℕ) → p < 16 → i < 8 → gathered u p i ≡ mixed_byte (gathered r p i) (gathered r (next_place p) i) (gathered r (half_place p) i) (gathered r (next_place (half_place p)) i))
+    → (l : ℕ) → l < 16 → gathered u l i ≡ without_constant (mixed_byte (b l) (b (next_place l)) (b (half_place l)) (b (next_place (half_place l))))
+mixed_bytes r u b i I hr hu l L =
+    let n = next_place l in
+    let h = half_place l in
+    let m = next_place (half_place l) in
+    hu l i L I
+    ∙ ap (λ z. mixed_byte z (gathered r n i) (gathered r h i) (gathered r m i)) (hr l L)
+    ∙ ap (λ z. mixed_byte (without_constant (b l)) z (gathered r h i) (gathered r m i)) (hr n (omega arith))
+    ∙ ap (λ z. mixed_byte (without_constant (b l)) (without_constant (b n)) z (gathered r m i)) (hr h (omega arith))
+    ∙ ap (λ z. mixed_byte (without_constant (b l)) (without_constant (b n)) (without_constant (b h)) z) (hr m (omega arith))
+    ∙ constants_out (b l) (b n) (b h) (b m)
+
+-- the sum of bytes without the constant and of a round key with it
+pub state_summed : (u k r : List (List ℕ)) (key : List ℕ) (c i : ℕ) → i < 8 → IsKeyOf k c key
+    → ((p i : ℕ) → p < 16 → gathered r p i ≡ bit_xor (gathered u p i) (gathered k p i)) → (b : ℕ → ℕ) → ((l : ℕ) → l < 16 → gathered u l i ≡ bit_xor (b l) c)
+    → state_at r i ≡ xor_bytes (map (λ p. b (lane_of p)) (range_with_len 0 16)) key
+state_summed u k r key c i I is sum b here =
+    let bytes = map (λ p. b (lane_of p)) (range_with_len 0 16) in
+    let size : length (state_at r i) ≡ 16 = length-map (range_with_len 0 16) (λ p. gathered r (lane_of p) i) ∙ length-range_with_len 0 16 in
+    let long : length bytes ≡ 16 = length-map (range_with_len 0 16) (λ p. b (lane_of p)) ∙ length-range_with_len 0 16 in
+    ext_get_or 0 (state_at r i) (xor_bytes bytes key) (size ∙ sym (length-zip2 bit_xor bytes key (long ∙ sym is.long) ∙ long)) (λ p lt.
+    let P : p < 16 = omega (arith, size) in
+    let l = lane_of p in
+    get_or-map-range_with_len (λ p. gathered r (lane_of p) i) 0 16 p p 0 P (zero-add p) ∙ sum l i (lane-lt p P)
+    ∙ ap (λ z. bit_xor z (gathered k l i)) (here l (lane-lt p P)) ∙ ap (bit_xor (bit_xor (b l) c)) (is.bytes p i P I) ∙ cancel (b l) (get_or key p 0) c
+    ∙ ap (λ z. bit_xor z (get_or key p 0)) (sym (get_or-map-range_with_len (λ p. b (lane_of p)) 0 16 p p 0 P (zero-add p)))
+    ∙ sym (get_or-zip2 bit_xor bytes key p 0 0 0 (omega (arith, long)) (omega (arith, is.long))))

@@ -8,9 +8,9 @@ use Rattle.std.proofs.lemmas.Simd.{length-zip2, get_or-zip2, Each1-get_or}
 use Rattle.std.proofs.lemmas.Nat.Bits.{bit_at_xor, bit_at_and, bit_at-lt}
 use Rattle.std.proofs.lemmas.Nat.{xor_lt, and_le_r}
 use lib.Lanes.{Each1, zip2}
-use Rattle.aes_block.specs.Sliced.{bit_of, gathered, state_at, IsState, AreBytes, lower, upper, place}
+use Rattle.aes_block.specs.Sliced.{bit_of, gathered, state_at, moved, lane_of, IsState, AreBytes, lower, upper, place}
 use Rattle.aes_block.proofs.Circuit.{gathered_from, gathered_bit, gathered-lt}
-use Rattle.aes_block.proofs.States.{eight, spelled, map_same, byte_same}
+use Rattle.aes_block.proofs.States.{eight, lane-lt, map_same, byte_same}
 
 -- ---- lists of lanes
 
@@ -430,21 +430,24 @@ turned_all q o t f ones twos fours p k i P K I =
 
 -- ---- blocks and states
 
-pub state_is : (q t : List (List ℕ)) (blocks : List (List ℕ)) → ((i : ℕ) → i < 8 → get_or q i [] ≡ get_or blocks i [])
+pub state_is : (q t : List (List ℕ)) (blocks : List (List ℕ)) → ((i : ℕ) → i < 8 → moved lane_of (get_or q i []) ≡ get_or blocks i [])
     → ((p k i : ℕ) → p < 16 → k < 8 → i < 8 → bit_of t k p i ≡ bit_of q i p k)
-    → IsState q → AreBytes q → (i : ℕ) → i < 8 → state_at t i ≡ get_or blocks i []
-state_is q t blocks same bits long small i I =
-    map_same (λ p. gathered t p i) (λ p. get_or (get_or q i []) p 0) (λ p P.
-    gathered_from t p i (get_or (get_or q i []) p 0) (small i p I P) (λ k K. bits p k i P K I))
-    ∙ sym (spelled (get_or q i []) 16 (long i I)) ∙ same i I
+    → AreBytes q → (i : ℕ) → i < 8 → state_at t i ≡ get_or blocks i []
+state_is q t blocks same bits small i I =
+    map_same (λ p. gathered t (lane_of p) i) (λ p. get_or (get_or q i []) (lane_of p) 0) (λ p P.
+    let l = lane_of p in
+    let L = lane-lt p P in
+    gathered_from t l i (get_or (get_or q i []) l 0) (small i l I L) (λ k K. bits l k i L K I))
+    ∙ same i I
 
 pub block_is : (q t : List (List ℕ)) → ((p k i : ℕ) → p < 16 → k < 8 → i < 8 → bit_of t k p i ≡ bit_of q i p k)
-    → IsState t → AreBytes t → (i : ℕ) → i < 8 → get_or t i [] ≡ state_at q i
-block_is q t bits long small i I =
-    spelled (get_or t i []) 16 (long i I)
-    ∙ map_same (λ p. get_or (get_or t i []) p 0) (λ p. gathered q p i) (λ p P.
-    byte_same (get_or (get_or t i []) p 0) (gathered q p i) (small i p I P) (gathered-lt q p i) (λ k K.
-    bits p i k P I K ∙ sym (gathered_bit q p i k K)))
+    → AreBytes t → (i : ℕ) → i < 8 → moved lane_of (get_or t i []) ≡ state_at q i
+block_is q t bits small i I =
+    map_same (λ p. get_or (get_or t i []) (lane_of p) 0) (λ p. gathered q (lane_of p) i) (λ p P.
+    let l = lane_of p in
+    let L = lane-lt p P in
+    byte_same (get_or (get_or t i []) l 0) (gathered q l i) (small i l I L) (gathered-lt q l i) (λ k K.
+    bits l i k L I K ∙ sym (gathered_bit q l i k K)))
 
 pub lane_small : (v : List ℕ) (p : ℕ) → length v ≡ 16 → Each1 (Fits w8) v → p < 16 → get_or v p 0 < 256
 lane_small v p long fits P = (Each1-get_or (Fits w8) v p 0 (omega arith) fits).fits

@@ -1,14 +1,11 @@
 -- ---- for the proofs
--- The S-box as a circuit (Boyar and Peralta's, 115 gates): d is the element that a list too short gives,
--- `ones` has all bits set, x is the sum of bits and a their product.
-use Rattle.std.specs.Prelude.{ℕ, List, [], ◌∷◌, slice_index_or, replicate}
+-- The S-box as a circuit (Boyar and Peralta's, of 115 gates) without its four complements, so that the
+-- constant of the affine map is left out: d is the element that a list too short gives, x is the sum of
+-- bits and a their product.
+use Rattle.std.specs.Prelude.{ℕ, List, [], ◌∷◌, slice_index_or}
 
--- 16 lanes with all bits set
-abbrev pub ones : List ℕ
-ones = replicate 16 255
-
-unfoldable pub outer_sums : {A : Type 0} → A → A → (A → A → A) → (A → A → A) → List A → List A
-outer_sums d one x a q =
+unfoldable pub outer_sums : {A : Type 0} → A → (A → A → A) → (A → A → A) → List A → List A
+outer_sums d x a q =
     let q0 = slice_index_or q 0 d in
     let q1 = slice_index_or q 1 d in
     let q2 = slice_index_or q 2 d in
@@ -42,8 +39,8 @@ outer_sums d one x a q =
     let y18 = x q7 y16 in
     y1 ∷ y2 ∷ y3 ∷ y4 ∷ y5 ∷ y6 ∷ y7 ∷ y8 ∷ y9 ∷ y10 ∷ y11 ∷ y12 ∷ y13 ∷ y14 ∷ y15 ∷ y16 ∷ y17 ∷ y18 ∷ y19 ∷ y20 ∷ y21 ∷ q0 ∷ []
 
-unfoldable pub inner_sums : {A : Type 0} → A → A → (A → A → A) → (A → A → A) → List A → List A
-inner_sums d one x a y =
+unfoldable pub inner_sums : {A : Type 0} → A → (A → A → A) → (A → A → A) → List A → List A
+inner_sums d x a y =
     let y1 = slice_index_or y 0 d in
     let y2 = slice_index_or y 1 d in
     let y3 = slice_index_or y 2 d in
@@ -91,8 +88,8 @@ inner_sums d one x a y =
     let t24 = x t20 y18 in
     t21 ∷ t22 ∷ t23 ∷ t24 ∷ []
 
-unfoldable pub inner_inverse : {A : Type 0} → A → A → (A → A → A) → (A → A → A) → List A → List A
-inner_inverse d one x a t =
+unfoldable pub inner_inverse : {A : Type 0} → A → (A → A → A) → (A → A → A) → List A → List A
+inner_inverse d x a t =
     let t21 = slice_index_or t 0 d in
     let t22 = slice_index_or t 1 d in
     let t23 = slice_index_or t 2 d in
@@ -120,8 +117,8 @@ inner_inverse d one x a t =
     let t45 = x t42 t41 in
     t29 ∷ t33 ∷ t37 ∷ t40 ∷ t41 ∷ t42 ∷ t43 ∷ t44 ∷ t45 ∷ []
 
-unfoldable pub inner_products : {A : Type 0} → A → A → (A → A → A) → (A → A → A) → List A → List A → List A
-inner_products d one x a y t =
+unfoldable pub inner_products : {A : Type 0} → A → (A → A → A) → (A → A → A) → List A → List A → List A
+inner_products d x a y t =
     let y1 = slice_index_or y 0 d in
     let y2 = slice_index_or y 1 d in
     let y3 = slice_index_or y 2 d in
@@ -169,8 +166,8 @@ inner_products d one x a y t =
     let z17 = a t41 y8 in
     z0 ∷ z1 ∷ z2 ∷ z3 ∷ z4 ∷ z5 ∷ z6 ∷ z7 ∷ z8 ∷ z9 ∷ z10 ∷ z11 ∷ z12 ∷ z13 ∷ z14 ∷ z15 ∷ z16 ∷ z17 ∷ []
 
-unfoldable pub last_sums : {A : Type 0} → A → A → (A → A → A) → (A → A → A) → List A → List A
-last_sums d one x a z =
+unfoldable pub last_sums : {A : Type 0} → A → (A → A → A) → (A → A → A) → List A → List A
+last_sums d x a z =
     let z0 = slice_index_or z 0 d in
     let z1 = slice_index_or z 1 d in
     let z2 = slice_index_or z 2 d in
@@ -211,22 +208,18 @@ last_sums d one x a z =
     let t65 = x t61 t62 in
     let t66 = x z1 t63 in
     let s0 = x t59 t63 in
-    let nt62 = x t62 one in
-    let s6 = x t56 nt62 in
-    let nt60 = x t60 one in
-    let s7 = x t48 nt60 in
+    let s6 = x t56 t62 in
+    let s7 = x t48 t60 in
     let t67 = x t64 t65 in
     let s3 = x t53 t66 in
     let s4 = x t51 t66 in
     let s5 = x t47 t65 in
-    let ns3 = x s3 one in
-    let s1 = x t64 ns3 in
-    let nt67 = x t67 one in
-    let s2 = x t55 nt67 in
+    let s1 = x t64 s3 in
+    let s2 = x t55 t67 in
     s7 ∷ s6 ∷ s5 ∷ s4 ∷ s3 ∷ s2 ∷ s1 ∷ s0 ∷ []
 
 -- the whole circuit
-unfoldable pub circuit : {A : Type 0} → A → A → (A → A → A) → (A → A → A) → List A → List A
-circuit d one x a q =
-    let y = outer_sums d one x a q in
-    last_sums d one x a (inner_products d one x a y (inner_inverse d one x a (inner_sums d one x a y)))
+unfoldable pub circuit : {A : Type 0} → A → (A → A → A) → (A → A → A) → List A → List A
+circuit d x a q =
+    let y = outer_sums d x a q in
+    last_sums d x a (inner_products d x a y (inner_inverse d x a (inner_sums d x a y)))

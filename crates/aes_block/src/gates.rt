@@ -8,22 +8,27 @@
 //! with the affine map. It is equal since a gate acts on each bit alone: one run of the same circuit
 //! on numbers of 256 bits, bit v for the byte v, computes the S-box of all bytes, and the check runs
 //! it (`circuit_is_s_box` of `proofs/Circuit.antt`).
+//!
+//! The four gates that add the map's constant are left out. The round keys have it in their place.
 
 ghost use Rattle.std.specs.Prelude.{◌≡◌, ◌<◌, [], ℕ, bit_xor, bit_and};
 ghost use Rattle.std.specs.Simd.Lanes.{zip2};
 ghost use Rattle.aes_block.specs.Field.{s_box};
-ghost use Rattle.aes_block.specs.Sliced.{IsState, gathered};
-ghost use Rattle.aes_block.specs.Circuit.{ones, outer_sums, inner_sums, inner_inverse, inner_products, last_sums};
+ghost use Rattle.aes_block.specs.Sliced.{IsState, gathered, without_constant};
+ghost use Rattle.aes_block.specs.Circuit.{outer_sums, inner_sums, inner_inverse, inner_products, last_sums};
 
 use std::simd::prelude::*;
 
 /// Eight states by bits.
 pub(crate) type State = [u8x16; 8];
 
+/// The constant of the S-box's affine map (FIPS 197, 5.1.1).
+pub(crate) const CONSTANT: u8 = 0x63;
+
 #[tactic(auto, unfolding(crate::specs::Circuit::outer_sums))]
 #[inline(always)]
 fn outer_sums(q: [u8x16; 8]) -> [u8x16; 22]
-    ensures { result ≡ outer_sums [] ones (zip2 bit_xor) (zip2 bit_and) q }
+    ensures { result ≡ outer_sums [] (zip2 bit_xor) (zip2 bit_and) q }
 {
     let [q0, q1, q2, q3, q4, q5, q6, q7] = q;
     let y14 = q4 ^ q2;
@@ -58,7 +63,7 @@ fn outer_sums(q: [u8x16; 8]) -> [u8x16; 22]
 #[tactic(auto, unfolding(crate::specs::Circuit::inner_sums))]
 #[inline(always)]
 fn inner_sums(y: [u8x16; 22]) -> [u8x16; 4]
-    ensures { result ≡ inner_sums [] ones (zip2 bit_xor) (zip2 bit_and) y }
+    ensures { result ≡ inner_sums [] (zip2 bit_xor) (zip2 bit_and) y }
 {
     let [
         y1,
@@ -113,7 +118,7 @@ fn inner_sums(y: [u8x16; 22]) -> [u8x16; 4]
 #[tactic(auto, unfolding(crate::specs::Circuit::inner_inverse))]
 #[inline(always)]
 fn inner_inverse(t: [u8x16; 4]) -> [u8x16; 9]
-    ensures { result ≡ inner_inverse [] ones (zip2 bit_xor) (zip2 bit_and) t }
+    ensures { result ≡ inner_inverse [] (zip2 bit_xor) (zip2 bit_and) t }
 {
     let [t21, t22, t23, t24] = t;
     let t25 = t21 ^ t22;
@@ -143,7 +148,7 @@ fn inner_inverse(t: [u8x16; 4]) -> [u8x16; 9]
 #[tactic(auto, unfolding(crate::specs::Circuit::inner_products))]
 #[inline(always)]
 fn inner_products(y: [u8x16; 22], t: [u8x16; 9]) -> [u8x16; 18]
-    ensures { result ≡ inner_products [] ones (zip2 bit_xor) (zip2 bit_and) y t }
+    ensures { result ≡ inner_products [] (zip2 bit_xor) (zip2 bit_and) y t }
 {
     let [
         y1,
@@ -196,7 +201,7 @@ fn inner_products(y: [u8x16; 22], t: [u8x16; 9]) -> [u8x16; 18]
 #[tactic(auto, unfolding(crate::specs::Circuit::last_sums))]
 #[inline(always)]
 fn last_sums(z: [u8x16; 18]) -> [u8x16; 8]
-    ensures { result ≡ last_sums [] ones (zip2 bit_xor) (zip2 bit_and) z }
+    ensures { result ≡ last_sums [] (zip2 bit_xor) (zip2 bit_and) z }
 {
     let [
         z0,
@@ -218,7 +223,6 @@ fn last_sums(z: [u8x16; 18]) -> [u8x16; 8]
         z16,
         z17,
     ] = z;
-    let ones = u8x16::splat(255);
     let t46 = z15 ^ z16;
     let t47 = z10 ^ z11;
     let t48 = z5 ^ z13;
@@ -241,27 +245,24 @@ fn last_sums(z: [u8x16; 18]) -> [u8x16; 8]
     let t65 = t61 ^ t62;
     let t66 = z1 ^ t63;
     let s0 = t59 ^ t63;
-    let nt62 = t62 ^ ones;
-    let s6 = t56 ^ nt62;
-    let nt60 = t60 ^ ones;
-    let s7 = t48 ^ nt60;
+    let s6 = t56 ^ t62;
+    let s7 = t48 ^ t60;
     let t67 = t64 ^ t65;
     let s3 = t53 ^ t66;
     let s4 = t51 ^ t66;
     let s5 = t47 ^ t65;
-    let ns3 = s3 ^ ones;
-    let s1 = t64 ^ ns3;
-    let nt67 = t67 ^ ones;
-    let s2 = t55 ^ nt67;
+    let s1 = t64 ^ s3;
+    let s2 = t55 ^ t67;
     [s7, s6, s5, s4, s3, s2, s1, s0]
 }
 
-// SubBytes of the eight states.
+// SubBytes of the eight states, but for the constant.
 #[inline(always)]
 pub(crate) fn sub_bytes(q: State) -> State
     requires { IsState q }
     ensures long { IsState result }
-    ensures bytes { (p i : ℕ) → p < 16 → i < 8 → gathered result p i ≡ s_box (gathered q p i) }
+    ensures bytes { (p i : ℕ) → p < 16 → i < 8
+        → gathered result p i ≡ without_constant (s_box (gathered q p i)) }
 {
     let y = outer_sums(q);
     let t = inner_inverse(inner_sums(y));

@@ -1,6 +1,6 @@
 //! KeyExpansion (FIPS 197, 5.2), for keys of 4 and of 8 words.
 //!
-//! SubWord goes through the S-box's circuit, as the first four bytes of a state.
+//! SubWord goes through the S-box's circuit, as the first four bytes of a state, and adds its constant.
 
 ghost use Rattle.std.specs.Prelude.{◌≡◌, ◌≤◌, ◌<◌, ◌+◌, ◌*◌, ◌⊎◌, length, map};
 ghost use Rattle.arrayvec.specs.ArrayVec.{array_vec_len};
@@ -8,7 +8,7 @@ ghost use Rattle.byte_strings.specs.Bytes.{xor_bytes};
 ghost use Rattle.aes_block.specs.Field.{s_box};
 ghost use Rattle.aes_block.specs.Cipher.{word, rot_word, sub_word, rcon, temp, expanded_key};
 
-use crate::gates::sub_bytes;
+use crate::gates::{CONSTANT, sub_bytes};
 use crate::slices::{sliced, unsliced};
 use crate::tables::ROUND_CONSTANTS;
 use arrayvec::ArrayVec;
@@ -43,7 +43,12 @@ fn sub_word(bytes: Word) -> Word
     let [a, b, c, d] = bytes;
     let block = [a, b, c, d, 0, 0, 0, 0, 0, 0, 0, 0, 0, 0, 0, 0];
     let [first, ..] = unsliced(sub_bytes(sliced(&[block; 8])));
-    [first[0], first[1], first[2], first[3]]
+    [
+        first[0] ^ CONSTANT,
+        first[1] ^ CONSTANT,
+        first[2] ^ CONSTANT,
+        first[3] ^ CONSTANT,
+    ]
 }
 
 // Rcon_j, for the `j` that key expansion asks for.

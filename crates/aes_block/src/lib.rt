@@ -11,6 +11,8 @@
 //! vectors, and the loops count rounds and words. That is so by construction and tested over the
 //! built program; it isn't proved. Nothing here refuses, takes memory or is wiped. Not here:
 //! AES-192, decryption of blocks, and any mode of use.
+//!
+//! Tests: `hpke_tests`.
 #![tactic(auto)]
 
 mod gates;

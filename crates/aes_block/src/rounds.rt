@@ -1,15 +1,19 @@
 //! The rounds of Cipher (FIPS 197, 5.1) on eight states at once, by bits.
 //!
-//! Lane p of register j holds bit j of byte p of eight states, that of state i as its bit i. So
-//! ShiftRows moves the lanes of each register alike, a sum is one of registers, and x times each byte
-//! hands each register's bits on to the next. MixColumns of a byte a and the three below it in its
+//! Each register holds a bit of eight states' bytes, a byte in each lane, and the lanes go by the
+//! state's rows. So ShiftRows moves the lanes of each register alike, within their rows; the byte below
+//! one in its column stands four lanes on; a sum is one of registers, and x times each byte hands each
+//! register's bits on to the next. MixColumns of a byte a and the three below it in its
 //! column, b, c and d, is 2 a + 3 b + c + d = 2 (a + b) + b + (c + d): with the sum m of each byte and
 //! the one below it, that is twice m, b, and m two rows down (`column_is` of `proofs/States.antt`).
+//!
+//! SubBytes leaves out its constant, and MixColumns of a column of constants is that column, so the
+//! constant can wait: the key of each round has it (`constants_out`).
 
 ghost use Rattle.std.specs.Prelude.{◌≡◌, ◌<◌, slice_index_or, [], ℕ, List, length, bit_xor};
 ghost use Rattle.std.specs.Simd.Lanes.{zip2};
 ghost use Rattle.aes_block.specs.Field.{xtime};
-ghost use Rattle.aes_block.specs.Sliced.{IsState, IsKeyOf, gathered, state_at, mixed_byte, moved, row_place, next_place, half_place};
+ghost use Rattle.aes_block.specs.Sliced.{IsState, IsKeyOf, constant, gathered, state_at, mixed_byte, moved, row_place, next_place, half_place};
 ghost use Rattle.byte_strings.specs.Bytes.{xor_bytes};
 ghost use Rattle.aes_block.specs.Cipher.{sub_bytes, shift_rows, mix_columns};
 
@@ -22,7 +26,7 @@ fn rows(x: u8x16) -> u8x16
     requires { length x ≡ 16 }
     ensures { result ≡ moved row_place x }
 {
-    x.swizzle([0, 5, 10, 15, 4, 9, 14, 3, 8, 13, 2, 7, 12, 1, 6, 11])
+    x.swizzle([0, 1, 2, 3, 5, 6, 7, 4, 10, 11, 8, 9, 15, 12, 13, 14])
 }
 
 // Each lane from one row below it, in its column.
@@ -31,7 +35,7 @@ fn turned(x: u8x16) -> u8x16
     requires { length x ≡ 16 }
     ensures { result ≡ moved next_place x }
 {
-    x.swizzle([1, 2, 3, 0, 5, 6, 7, 4, 9, 10, 11, 8, 13, 14, 15, 12])
+    x.swizzle([4, 5, 6, 7, 8, 9, 10, 11, 12, 13, 14, 15, 0, 1, 2, 3])
 }
 
 // Each lane from two rows below it.
@@ -40,7 +44,7 @@ fn halved(x: u8x16) -> u8x16
     requires { length x ≡ 16 }
     ensures { result ≡ moved half_place x }
 {
-    x.swizzle([2, 3, 0, 1, 6, 7, 4, 5, 10, 11, 8, 9, 14, 15, 12, 13])
+    x.swizzle([8, 9, 10, 11, 12, 13, 14, 15, 0, 1, 2, 3, 4, 5, 6, 7])
 }
 
 #[inline(always)]
@@ -144,13 +148,13 @@ fn mixed(r: State) -> State
     added(added(doubled(m), n), halved_of(m))
 }
 
-// AddRoundKey, with a round key by bits.
+// AddRoundKey, with the first round key by bits.
 #[inline(always)]
 pub(crate) fn add_key(q: State, key: State) -> State
     requires state { IsState q }
     requires key { IsState key }
     ensures long { IsState result }
-    ensures states { (bytes : List ℕ) → IsKeyOf key bytes → (i : ℕ) → i < 8
+    ensures states { (bytes : List ℕ) → IsKeyOf key 0 bytes → (i : ℕ) → i < 8
         → state_at result i ≡ xor_bytes (state_at q i) bytes }
 {
     added(q, key)
@@ -162,10 +166,10 @@ pub(crate) fn round(q: State, key: State) -> State
     requires state { IsState q }
     requires key { IsState key }
     ensures long { IsState result }
-    ensures states { (bytes : List ℕ) → IsKeyOf key bytes → (i : ℕ) → i < 8 → state_at result i
+    ensures states { (bytes : List ℕ) → IsKeyOf key constant bytes → (i : ℕ) → i < 8 → state_at result i
         ≡ xor_bytes (mix_columns (shift_rows (sub_bytes (state_at q i)))) bytes }
 {
-    add_key(mixed(rows_of(sub_bytes(q))), key)
+    added(mixed(rows_of(sub_bytes(q))), key)
 }
 
 // The last round, which has no MixColumns.
@@ -174,8 +178,8 @@ pub(crate) fn last_round(q: State, key: State) -> State
     requires state { IsState q }
     requires key { IsState key }
     ensures long { IsState result }
-    ensures states { (bytes : List ℕ) → IsKeyOf key bytes → (i : ℕ) → i < 8 → state_at result i
+    ensures states { (bytes : List ℕ) → IsKeyOf key constant bytes → (i : ℕ) → i < 8 → state_at result i
         ≡ xor_bytes (shift_rows (sub_bytes (state_at q i))) bytes }
 {
-    add_key(rows_of(sub_bytes(q)), key)
+    added(rows_of(sub_bytes(q)), key)
 }

@@ -7,13 +7,17 @@
 //! differ in it. Bit i of register k so goes to the place that has the bit n of the two numbers
 //! exchanged, and after all three to bit k of register i (`turned_all` of `proofs/Turning.antt`).
 //!
+//! The lanes go by the rows of a block's square of bytes, and its bytes by the columns. So a block is
+//! transposed before, and after: each row stands together, and the rounds' moves along the columns
+//! are moves of whole rows.
+//!
 //! A round key is the same for all blocks, so each of its lanes has all bits set or none.
 
 ghost use Rattle.std.specs.Prelude.{◌≡◌, ◌≤◌, ◌+◌, ◌*◌, ◌<◌, ◌==◌, ◌^◌, if◌then◌else◌, map, slice_index, slice_index_or, slice_set, take, ◌++◌, ◌/◌, [], ◌∷◌, ℕ, length, bit_and};
 ghost use Rattle.std.specs.Simd.Lanes.{zip2};
-ghost use Rattle.aes_block.specs.Sliced.{IsState, AreBytes, AreKeysOf, bit_of, state_at, lower, upper, place};
+ghost use Rattle.aes_block.specs.Sliced.{IsState, AreBytes, AreKeysOf, bit_of, state_at, constant_of, moved, lane_of, lower, upper, place};
 
-use crate::gates::State;
+use crate::gates::{CONSTANT, State};
 use std::simd::prelude::*;
 
 // The bits of `a` that `mask` has, and those of `b` that it has, moved `n` up between them.
@@ -114,14 +118,23 @@ fn turn(q: State) -> State
     exchanged_fours(exchanged_twos(exchanged_ones(q)))
 }
 
-// The bytes of a block are below 256.
+// The bytes of a block by rows, or back by columns.
+#[inline(always)]
+fn transposed(x: u8x16) -> u8x16
+    requires { length x ≡ 16 }
+    ensures { result ≡ moved lane_of x }
+{
+    x.swizzle([0, 4, 8, 12, 1, 5, 9, 13, 2, 6, 10, 14, 3, 7, 11, 15])
+}
+
+// The bytes of a block by rows. They are below 256.
 #[inline(always)]
 fn lanes(block: &[u8; 16]) -> u8x16
     ensures long { length result ≡ 16 }
     ensures small { (p : ℕ) → p < 16 → slice_index result p < 256 }
-    ensures same { result ≡ block.now }
+    ensures same { moved lane_of result ≡ block.now }
 {
-    known(u8x16::from_array(*block))
+    known(transposed(u8x16::from_array(*block)))
 }
 
 // A vector's lanes are bytes.
@@ -139,7 +152,7 @@ fn load(blocks: &[[u8; 16]; 8]) -> State
     ensures long { IsState result }
     ensures small { AreBytes result }
     ensures same { (i : ℕ) → i < 8
-        → slice_index_or result i [] ≡ slice_index_or blocks.now i [] }
+        → moved lane_of (slice_index_or result i []) ≡ slice_index_or blocks.now i [] }
 {
     [
         lanes(&blocks[0]),
@@ -170,14 +183,14 @@ pub(crate) fn unsliced(q: State) -> [[u8; 16]; 8]
 {
     let [q0, q1, q2, q3, q4, q5, q6, q7] = turn(q);
     [
-        q0.to_array(),
-        q1.to_array(),
-        q2.to_array(),
-        q3.to_array(),
-        q4.to_array(),
-        q5.to_array(),
-        q6.to_array(),
-        q7.to_array(),
+        transposed(q0).to_array(),
+        transposed(q1).to_array(),
+        transposed(q2).to_array(),
+        transposed(q3).to_array(),
+        transposed(q4).to_array(),
+        transposed(q5).to_array(),
+        transposed(q6).to_array(),
+        transposed(q7).to_array(),
     ]
 }
 
@@ -229,6 +242,14 @@ pub(crate) fn counted(block: &[u8; 16]) -> State
 /// The registers of the round keys, eight a key. What stands behind the last key is 0.
 pub(crate) type SlicedKeys = [[u8; 16]; 120];
 
+// What register `n` of the round keys has of the S-box's constant: all but those of the first key have
+// it, since they are added to what `sub_bytes` gives.
+fn constant_of(n: usize) -> u8
+    ensures { result ≡ constant_of n }
+{
+    if n < 8 { 0 } else { CONSTANT }
+}
+
 // The round keys of an expanded key by bits, up to the last of `rounds` rounds.
 pub(crate) fn sliced_keys(w: &[u8], rounds: usize) -> SlicedKeys
     requires few { rounds ≤ 14 }
@@ -237,7 +258,8 @@ pub(crate) fn sliced_keys(w: &[u8], rounds: usize) -> SlicedKeys
 {
     let mut keys = [[0u8; 16]; 120];
     for n in 0..8 * (rounds + 1) {
-        let key = known(u8x16::from_slice(&w[16 * (n / 8)..]));
+        let lanes = transposed(u8x16::from_slice(&w[16 * (n / 8)..]));
+        let key = known(lanes ^ u8x16::splat(constant_of(n)));
         keys[n] = spread(key, n % 8).to_array();
     }
     keys

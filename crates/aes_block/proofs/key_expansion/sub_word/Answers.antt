@@ -1,5 +1,7 @@
 use Rattle.std.proofs.Common.{◌≡◌, ℕ, [], ◌∷◌, get_or, map, ap, sym, ◌∙◌, arith}
 use Rattle.aes_block.specs.Field.{s_box}
+use Rattle.aes_block.specs.Sliced.{without_constant}
+use Rattle.aes_block.proofs.Circuit.{constant_back}
 use Rattle.aes_block.proofs.States.{spelled}
 use Rattle.aes_block.proofs.key_expansion.sub_word.Goals as goal
 
@@ -12,8 +14,8 @@ returns c =
     let out = c.unsliced.ensures 0 (omega arith) in
     let start = c.sliced.ensures.states 0 (omega arith) in
     four
-    (ap (λ xs. get_or xs 0 0) out ∙ c.sub_bytes.ensures.bytes 0 0 (omega arith) (omega arith) ∙ ap (λ xs. s_box (get_or xs 0 0)) start)
-    (ap (λ xs. get_or xs 1 0) out ∙ c.sub_bytes.ensures.bytes 1 0 (omega arith) (omega arith) ∙ ap (λ xs. s_box (get_or xs 1 0)) start)
-    (ap (λ xs. get_or xs 2 0) out ∙ c.sub_bytes.ensures.bytes 2 0 (omega arith) (omega arith) ∙ ap (λ xs. s_box (get_or xs 2 0)) start)
-    (ap (λ xs. get_or xs 3 0) out ∙ c.sub_bytes.ensures.bytes 3 0 (omega arith) (omega arith) ∙ ap (λ xs. s_box (get_or xs 3 0)) start)
+    (ap without_constant (ap (λ xs. get_or xs 0 0) out ∙ c.sub_bytes.ensures.bytes 0 0 (omega arith) (omega arith)) ∙ constant_back _ ∙ ap (λ xs. s_box (get_or xs 0 0)) start)
+    (ap without_constant (ap (λ xs. get_or xs 1 0) out ∙ c.sub_bytes.ensures.bytes 4 0 (omega arith) (omega arith)) ∙ constant_back _ ∙ ap (λ xs. s_box (get_or xs 1 0)) start)
+    (ap without_constant (ap (λ xs. get_or xs 2 0) out ∙ c.sub_bytes.ensures.bytes 8 0 (omega arith) (omega arith)) ∙ constant_back _ ∙ ap (λ xs. s_box (get_or xs 2 0)) start)
+    (ap without_constant (ap (λ xs. get_or xs 3 0) out ∙ c.sub_bytes.ensures.bytes 12 0 (omega arith) (omega arith)) ∙ constant_back _ ∙ ap (λ xs. s_box (get_or xs 3 0)) start)
     ∙ sym (ap (map s_box) (spelled c.args.bytes 4 (omega arith)))

@@ -1,4 +1,5 @@
-use Rattle.std.proofs.Common.{◌≡◌, ◌∷◌, [], ◌∙◌, ℕ, List, get_or, refl}
+use Rattle.std.proofs.Common.{◌≡◌, ◌<◌, ◌∷◌, [], ◌∙◌, ℕ, List, get_or, arith}
+use Rattle.aes_block.specs.Sliced.{moved, lane_of}
 use Rattle.aes_block.proofs.States.{eight}
 use Rattle.aes_block.proofs.Turning.{block_is}
 use Rattle.aes_block.proofs.slices.unsliced.Goals as goal
@@ -6,6 +7,6 @@ use Rattle.aes_block.proofs.slices.unsliced.Goals as goal
 pub returns : goal.returns
 returns c i I =
     let t = c.turn.result in
-    let list : List (List ℕ) = get_or t 0 [] ∷ get_or t 1 [] ∷ get_or t 2 [] ∷ get_or t 3 [] ∷ get_or t 4 [] ∷ get_or t 5 [] ∷ get_or t 6 [] ∷ get_or t 7 [] ∷ [] in
-    eight (λ k. get_or list k [] ≡ get_or t k []) refl refl refl refl refl refl refl refl i I
-    ∙ block_is c.args.q t c.turn.ensures.bits c.turn.ensures.long c.turn.ensures.small i I
+    let list : List (List ℕ) = c.transposed.result ∷ c.transposed-2.result ∷ c.transposed-3.result ∷ c.transposed-4.result ∷ c.transposed-5.result ∷ c.transposed-6.result ∷ c.transposed-7.result ∷ c.transposed-8.result ∷ [] in
+    eight (λ k. get_or list k [] ≡ moved lane_of (get_or t k [])) c.transposed.ensures c.transposed-2.ensures c.transposed-3.ensures c.transposed-4.ensures c.transposed-5.ensures c.transposed-6.ensures c.transposed-7.ensures c.transposed-8.ensures i I
+    ∙ block_is c.args.q t c.turn.ensures.bits c.turn.ensures.small i I
