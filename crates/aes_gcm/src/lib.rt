@@ -12,6 +12,8 @@
 //! verdict. That is so by construction and tested over the built program; it isn't proved. Of the
 //! hash `ghash_core` says the like. Not here: other lengths of IV and tag, and AES-192. Nonces are
 //! the caller's, who must never seal twice with one key and nonce.
+//!
+//! Tests: `hpke_tests`.
 #![tactic(auto)]
 
 mod adding;

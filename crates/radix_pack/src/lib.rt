@@ -11,6 +11,8 @@
 //! That no branch and no address depends on the coefficients of an element that is encoded, or on the
 //! digits of a small coding, is tested over the built program, and not proved. Whether a small coding
 //! is well-formed is told, and the time of decoding R/q, whose bytes are public, isn't watched.
+//!
+//! Tests: `lattice_tests`.
 #![tactic(auto)]
 
 mod elements;

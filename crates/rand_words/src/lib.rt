@@ -10,6 +10,8 @@
 //! That the words can't be foretold is ChaCha's claim. No branch and no address depends on a word but
 //! by the sort's test that its words are in order, which they are: tested over the built program, not
 //! proved. Nothing is wiped.
+//!
+//! Tests: `lattice_tests`.
 #![tactic(auto)]
 
 pub mod laws;

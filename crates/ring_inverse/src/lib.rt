@@ -13,6 +13,8 @@
 //! inverse was found. That is tested over the built program, and not proved; and it holds as far as
 //! the multiplier keeps to it. The elimination isn't constant time: it runs for elements without an
 //! inverse alone, unless the steps fail.
+//!
+//! Tests: `lattice_tests`.
 #![tactic(auto)]
 
 mod division;

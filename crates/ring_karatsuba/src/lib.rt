@@ -9,6 +9,8 @@
 //! No branch and no address depends on a coefficient, since each row is multiplied: tested over the
 //! built program, not proved. `Lanes` of `ring_lanes` has that too, and is faster.
 //! Nothing here is wiped.
+//!
+//! Tests: `lattice_tests`.
 #![tactic(auto)]
 
 mod multiplier;

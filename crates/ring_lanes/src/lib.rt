@@ -8,6 +8,8 @@
 //!
 //! No branch and no address depends on a coefficient of either factor, so its products take the
 //! same time for each: tested over the built program, not proved.
+//!
+//! Tests: `lattice_tests`.
 #![tactic(auto)]
 
 mod convolution;

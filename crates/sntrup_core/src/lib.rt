@@ -12,6 +12,8 @@
 //! multiplier of which this holds, is tested over the built program, and not proved; whether what
 //! was decrypted is short is such a secret. The time of `keygen` tells how many polynomials it drew.
 //! Nothing is wiped.
+//!
+//! Tests: `lattice_tests`.
 #![tactic(auto)]
 
 mod choosing;

@@ -13,6 +13,8 @@
 //! and [`decap`] depends on r, f, 1/g, rho or a session key, with a multiplier of which this holds,
 //! is tested over the built program, and not proved. The time of [`generate`] tells how many
 //! polynomials were drawn for g, and what `ring_inverse` says of inverses.
+//!
+//! Tests: `lattice_tests`.
 #![tactic(auto)]
 
 mod encapsulation;
