@@ -1,5 +1,5 @@
 -- The high half of a product of 32 bits fits 16, in each lane.
-use Rattle.std.proofs.Common.{◌≡◌, ℕ, zero, suc, ◌-◌, ◌^◌, ℤ, pos, negsuc, Bool, true, false, List, [], ◌∷◌, to_z, arith, refl}
+use Rattle.std.proofs.Common.{◌≡◌, ℕ, zero, suc, ◌-◌, ◌^◌, ℤ, pos, negsuc, Bool, true, false, List, [], ◌∷◌, to_z, of_z, arith, refl}
 use Rattle.std.specs.Int.{w16, w32}
 use Rattle.std.specs.Int.RustNames.{FitsSigned}
 use Rattle.std.specs.Int.Signed.{shr_z}
@@ -28,6 +28,12 @@ number_fits m = by (ltb m (2 ^ 31)) refl
     by : (t : Bool) → ltb m (2 ^ 31) ≡ t → FitsSigned w32 (sel t (pos m) (negsuc (2 ^ 32 - suc m)))
     by true e = omega (arith, ltb-true m (2 ^ 31) e)
     by false e = omega (arith, ltb-false m (2 ^ 31) e)
+
+-- the high half of a number of 32 bits
+pub high_half_fits : (m : ℕ) → FitsSigned w16 (to_z w32 (of_z w32 (shr_z (to_z w32 m) (2 ^ 16))))
+high_half_fits m =
+    let fits = number_fits m in
+    rw (to_z-of_z w32 (shr_z (to_z w32 m) (2 ^ 16)) (half_fits_32 (to_z w32 m) fits)) (half_fits (to_z w32 m) fits)
 
 -- what a lane of 32 bits asks
 lane_fits : (m : ℕ) → Asks1 (cast signed signed w16) (s_int w32) (act2 (shr signed) (s_int w32) (s_int w32) (s_int w32) m 16)

@@ -1,7 +1,15 @@
 use Rattle.std.proofs.Common.{◌≡◌, drop, [], sym, ap, ◌∙◌, arith}
 use Rattle.std.proofs.lemmas.List.{drop_all}
+use Rattle.std.proofs.lemmas.List.Sums.{AllPass-from_list_all}
+use Rattle.std.specs.Char.{is_ascii_digit}
 use Rattle.std.specs.Str.Parse.{digits_value, digits_value_after}
+use Rattle.decimal_text.proofs.Numbers.{number_digits}
 use Rattle.decimal_text.proofs.decimals.value_of.Goals as goal
+
+pub with_digit-requires : goal.with_digit-requires
+with_digit-requires c =
+    let text = c.args.text.now in
+    AllPass-from_list_all is_ascii_digit text (number_digits text c.requires) c.digits.digit-index 0 (omega arith)
 
 pub returns : goal.returns
 returns c =

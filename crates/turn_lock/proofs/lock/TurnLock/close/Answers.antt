@@ -1,4 +1,5 @@
 use Rattle.std.proofs.Common.{◌≡◌, ◌++◌, [], ◌∷◌, List, length, sym, refl, ap, ◌∙◌, subst, arith, append_assoc, All}
+use Rattle.turn_lock.specs.Views.{part}
 use Rattle.turn_lock.specs.Passes.{PassView, PassListView, LockView, AllOf, IsShown, NoOthers}
 use Rattle.turn_lock.proofs.Ends.{joins}
 use Rattle.turn_lock.proofs.Closing.{AllOf-split, closes, closes_with, not_none}
@@ -20,6 +21,23 @@ join_seat-requires g c =
       s.1,
       omega arith,
       joins g.V.Listed.entries g.V.Listed.terms _ _ c.loop-pass.seat.id c.loop-pass.seat.me.0 c.into_seat.result.id c.into_seat.result.me.0 i.2 s.2 (omega (arith, ap length i.3.3)),
+    )
+
+pub loop-pass-preserved : goal.loop-pass-preserved
+loop-pass-preserved g c =
+    let i = c.loop-pass.invariant in
+    let more = i.3.1 ∷ i.3.0 in
+    let joined = c.join_seat.ensures in (
+      joined.0 ∙ i.0,
+      ap (λ m. m.1) joined.2 ∙ i.1,
+      ap (λ m. m.0.phase) joined.2,
+      (
+        more,
+        c.in-Some-pop.pass,
+        i.3.2 ∙ ap (λ l. l ++ more) c.in-Some-pop.ensures.items ∙ append_assoc c.pop-in-loop-pass.new.self.items (c.in-Some-pop.pass ∷ []) more,
+        ap (λ m. m.0.parts) joined.2 ∙ ap (λ parts. parts ++ c.loop-pass.seat.me.0.parts) c.into_seat.ensures.3
+        ∙ ap (λ parts. part c.in-Some-pop.pass.number c.in-Some-pop.pass.seen ∷ parts) i.3.3,
+      ),
     )
 
 pub close_with-closed-requires : goal.close_with-closed-requires
