@@ -7,3 +7,5 @@ pub mod CallLines
 pub mod LookedUp
 pub mod FoundLive
 pub mod NeverLive
+pub mod OneLiveHistory
+pub mod LiveChecked

@@ -1,0 +1,524 @@
+-- A table and journals are one history exactly where the notes, as one journal more, and the
+-- journals are a legal history of calls that are two each.
+use Rattle.std.proofs.Common.{◌≡◌, ◌≢◌, ℕ, zero, suc, ◌+◌, ◌*◌, ◌<◌, List, [], ◌∷◌, ◌++◌, length, map, Option, Some, None, sym, refl, ap, ◌∙◌, subst, arith, append_assoc, ◌⊎◌, inl, inr}
+use Rattle.std.specs.Prelude.{slice_get, slice_index_or, Contains, ◌↔◌}
+use Rattle.std.specs.List.{AllPairs}
+use Rattle.std.proofs.lemmas.Bool.{cases_eq}
+use Rattle.std.proofs.lemmas.List.{append-nil, get_or_past}
+use Rattle.call_places.specs.declared.entries.Entry.{Entry}
+use Rattle.call_places.specs.declared.entries.Mark.{Mark}
+use Rattle.call_places.specs.declared.entries.Place.{Place}
+use Rattle.call_places.specs.Entries.{IsBefore, stamps_of, StampsRise}
+use Rattle.hpke_context.specs.Answers.{Item, Seal}
+use Rattle.hpke_context.specs.Contexts.{ContextView}
+use Rattle.legal_journals.specs.Batches.{Batch, Ask, Nothing, ToSeal, ToOpenAll, item_in_call, place, lane_of, IsServed}
+use Rattle.legal_journals.specs.Entries.{entry_places}
+use Rattle.legal_journals.specs.Histories.{mark, places, stamps, marks_at, all_stamps, HasLowerStamp, AreAllFrom0, LegalMarks, LegalHistory}
+use Rattle.legal_journals.specs.Legal.{OpensOn}
+use Rattle.legal_journals.proofs.Members.{In, contains_in, in_contains, in_map, map_in, RisesBy, pairs_rise, rises_pairs}
+use Rattle.legal_journals.proofs.Places.{same_place}
+use Rattle.batch_plans.specs.declared.plan.Plan.{Plan}
+use Rattle.due_replies.specs.Live.{Noting, noting_in, IsNoted, LiveHistory}
+use Rattle.due_replies.specs.LiveChecks.{note_ask, note_mark, call_mark}
+
+-- ---- the numbers of the two calls
+
+half : (n : ℕ) → ((k : ℕ) × (n ≡ 2 * k)) ⊎ ((k : ℕ) × (n ≡ 2 * k + 1))
+half zero = inl (0, refl)
+half (suc n) = elim (half n) [
+  | inl t ↦ inr (t.0, (let k : ℕ = t.0 in let e : n ≡ 2 * k = t.1 in omega arith))
+  | inr t ↦ inl (suc t.0, (let k : ℕ = t.0 in let e : n ≡ 2 * k + 1 = t.1 in omega arith))
+]
+
+abbrev note_place : Place → Place
+note_place p = place p.lane (2 * p.call) p.item
+
+abbrev call_place : Place → Place
+call_place p = place p.lane (2 * p.call + 1) p.item
+
+call_place_one : (p q : Place) → call_place p ≡ call_place q → p ≡ q
+call_place_one p q e =
+    same_place p q (ap (λ (r : Place). r.lane) e)
+    (let f : 2 * p.call + 1 ≡ 2 * q.call + 1 = ap (λ (r : Place). r.call) e in omega arith)
+    (ap (λ (r : Place). r.item) e)
+
+note_place_one : (p q : Place) → note_place p ≡ note_place q → p ≡ q
+note_place_one p q e =
+    same_place p q (ap (λ (r : Place). r.lane) e)
+    (let f : 2 * p.call ≡ 2 * q.call = ap (λ (r : Place). r.call) e in omega arith)
+    (ap (λ (r : Place). r.item) e)
+
+apart : (p q : Place) → note_place p ≡ call_place q → ⊥
+apart p q e =
+    absurd (let f : 2 * p.call ≡ 2 * q.call + 1 = ap (λ (r : Place). r.call) e in omega arith)
+
+call_mark_one : (m k : Mark) → call_mark m ≡ call_mark k → m ≡ k
+call_mark_one m k e =
+    let p = call_place_one m.place k.place (ap (λ (x : Mark). x.place) e) in
+    let s : m.stamp ≡ k.stamp = ap (λ (x : Mark). x.stamp) e in
+    (λ i. mark (p i) (s i))
+
+-- ---- places and stamps of what is mapped
+
+called_places : (ms : List Mark) → places (map call_mark ms) ≡ map call_place (places ms)
+called_places [] = refl
+called_places (m ∷ ms) = ap (λ ps. call_place m.place ∷ ps) (called_places ms)
+
+noted_places : (es : List Entry) → places (map note_mark es) ≡ map note_place (entry_places es)
+noted_places [] = refl
+noted_places (e ∷ es) = ap (λ ps. note_place e.place ∷ ps) (noted_places es)
+
+called_stamps : (ms : List Mark) → stamps (map call_mark ms) ≡ stamps ms
+called_stamps [] = refl
+called_stamps (m ∷ ms) = ap (λ ss. m.stamp ∷ ss) (called_stamps ms)
+
+noted_stamps : (es : List Entry) → stamps (map note_mark es) ≡ stamps_of es
+noted_stamps [] = refl
+noted_stamps (e ∷ es) = ap (λ ss. e.stamp ∷ ss) (noted_stamps es)
+
+rises_map : {X Y : Type 0} (S : X → X → Type 0) (R : Y → Y → Type 0) (f : X → Y)
+    → ((x y : X) → S x y → R (f x) (f y)) → (xs : List X) → RisesBy S xs → RisesBy R (map f xs)
+rises_map S R f g [] r = tt
+rises_map S R f g (x ∷ xs) r = (
+  λ y i. let t = map_in f y xs i in subst (R (f x)) t.2 (g x t.0 (r.0 t.0 t.1)),
+  rises_map S R f g xs r.1,
+)
+
+map_rises : {X Y : Type 0} (S : X → X → Type 0) (R : Y → Y → Type 0) (f : X → Y)
+    → ((x y : X) → R (f x) (f y) → S x y) → (xs : List X) → RisesBy R (map f xs) → RisesBy S xs
+map_rises S R f g [] r = tt
+map_rises S R f g (x ∷ xs) r = (
+  λ y i. g x y (r.0 (f y) (in_map f y xs i)),
+  map_rises S R f g xs r.1,
+)
+
+pairs_map : {X Y : Type 0} (S : X → X → Type 0) (R : Y → Y → Type 0) (f : X → Y)
+    → ((x y : X) → S x y → R (f x) (f y)) → (xs : List X) → AllPairs S xs → AllPairs R (map f xs)
+pairs_map S R f g xs t = pairs_rise R (map f xs) (rises_map S R f g xs (rises_pairs S xs t))
+
+map_pairs : {X Y : Type 0} (S : X → X → Type 0) (R : Y → Y → Type 0) (f : X → Y)
+    → ((x y : X) → R (f x) (f y) → S x y) → (xs : List X) → AllPairs R (map f xs) → AllPairs S xs
+map_pairs S R f g xs t = pairs_rise S xs (map_rises S R f g xs (rises_pairs R (map f xs) t))
+
+abbrev Apart : Place → Place → Type 0
+Apart p q = p ≢ q
+
+abbrev Earlier : Entry → Entry → Type 0
+Earlier e f = e.stamp < f.stamp
+
+notes_rise : (es : List Entry) → StampsRise es → RisesBy Earlier es
+notes_rise [] t = tt
+notes_rise (e ∷ []) t = (λ k i. absurd i, tt)
+notes_rise (e ∷ f ∷ es) t =
+    let rest = notes_rise (f ∷ es) t.1 in
+    let first : e.stamp < f.stamp = t.0 in (
+      λ k i. elim i [
+        | inl is ↦ subst (λ (x : Entry). e.stamp < x.stamp) is first
+        | inr later ↦ (let up : f.stamp < k.stamp = rest.0 k later in omega arith)
+      ],
+      rest,
+    )
+
+rises_notes : (es : List Entry) → RisesBy Earlier es → StampsRise es
+rises_notes [] r = tt
+rises_notes (e ∷ []) r = tt
+rises_notes (e ∷ f ∷ es) r = (r.0 f (inl refl), rises_notes (f ∷ es) r.1)
+
+-- ---- the journals with the table behind them
+
+abbrev tabled : List (List Mark) → List Entry → List (List Mark)
+tabled journals notes = map (map call_mark) journals ++ (map note_mark notes ∷ [])
+
+at_context : (journals : List (List Mark)) (notes : List Entry) (c : ℕ) → c ≢ length journals
+    → marks_at (tabled journals notes) c ≡ map call_mark (marks_at journals c)
+at_context [] notes zero ne = absurd (ne refl)
+at_context [] notes (suc c) ne = refl
+at_context (ms ∷ journals) notes zero ne = refl
+at_context (ms ∷ journals) notes (suc c) ne = at_context journals notes c (λ e. ne (ap suc e))
+
+at_table : (journals : List (List Mark)) (notes : List Entry)
+    → marks_at (tabled journals notes) (length journals) ≡ map note_mark notes
+at_table [] notes = refl
+at_table (ms ∷ journals) notes = at_table journals notes
+
+none_there : (journals : List (List Mark)) → marks_at journals (length journals) ≡ []
+none_there journals = get_or_past journals (length journals) [] (omega arith)
+
+stamps_are : (journals : List (List Mark)) (notes : List Entry)
+    → all_stamps (tabled journals notes) ≡ all_stamps journals ++ stamps_of notes
+stamps_are [] notes = append-nil (stamps (map note_mark notes)) ∙ noted_stamps notes
+stamps_are (ms ∷ journals) notes =
+    (λ i. called_stamps ms i ++ stamps_are journals notes i)
+    ∙ sym (append_assoc (stamps ms) (all_stamps journals) (stamps_of notes))
+
+-- ---- both directions
+
+-- what the first of the two calls asks
+abbrev pub AsksNote : ℕ → Option Ask → Option Noting → Type 0
+AsksNote table ask n = ((ask ≡ None) × (n ≡ None)) ⊎ (ask ≡ Some (note_ask table n))
+
+module _ (plan : Plan) (standing : List (Option ContextView)) (batch both : Batch)
+    (journals : List (List Mark)) (notes : List Entry)
+    (evens : (l k : ℕ) → AsksNote (length journals) (slice_get (lane_of both l) (2 * k))
+    (noting_in plan standing (slice_get (slice_index_or plan.lanes l []) k)))
+    (odds : (l k : ℕ) → slice_get (lane_of both l) (2 * k + 1) ≡ slice_get (lane_of batch l) k)
+  where
+    abbrev table : ℕ
+    table = length journals
+
+    abbrev noting_at : ℕ → ℕ → Option Noting
+    noting_at l k = noting_in plan standing (slice_get (slice_index_or plan.lanes l []) k)
+
+    -- ---- items
+
+    even_item : (l k i c : ℕ) (x : Item)
+        → item_in_call (slice_get (lane_of both l) (2 * k)) i ≡ Some (c, x)
+        → (n : Noting) × (noting_at l k ≡ Some n) × (i ≡ 0) × (table ≡ c)
+    even_item l k i c x e = elim (evens l k) [
+      | inl none ↦ absurd (let f : None ≡ Some (c, x) = sym (ap (λ o. item_in_call o i) none.0) ∙ e in cc)
+      | inr is ↦ from_note (noting_at l k) i (sym (ap (λ o. item_in_call o i) is) ∙ e) refl
+    ]
+      where
+        from_note : (n : Option Noting) (i : ℕ)
+            → item_in_call (Some (note_ask table n)) i ≡ Some (c, x) → noting_at l k ≡ n
+            → (n : Noting) × (noting_at l k ≡ Some n) × (i ≡ 0) × (table ≡ c)
+        from_note None i e is = absurd (let f : None ≡ Some (c, x) = e in cc)
+        from_note (Some n) zero e is = (n, is, refl, first (table, Seal [] []) (c, x) e)
+          where
+            first : (x y : ℕ × Item) → Some x ≡ Some y → x.0 ≡ y.0
+            first x y e = ap (λ (r : ℕ × Item). r.0) (let f : x ≡ y = cc in f)
+        from_note (Some n) (suc i) e is = absurd (let f : None ≡ Some (c, x) = e in cc)
+
+    item_even : (l k : ℕ) (n : Noting) → noting_at l k ≡ Some n
+        → (x : Item) × (item_in_call (slice_get (lane_of both l) (2 * k)) 0 ≡ Some (table, x))
+    item_even l k n noted = elim (evens l k) [
+      | inl none ↦ absurd (let f : None ≡ Some n = sym none.1 ∙ noted in cc)
+      | inr is ↦ (Seal [] [], ap (λ o. item_in_call o 0) (is ∙ ap (λ m. Some (note_ask table m)) noted))
+    ]
+
+    even_opens : (l k c : ℕ) (n : ℕ) → OpensOn both c l (2 * k) n → ⊥
+    even_opens l k c n o = elim (evens l k) [
+      | inl none ↦ absurd (let f : None ≡ Some (ToOpenAll c o.0) = sym none.0 ∙ o.1 in cc)
+      | inr is ↦ none_opens (noting_at l k) (sym is ∙ o.1)
+    ]
+      where
+        none_opens : (m : Option Noting) → Some (note_ask table m) ≡ Some (ToOpenAll c o.0) → ⊥
+        none_opens None e = absurd (let f : Some Nothing ≡ Some (ToOpenAll c o.0) = e in cc)
+        none_opens (Some m) e =
+            absurd (let f : Some (ToSeal table [] []) ≡ Some (ToOpenAll c o.0) = e in cc)
+
+    -- ---- served places
+
+    call_served : (c : ℕ) (p : Place) → IsServed batch c p → IsServed both c (call_place p)
+    call_served c p s = (s.0, ap (λ o. item_in_call o p.item) (odds p.lane p.call) ∙ s.1)
+
+    served_call : (c : ℕ) (p : Place) → IsServed both c (call_place p) → IsServed batch c p
+    served_call c p s = (s.0, sym (ap (λ o. item_in_call o p.item) (odds p.lane p.call)) ∙ s.1)
+
+    note_served : (p : Place) (n : Noting) → IsNoted plan standing p n
+        → IsServed both table (note_place p)
+    note_served p n r =
+        let x = item_even p.lane p.call n r.noting_is in
+        (x.0, ap (λ i. item_in_call (slice_get (lane_of both p.lane) (2 * p.call)) i) r.first ∙ x.1)
+
+    served_note : (c : ℕ) (p : Place) → IsServed both c (note_place p)
+        → ((n : Noting) × IsNoted plan standing p n) × (table ≡ c)
+    served_note c p s =
+        let e = even_item p.lane p.call p.item c s.0 s.1 in
+        ((e.0, record { first = e.2; noting_is = e.1 }), e.3)
+
+    -- a place is that of a note or of a call
+    which : (p : Place)
+        → ((q : Place) × (note_place q ≡ p)) ⊎ ((q : Place) × (call_place q ≡ p))
+    which p = elim (half p.call) [
+      | inl t ↦ inl (place p.lane t.0 p.item, (λ i. place p.lane (sym t.1 i) p.item))
+      | inr t ↦ inr (place p.lane t.0 p.item, (λ i. place p.lane (sym t.1 i) p.item))
+    ]
+
+    opens_call : (c l k n : ℕ) → OpensOn batch c l k n → OpensOn both c l (2 * k + 1) n
+    opens_call c l k n o = (o.0, odds l k ∙ o.1, o.2)
+
+    call_opens : (c l k n : ℕ) → OpensOn both c l (2 * k + 1) n → OpensOn batch c l k n
+    call_opens c l k n o = (o.0, sym (odds l k) ∙ o.1, o.2)
+
+    opens_at : (c l call other n : ℕ) → call ≡ other → OpensOn both c l call n
+        → OpensOn both c l other n
+    opens_at c l call other n e o = subst (λ k. OpensOn both c l k n) e o
+
+    -- ---- from the table and the journals
+
+    module _ (noted : (p : Place)
+        → Contains (entry_places notes) p ↔ ((n : Noting) × IsNoted plan standing p n))
+        (once : AllPairs Apart (entry_places notes)) (rise : StampsRise notes)
+        (h : LiveHistory batch journals notes) where
+      called : (c : ℕ) → c ≢ table → LegalMarks both c (map call_mark (marks_at journals c))
+      called c ne =
+          let ms = marks_at journals c in
+          let t = h.each c in
+          record {
+            served = λ p. (
+              λ has.
+                  let q = map_in call_place p (places ms)
+                  (subst (In p) (called_places ms) (in_contains (places (map call_mark ms)) p has)) in
+                  subst (IsServed both c) q.2
+                  (call_served c q.0 ((t.served q.0).0 (contains_in (places ms) q.0 q.1))),
+              λ s. contains_in (places (map call_mark ms)) p (subst (In p) (sym (called_places ms))
+                  (elim (which p) [
+                    | inl q ↦ absurd (ne (sym (served_note c q.0 (subst (IsServed both c) (sym q.1) s)).1))
+                    | inr q ↦ subst (λ r. In r (map call_place (places ms))) q.1
+                        (in_map call_place q.0 (places ms) (in_contains (places ms) q.0
+                        ((t.served q.0).1 (served_call c q.0 (subst (IsServed both c) (sym q.1) s)))))
+                  ])),
+            );
+            once = subst (AllPairs Apart) (sym (called_places ms))
+                (pairs_map Apart Apart call_place (λ p q ne e. ne (call_place_one p q e)) (places ms)
+                t.once);
+            rise = pairs_map HasLowerStamp HasLowerStamp call_mark (λ m k low. low) ms t.rise;
+            together = λ lane call n o. elim (half call) [
+              | inl k ↦ absurd (even_opens lane k.0 c n (opens_at c lane call (2 * k.0) n k.1 o))
+              | inr k ↦ (let b = t.together lane k.0 n
+                  (call_opens c lane k.0 n (opens_at c lane call (2 * k.0 + 1) n k.1 o)) in (
+                    b.0,
+                    λ i low. contains_in (map call_mark ms) (mark (place lane call i) (b.0 + i))
+                        (subst (λ j. In (mark (place lane j i) (b.0 + i)) (map call_mark ms)) (sym k.1)
+                        (in_map call_mark (mark (place lane k.0 i) (b.0 + i)) ms
+                        (in_contains ms (mark (place lane k.0 i) (b.0 + i)) (b.1 i low)))),
+                  ))
+            ];
+          }
+
+      nothing_called : (p : Place) → IsServed batch table p → ⊥
+      nothing_called p s =
+          subst (λ ms. In p (places ms)) (none_there journals)
+          (in_contains (places (marks_at journals table)) p (((h.each table).served p).1 s))
+
+      noted_marks : LegalMarks both table (map note_mark notes)
+      noted_marks =
+          let ps = entry_places notes in
+          record {
+            served = λ p. (
+              λ has.
+                  let q = map_in note_place p ps
+                  (subst (In p) (noted_places notes) (in_contains (places (map note_mark notes)) p has)) in
+                  let n = (noted q.0).0 (contains_in ps q.0 q.1) in
+                  subst (IsServed both table) q.2 (note_served q.0 n.0 n.1),
+              λ s. contains_in (places (map note_mark notes)) p (subst (In p) (sym (noted_places notes))
+                  (elim (which p) [
+                    | inl q ↦ subst (λ r. In r (map note_place ps)) q.1
+                        (in_map note_place q.0 ps (in_contains ps q.0
+                        ((noted q.0).1 (served_note table q.0 (subst (IsServed both table) (sym q.1) s)).0)))
+                    | inr q ↦ absurd (nothing_called q.0
+                        (served_call table q.0 (subst (IsServed both table) (sym q.1) s)))
+                  ])),
+            );
+            once = subst (AllPairs Apart) (sym (noted_places notes))
+                (pairs_map Apart Apart note_place (λ p q ne e. ne (note_place_one p q e)) ps once);
+            rise = pairs_rise HasLowerStamp (map note_mark notes)
+                (rises_map Earlier HasLowerStamp note_mark (λ e f low. low) notes (notes_rise notes rise));
+            together = λ lane call n o. elim (half call) [
+              | inl k ↦ absurd (even_opens lane k.0 table n (opens_at table lane call (2 * k.0) n k.1 o))
+              | inr k ↦ (let b = (h.each table).together lane k.0 n
+                  (call_opens table lane k.0 n (opens_at table lane call (2 * k.0 + 1) n k.1 o)) in (
+                    b.0,
+                    λ i low. absurd (subst (In (mark (place lane k.0 i) (b.0 + i))) (none_there journals)
+                        (in_contains (marks_at journals table) (mark (place lane k.0 i) (b.0 + i)) (b.1 i low))),
+                  ))
+            ];
+          }
+
+      -- a mark is that of a call or of a note
+      abbrev Found : ℕ → Mark → Type 0
+      Found c m = ((x : Mark) × In x (marks_at journals c) × (call_mark x ≡ m))
+          ⊎ ((e : Entry) × In e notes × (note_mark e ≡ m))
+
+      found : (c : ℕ) (m : Mark) → Contains (marks_at (tabled journals notes) c) m → Found c m
+      found c m has = elim (cases_eq c table) [
+        | inl same ↦ inr (map_in note_mark m notes (subst (In m)
+            (ap (marks_at (tabled journals notes)) same ∙ at_table journals notes)
+            (in_contains (marks_at (tabled journals notes) c) m has)))
+        | inr ne ↦ inl (map_in call_mark m (marks_at journals c) (subst (In m)
+            (at_context journals notes c ne) (in_contains (marks_at (tabled journals notes) c) m has)))
+      ]
+
+      first_item : (e : Entry) → In e notes → e.place.item ≡ 0
+      first_item e i =
+          let n = (noted e.place).0 (contains_in (entry_places notes) e.place
+          (in_map (λ (f : Entry). f.place) e notes i)) in
+          n.1.first
+
+      abbrev Ordered : Mark → Mark → Type 0
+      Ordered m k = m.place.lane ≡ k.place.lane → IsBefore m.place k.place → HasLowerStamp m k
+
+      two_calls : (c d : ℕ) (x y : Mark) → In x (marks_at journals c) → In y (marks_at journals d)
+          → Ordered (call_mark x) (call_mark y)
+      two_calls c d x y i j lane before =
+          h.in_order c d x y (contains_in (marks_at journals c) x i)
+          (contains_in (marks_at journals d) y j) lane
+          (elim before [
+            | inl low ↦ inl (omega arith)
+            | inr t ↦ inr ((let e = t.0 in omega arith), t.1)
+          ])
+
+      two_notes : (e f : Entry) → In e notes → In f notes → Ordered (note_mark e) (note_mark f)
+      two_notes e f i j lane before = elim before [
+        | inl low ↦ h.noted_in_order e f (contains_in notes e i) (contains_in notes f j) lane (omega arith)
+        | inr t ↦ absurd (let a = t.1 in let z = first_item f j in omega arith)
+      ]
+
+      note_then_call : (d : ℕ) (e : Entry) (y : Mark) → In e notes → In y (marks_at journals d)
+          → Ordered (note_mark e) (call_mark y)
+      note_then_call d e y i j lane before = elim before [
+        | inl low ↦ h.noted_before d y e (contains_in (marks_at journals d) y j) (contains_in notes e i)
+            (sym lane) (omega arith)
+        | inr t ↦ absurd (let a = t.0 in omega arith)
+      ]
+
+      call_then_note : (c : ℕ) (x : Mark) (f : Entry) → In x (marks_at journals c) → In f notes
+          → Ordered (call_mark x) (note_mark f)
+      call_then_note c x f i j lane before = elim before [
+        | inl low ↦ h.noted_after c x f (contains_in (marks_at journals c) x i) (contains_in notes f j)
+            lane (omega arith)
+        | inr t ↦ absurd (let a = t.0 in omega arith)
+      ]
+
+      ordered : (c d : ℕ) (m k : Mark) → Found c m → Found d k → Ordered m k
+      ordered c d m k a b = elim a [
+        | inl x ↦ elim b [
+          | inl y ↦ subst (λ o. Ordered o k) x.2 (subst (Ordered (call_mark x.0)) y.2
+              (two_calls c d x.0 y.0 x.1 y.1))
+          | inr f ↦ subst (λ o. Ordered o k) x.2 (subst (Ordered (call_mark x.0)) f.2
+              (call_then_note c x.0 f.0 x.1 f.1))
+        ]
+        | inr e ↦ elim b [
+          | inl y ↦ subst (λ o. Ordered o k) e.2 (subst (Ordered (note_mark e.0)) y.2
+              (note_then_call d e.0 y.0 e.1 y.1))
+          | inr f ↦ subst (λ o. Ordered o k) e.2 (subst (Ordered (note_mark e.0)) f.2
+              (two_notes e.0 f.0 e.1 f.1))
+        ]
+      ]
+
+      pub forth : LegalHistory both (tabled journals notes)
+      forth = record {
+        each = λ c. elim (cases_eq c table) [
+          | inl same ↦ subst (λ k. LegalMarks both k (marks_at (tabled journals notes) k)) (sym same)
+              (subst (LegalMarks both table) (sym (at_table journals notes)) noted_marks)
+          | inr ne ↦ subst (LegalMarks both c) (sym (at_context journals notes c ne)) (called c ne)
+        ];
+        stamped = subst AreAllFrom0 (sym (stamps_are journals notes)) h.stamped;
+        in_order = λ c d m k has had. ordered c d m k (found c m has) (found d k had);
+      }
+
+    -- ---- and back
+
+    module _ (h : LegalHistory both (tabled journals notes)) where
+      the_table : LegalMarks both table (map note_mark notes)
+      the_table = subst (LegalMarks both table) (at_table journals notes) (h.each table)
+
+      note_stands : (p : Place) → In p (entry_places notes) → Contains (places (map note_mark notes)) (note_place p)
+      note_stands p i = contains_in (places (map note_mark notes)) (note_place p)
+          (subst (In (note_place p)) (sym (noted_places notes)) (in_map note_place p (entry_places notes) i))
+
+      stands_note : (p : Place) → Contains (places (map note_mark notes)) p
+          → (q : Place) × In q (entry_places notes) × (note_place q ≡ p)
+      stands_note p has = map_in note_place p (entry_places notes)
+          (subst (In p) (noted_places notes) (in_contains (places (map note_mark notes)) p has))
+
+      pub noted_back : (p : Place)
+          → Contains (entry_places notes) p ↔ ((n : Noting) × IsNoted plan standing p n)
+      noted_back p = (
+        λ has. (served_note table p ((the_table.served (note_place p)).0
+            (note_stands p (in_contains (entry_places notes) p has)))).0,
+        λ n.
+            let q = stands_note (note_place p) ((the_table.served (note_place p)).1 (note_served p n.0 n.1)) in
+            contains_in (entry_places notes) p (subst (λ r. In r (entry_places notes)) (note_place_one q.0 p q.2) q.1),
+      )
+
+      pub once_back : AllPairs Apart (entry_places notes)
+      once_back = map_pairs Apart Apart note_place (λ p q ne e. ne (ap note_place e)) (entry_places notes)
+          (subst (AllPairs Apart) (noted_places notes) the_table.once)
+
+      pub rise_back : StampsRise notes
+      rise_back = rises_notes notes (map_rises Earlier HasLowerStamp note_mark (λ e f low. low) notes
+          (rises_pairs HasLowerStamp (map note_mark notes) the_table.rise))
+
+      nothing : LegalMarks batch table []
+      nothing = record {
+        served = λ p. (
+          λ has. absurd (in_contains [] p has),
+          λ s.
+              let q = stands_note (call_place p) ((the_table.served (call_place p)).1 (call_served table p s)) in
+              absurd (apart q.0 p q.2),
+        );
+        once = λ i j d low few. absurd (omega arith);
+        rise = λ i j d low few. absurd (omega arith);
+        together = λ lane call n o.
+            let b = the_table.together lane (2 * call + 1) n (opens_call table lane call n o) in (
+              0,
+              λ i low.
+                  let e = map_in note_mark (mark (place lane (2 * call + 1) i) (b.0 + i)) notes
+                  (in_contains (map note_mark notes) (mark (place lane (2 * call + 1) i) (b.0 + i)) (b.1 i low)) in
+                  absurd (apart e.0.place (place lane call i) (ap (λ (m : Mark). m.place) e.2)),
+            );
+      }
+
+      uncalled : (c : ℕ) → LegalMarks both c (map call_mark (marks_at journals c))
+          → LegalMarks batch c (marks_at journals c)
+      uncalled c t =
+          let ms = marks_at journals c in
+          record {
+            served = λ p. (
+              λ has. served_call c p ((t.served (call_place p)).0 (contains_in (places (map call_mark ms)) (call_place p)
+                  (subst (In (call_place p)) (sym (called_places ms)) (in_map call_place p (places ms) (in_contains (places ms) p has))))),
+              λ s.
+                  let q = map_in call_place (call_place p) (places ms) (subst (In (call_place p)) (called_places ms)
+                  (in_contains (places (map call_mark ms)) (call_place p) ((t.served (call_place p)).1 (call_served c p s)))) in
+                  contains_in (places ms) p (subst (λ r. In r (places ms)) (call_place_one q.0 p q.2) q.1),
+            );
+            once = map_pairs Apart Apart call_place (λ p q ne e. ne (ap call_place e)) (places ms)
+                (subst (AllPairs Apart) (called_places ms) t.once);
+            rise = map_pairs HasLowerStamp HasLowerStamp call_mark (λ m k low. low) ms t.rise;
+            together = λ lane call n o.
+                let b = t.together lane (2 * call + 1) n (opens_call c lane call n o) in (
+                  b.0,
+                  λ i low.
+                      let want = mark (place lane call i) (b.0 + i) in
+                      let m = map_in call_mark (call_mark want) ms (in_contains (map call_mark ms) (call_mark want) (b.1 i low)) in
+                      contains_in ms want (subst (λ k. In k ms) (call_mark_one m.0 want m.2) m.1),
+                );
+          }
+
+      -- a mark of a call, and of a note, stands in what is legal
+      called_stands : (c : ℕ) (m : Mark) → Contains (marks_at journals c) m
+          → Contains (marks_at (tabled journals notes) c) (call_mark m)
+      called_stands c m has = elim (cases_eq c table) [
+        | inl same ↦ absurd (subst (In m) (ap (marks_at journals) same ∙ none_there journals) (in_contains (marks_at journals c) m has))
+        | inr ne ↦ contains_in (marks_at (tabled journals notes) c) (call_mark m) (subst (In (call_mark m)) (sym (at_context journals notes c ne))
+            (in_map call_mark m (marks_at journals c) (in_contains (marks_at journals c) m has)))
+      ]
+
+      noted_stands : (e : Entry) → Contains notes e
+          → Contains (marks_at (tabled journals notes) table) (note_mark e)
+      noted_stands e has = contains_in (marks_at (tabled journals notes) table) (note_mark e)
+          (subst (In (note_mark e)) (sym (at_table journals notes)) (in_map note_mark e notes (in_contains notes e has)))
+
+      pub history_back : LiveHistory batch journals notes
+      history_back = record {
+        each = λ c. elim (cases_eq c table) [
+          | inl same ↦ subst (λ k. LegalMarks batch k (marks_at journals k)) (sym same)
+              (subst (LegalMarks batch table) (sym (none_there journals)) nothing)
+          | inr ne ↦ uncalled c (subst (LegalMarks both c) (at_context journals notes c ne) (h.each c))
+        ];
+        stamped = subst AreAllFrom0 (stamps_are journals notes) h.stamped;
+        in_order = λ c d m k has had lane before.
+            h.in_order c d (call_mark m) (call_mark k) (called_stands c m has) (called_stands d k had) lane
+            (elim before [ inl low ↦ inl (omega arith) | inr t ↦ inr ((let e = t.0 in omega arith), t.1) ]);
+        noted_in_order = λ e f has had lane low.
+            h.in_order table table (note_mark e) (note_mark f) (noted_stands e has) (noted_stands f had) lane
+            (inl (omega arith));
+        noted_after = λ c m e has had lane low.
+            h.in_order c table (call_mark m) (note_mark e) (called_stands c m has) (noted_stands e had) lane
+            (inl (omega arith));
+        noted_before = λ c m e has had lane low.
+            h.in_order table c (note_mark e) (call_mark m) (noted_stands e had) (called_stands c m has) (sym lane)
+            (inl (omega arith));
+      }
