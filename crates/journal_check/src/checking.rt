@@ -22,6 +22,7 @@ use crate::guesses::wrong_guesses;
 use crate::links::linked_journals;
 use crate::replies::wrong_reply;
 use crate::runs::{JournalRun, run_journals};
+use aes_gcm::MayCheck;
 use batch_plans::{PlainList, Plan};
 use call_places::Mark;
 use context_table::set_up;
@@ -95,8 +96,8 @@ fn wrong_line(
 }
 
 // The verdict on what a result tells.
-fn verdict_on<R: Threads>(
-    rt: &R,
+fn verdict_on(
+    permission: MayCheck,
     alloc: Global,
     plan: &Plan,
     contexts: &mut [Option<Context>],
@@ -111,7 +112,7 @@ fn verdict_on<R: Threads>(
     match wrong_journal(alloc, plan, contexts, told.journals())? {
         Some(wrong) => Ok(wrong),
         None => {
-            let runs = run_journals(rt, alloc, plan, contexts, told.journals())?;
+            let runs = run_journals(permission, alloc, plan, contexts, told.journals())?;
             wrong_line(alloc, plan, contexts, told, &runs)
         }
     }
@@ -120,9 +121,9 @@ fn verdict_on<R: Threads>(
 /// Checks whether a text is one that the plan may be answered with.
 ///
 /// The set-up is done again, as [`set_up`](context_table::set_up) does it, and each journal is run
-/// through its context. No thread is started.
-pub fn check_result<R: Threads, M: Multiplier>(
-    rt: &R,
+/// through its context.
+pub fn check_result_by<M: Multiplier>(
+    permission: MayCheck,
     alloc: Global,
     mult: &M,
     plan: &Plan,
@@ -139,8 +140,27 @@ pub fn check_result<R: Threads, M: Multiplier>(
     let keys = setup.keys.as_slice();
     let replies = setup.contexts.as_slice();
     match read_result(alloc, plan, keys, replies, &contexts, text) {
-        Ok(told) => verdict_on(rt, alloc, plan, &mut contexts, &told),
+        Ok(told) => verdict_on(permission, alloc, plan, &mut contexts, &told),
         Err(Stop::Wrong(line)) => Ok(Verdict::Form { line }),
         Err(Stop::OutOfMemory) => Err(AllocError),
     }
+}
+
+/// Checks whether a text is one that the plan may be answered with.
+///
+/// As [`check_result_by`], with the permission that the runtime gives. No thread is started.
+pub fn check_result<R: Threads, M: Multiplier>(
+    rt: &R,
+    alloc: Global,
+    mult: &M,
+    plan: &Plan,
+    text: &[u8],
+) -> Result<Verdict, AllocError>
+    requires within { IsWithinLimits plan.now }
+    requires size { length text.now ≤ most_input }
+    ensures verdict { IfOk result (λ verdict. IsVerdict plan.now text.now verdict) }
+    ensures legal { IfOk result (λ verdict.
+        (verdict ≡ Verdict.Legal) ↔ IsReply plan.now text.now) }
+{
+    check_result_by(MayCheck::on_threads(rt), alloc, mult, plan, text)
 }

@@ -9,13 +9,18 @@
 //! and items (`specs/Tables.antt`). [`GuessTable::look`] says whether the tag holds at a number,
 //! and answers `None` if the item wasn't checked there, and only then.
 //!
+//! A [`Crew`] says who fills the table: [`OnThreads`] of a runtime, or the calling thread
+//! [`Alone`], for a library that has no runtime.
+//!
 //! Nothing here waits for a lock, decrypts, or keeps a sequence number. Only making a table takes
 //! memory. A table is indexed by sequence numbers, which are public, and holds verdicts.
 //!
 //! Tests: `core_tests`.
 #![tactic(auto)]
 
+mod crew;
 mod rows;
 mod table;
 
+pub use crew::{Alone, Crew, OnThreads};
 pub use table::GuessTable;

@@ -7,7 +7,7 @@ ghost use Rattle.call_places.specs.Spans.{ItemIsInPool};
 ghost use Rattle.key_schedule.specs.Nonces.{compute_nonce};
 ghost use Rattle.speculative_open.specs.Tables.{IsChecked, IsRow};
 
-use aes_gcm::GcmKey;
+use aes_gcm::{GcmKey, MayCheck};
 use call_places::Item;
 use key_schedule::nonce_at;
 use std::thread;
@@ -60,14 +60,13 @@ impl Opener<'_> {
     }
 
     // Row i, of this item. One hash of the item serves all its numbers, and one call of the cipher.
-    pub(crate) fn row<R: Threads>(&self, rt: &R, i: usize, item: Item) -> Row
+    pub(crate) fn row(&self, permission: MayCheck, i: usize, item: Item) -> Row
         requires { ItemIsInPool (length self.now.pool.now) item }
         ensures { IsRow self.now.guess self.now.limit self.now.key.now self.now.base_nonce.now i
             (sealed_message self.now.pool.now item) result }
     {
-        let hashed = self
-            .key
-            .hash_ciphertext(rt, item.aad.of(self.pool), item.text.of(self.pool));
+        let (aad, text) = (item.aad.of(self.pool), item.text.of(self.pool));
+        let hashed = self.key.hash_ciphertext_by(permission, aad, text);
         hashed.hold_at(&[
             self.nonce(i, 0),
             self.nonce(i, 1),
@@ -77,7 +76,7 @@ impl Opener<'_> {
     }
 
     // The rows of the items from index `start` on.
-    fn fill_piece<R: Threads>(&self, rt: &R, items: &[Item], start: usize, rows: &mut [Row])
+    fn fill_piece(&self, permission: MayCheck, items: &[Item], start: usize, rows: &mut [Row])
         requires within { start + length rows.old ≤ length items.now }
         requires spans { All (ItemIsInPool (length self.now.pool.now)) items.now }
         ensures { (j : ℕ) (item : Item) → j < length rows.old
@@ -86,7 +85,7 @@ impl Opener<'_> {
             (start + j) (sealed_message self.now.pool.now item) (slice_index_or rows.new j []) }
     {
         for j in 0..rows.len() {
-            rows[j] = self.row(rt, start + j, items[start + j]);
+            rows[j] = self.row(permission, start + j, items[start + j]);
         }
     }
 
@@ -98,12 +97,13 @@ impl Opener<'_> {
             → IsRow self.now.guess self.now.limit self.now.key.now self.now.base_nonce.now
             i (sealed_message self.now.pool.now item) (slice_index_or rows.new i []) }
     {
+        let permission = MayCheck::on_threads(rt);
         thread::for_each_chunk_mut(
             rt,
             rows,
             piece_size(items),
             &|start, piece| {
-                self.fill_piece(rt, items, start, piece);
+                self.fill_piece(permission, items, start, piece);
             },
         );
     }
@@ -117,6 +117,17 @@ impl Opener<'_> {
             i (sealed_message self.now.pool.now item) (slice_index_or rows.new i []) }
     {
         self.fill_pieces(rt, items, &mut rows[..items.len()]);
+    }
+
+    /// The same on the calling thread.
+    pub(crate) fn fill_alone(&self, permission: MayCheck, items: &[Item], rows: &mut [Row])
+        requires room { length items.now ≤ length rows.old }
+        requires spans { All (ItemIsInPool (length self.now.pool.now)) items.now }
+        ensures { (i : ℕ) (item : Item) → slice_get items.now i ≡ Some item
+            → IsRow self.now.guess self.now.limit self.now.key.now self.now.base_nonce.now
+            i (sealed_message self.now.pool.now item) (slice_index_or rows.new i []) }
+    {
+        self.fill_piece(permission, items, 0, &mut rows[..items.len()]);
     }
 }
 

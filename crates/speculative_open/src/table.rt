@@ -6,7 +6,7 @@ ghost use Rattle.call_places.specs.Spans.{ItemIsInPool};
 ghost use Rattle.speculative_open.specs.Tables.{OpensAt, IsChecked, verdict_at, row_of, Fits};
 
 use crate::rows::{BLANK, Opener, Row, place};
-use aes_gcm::GcmKey;
+use aes_gcm::{GcmKey, MayCheck};
 use call_places::Item;
 use std::alloc::{AllocError as OutOfMemory, Global};
 use std::marker::Model;
@@ -88,6 +88,38 @@ impl GuessTable {
         self.limit = limit;
         self.used = items.len();
         opener.fill(rt, items, self.rows.as_mut_slice());
+    }
+
+    /// Fills the table as [`GuessTable::fill`] does, on the calling thread.
+    pub fn fill_alone(
+        &mut self,
+        permission: MayCheck,
+        key: &GcmKey,
+        base_nonce: &[u8; 12],
+        guess: u64,
+        limit: u64,
+        pool: &[u8],
+        items: &[Item],
+    )
+        requires room { length items.now ≤ self.old.room }
+        requires spans { All (ItemIsInPool (length pool.now)) items.now }
+        ensures guess { self.new.guess ≡ guess }
+        ensures limit { self.new.limit ≡ limit }
+        ensures room { self.new.room ≡ self.old.room }
+        ensures rows { length self.new.rows ≡ length items.now }
+        ensures fits { Fits self.new key.now base_nonce.now (sealed_messages pool.now items.now) }
+    {
+        let opener = Opener {
+            key,
+            base_nonce,
+            guess,
+            limit,
+            pool,
+        };
+        self.guess = guess;
+        self.limit = limit;
+        self.used = items.len();
+        opener.fill_alone(permission, items, self.rows.as_mut_slice());
     }
 
     /// The guess: the number that was taken to be due at the first item.

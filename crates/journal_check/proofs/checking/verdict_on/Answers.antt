@@ -13,11 +13,11 @@ use Rattle.journal_check.proofs.SoundRuns.{have_lanes, legal_at, are_for, are_re
 use Rattle.journal_check.proofs.checking.verdict_on.Goals as goal
 
 pub returns-in-Some : goal.returns-in-Some
-returns-in-Some g c =
+returns-in-Some c =
     found_early c.args.plan.now c.args.contexts.now c.args.told.now c.journals.result.now c.journals.ensures c.in_ok-wrong.field-0 c.in_ok-wrong.ensures.verdict c.in-Some.wrong c.in-Some.is
 
 pub run_journals-requires-clause-fit : goal.run_journals-requires-clause-fit
-run_journals-requires-clause-fit g c =
+run_journals-requires-clause-fit c =
     let plan = c.args.plan.now in
     let contexts = c.args.contexts.now in
     let stamps = has_stamps plan.version in
@@ -25,7 +25,7 @@ run_journals-requires-clause-fit g c =
     subst (AreFor plan contexts) (sym c.journals-in-None.ensures) (are_for plan contexts c.args.told.now.journals stamps c.requires.within none c.requires.contexts_size)
 
 pub wrong_line-requires-clause-long : goal.wrong_line-requires-clause-long
-wrong_line-requires-clause-long g c =
+wrong_line-requires-clause-long c =
     let plan = c.args.plan.now in
     let contexts = c.args.contexts.now in
     let told = c.args.told.now in
@@ -39,7 +39,7 @@ wrong_line-requires-clause-long g c =
     (subst (AreLong contexts told.journals) (sym c.deref.ensures.value) (are_long run runs are legal))
 
 pub wrong_line-requires-clause-numbers : goal.wrong_line-requires-clause-numbers
-wrong_line-requires-clause-numbers g c =
+wrong_line-requires-clause-numbers c =
     let plan = c.args.plan.now in
     let contexts = c.args.contexts.now in
     let told = c.args.told.now in
@@ -53,7 +53,7 @@ wrong_line-requires-clause-numbers g c =
     (subst (HaveNumbers contexts told.journals) (sym c.deref.ensures.value) (have_numbers run runs are legal))
 
 pub wrong_line-requires-clause-own : goal.wrong_line-requires-clause-own
-wrong_line-requires-clause-own g c =
+wrong_line-requires-clause-own c =
     let plan = c.args.plan.now in
     let contexts = c.args.contexts.now in
     let told = c.args.told.now in
@@ -63,7 +63,7 @@ wrong_line-requires-clause-own g c =
     (have_lanes plan contexts told.journals stamps c.requires.within none)
 
 pub returns-in_ok-runs-in-None : goal.returns-in_ok-runs-in-None
-returns-in_ok-runs-in-None g c =
+returns-in_ok-runs-in-None c =
     let plan = c.args.plan.now in
     let contexts = c.args.contexts.now in
     let told = c.args.told.now in

@@ -5,6 +5,6 @@ use Rattle.speculative_open.specs.Tables.{IsRow}
 use Rattle.speculative_open.proofs.rows.Opener.fill_piece.Given as goal
 
 abbrev pub invariant-loop-j : goal.invariant-loop-j
-invariant-loop-j g l =
+invariant-loop-j l =
     (m : ℕ) (item : Item) → m < l.j → slice_get l.items (l.start + m) ≡ Some item
     → IsRow l.self.guess l.self.limit l.self.key.now l.self.base_nonce.now (l.start + m) (sealed_message l.self.pool.now item) (slice_index_or l.rows m [])
