@@ -1,5 +1,6 @@
 pub mod Lanes
 pub mod Pairs
+pub mod Firsts
 pub mod SpelledFields
 pub mod SpelledContexts
 pub mod SpelledCalls

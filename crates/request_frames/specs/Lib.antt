@@ -6,3 +6,4 @@ pub mod PlanText
 pub mod FieldFaults
 pub mod LineParts
 pub mod Drafts
+pub mod Firsts

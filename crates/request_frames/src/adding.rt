@@ -6,7 +6,8 @@ ghost use Rattle.field_text.specs.Fields.{Gives};
 ghost use Rattle.batch_plans.specs.Limits.{most_input, items_of};
 ghost use Rattle.request_frames.specs.Batch.{counted as counted_of, with_rand as rand_of};
 ghost use Rattle.request_frames.specs.Batch.{with_key as key_of, with_context as context_of};
-ghost use Rattle.request_frames.specs.Batch.{with_lane as lane_of, with_several as several_of};
+ghost use Rattle.request_frames.specs.Batch.{with_lane as lane_of};
+ghost use Rattle.request_frames.specs.Firsts.{with_first};
 ghost use Rattle.request_frames.specs.Batch.{with_call as call_of, with_line as line_of, may_stand};
 ghost use Rattle.request_frames.specs.Added.{with_added as added_of, with_retired as retired_of};
 ghost use Rattle.request_frames.specs.Drafts.{plan_of, pool_size, IsKept};
@@ -101,14 +102,14 @@ impl BatchDraft {
     }
 
     // `unsealall ..`: its items go behind those of the plan once they are counted.
-    #[tactic(auto, unfolding(crate::specs::Batch::with_several, crate::specs::Batch::counted))]
+    #[tactic(auto, unfolding(crate::specs::Firsts::with_first, crate::specs::Batch::counted))]
     fn with_several(&mut self, names: bool, fields: &mut Pieces) -> Result<(), Stop>
         requires room { vec_len self.old.pool + sum_by length fields.old ≤ most_input }
         requires few { length fields.old ≤ most_input }
         requires kept { IsKept self.old }
         requires open { self.old.lanes.is_open ≡ true }
         ensures read { Gives (λ _. plan_of self.new) result
-            (several_of names (plan_of self.old) fields.old) }
+            (with_first names (plan_of self.old) fields.old) }
         ensures kept { OnOk result (IsKept self.new) }
         ensures size { OnOk result
             (vec_len self.new.pool ≤ vec_len self.old.pool + sum_by length fields.old) }

@@ -6,11 +6,12 @@ ghost use Rattle.request_frames.specs.Forms.{item as item_of, one_item as one_it
 ghost use Rattle.request_frames.specs.Forms.{seal as seal_of, unseal as unseal_of};
 ghost use Rattle.request_frames.specs.Forms.{export as export_of, pairs as pairs_of};
 ghost use Rattle.request_frames.specs.Forms.{one_and_pairs as one_and_pairs_of};
-ghost use Rattle.request_frames.specs.Forms.{unseal_all as unseal_all_of};
+ghost use Rattle.batch_plans.specs.Limits.{most_opening};
+ghost use Rattle.request_frames.specs.Firsts.{first_items, unseal_first};
 
 use crate::names;
 use batch_plans::CallLine;
-use batch_plans::limits::{MOST_CIPHERTEXT, MOST_FIELD, MOST_PLAINTEXT};
+use batch_plans::limits::{MOST_CIPHERTEXT, MOST_FIELD, MOST_OPENING, MOST_PLAINTEXT};
 use call_places::Item;
 use field_text::{Pieces, Reason, Stop};
 use std::alloc::Global;
@@ -103,26 +104,30 @@ fn one_and_pairs(fields: &Pieces) -> Result<(), Reason>
     }
 }
 
-// Pairs `AAD CT`, each an item.
+// Pairs `AAD CT`, each an item. One item more is kept than an opening may have, or all.
 fn pairs(pool: &mut Vec<u8>, items: &mut Vec<Item>, fields: &mut Pieces) -> Result<(), Stop>
     requires room { vec_len pool.old + sum_by length fields.old < 2 ^ 32 }
     requires even { length fields.old % 2 ≡ 0 }
+    requires few { vec_len items.old ≤ most_opening + 1 }
     ensures read { Gives (λ _. (items.new.items, pool.new.items)) result
-        (pairs_of pool.old.items items.old.items fields.old) }
+        (first_items (pairs_of pool.old.items items.old.items fields.old)) }
     ensures size { OnOk result (vec_len pool.new ≤ vec_len pool.old + sum_by length fields.old) }
     ensures count { OnOk result (vec_len items.new ≤ vec_len items.old + length fields.old) }
 {
     'pairs: while !fields.is_empty() {
         let item = item(pool, fields, MOST_CIPHERTEXT)?;
-        items.push(item)?;
+        if items.len() <= MOST_OPENING {
+            items.push(item)?;
+        }
     }
     Ok(())
 }
 
 /// `unsealall CTX AAD CT`, then any number of further pairs `AAD CT`
 ///
-/// The room for all items is taken once: a line may have many more than a batch may.
-#[tactic(auto, unfolding(crate::specs::Forms::unseal_all))]
+/// A line may have many more items than an opening may: it is read to its end, and one item more is
+/// kept than are allowed, by which it is counted. The room for them is taken once.
+#[tactic(auto, unfolding(crate::specs::Firsts::unseal_first))]
 pub fn unseal_all(
     alloc: Global,
     names: bool,
@@ -131,13 +136,13 @@ pub fn unseal_all(
 ) -> Result<(u32, Vec<Item>), Stop>
     requires room { vec_len pool.old + sum_by length fields.old < 2 ^ 32 }
     ensures read { Gives (λ call. (call.0, call.1.items, pool.new.items)) result
-        (unseal_all_of names pool.old.items fields.old) }
+        (unseal_first names pool.old.items fields.old) }
     ensures size { OnOk result (vec_len pool.new ≤ vec_len pool.old + sum_by length fields.old) }
     ensures count { IfOk result (λ call. vec_len call.1 ≤ length fields.old) }
 {
     one_and_pairs(fields)?;
     let context = names::context(names, fields)?;
-    let mut items = Vec::with_capacity(alloc, fields.len() / 2)?;
+    let mut items = Vec::with_capacity(alloc, (fields.len() / 2).min(MOST_OPENING + 1))?;
     pairs(pool, &mut items, fields)?;
     Ok((context, items))
 }

@@ -1,5 +1,5 @@
 -- The next line of a text, and what is left behind it.
-use Rattle.std.proofs.Common.{◌≡◌, ℕ, ◌+◌, ◌<◌, ◌==◌, Bool, true, false, cond, List, [], ◌∷◌, ◌++◌, length, Some, None, Result, Ok, Err, refl, ap, ◌∙◌, arith}
+use Rattle.std.proofs.Common.{◌≡◌, ℕ, suc, ◌+◌, ◌-◌, ◌<◌, ◌==◌, Bool, true, false, cond, List, [], ◌∷◌, ◌++◌, length, take, Some, None, Result, Ok, Err, refl, sym, ap, ◌∙◌, append_assoc, arith}
 use Rattle.std.specs.List.{slice_split, onto_first}
 use Rattle.call_places.specs.declared.entries.Mark.{Mark}
 use Rattle.field_text.specs.declared.reasons.Reason.{Reason}
@@ -92,6 +92,17 @@ some_marks stamps n (line ∷ next ∷ more) mark after some = go (mark_of_line 
 pub journal_goes_on : (stamps : Bool) (lines : LinesView) (mark : Mark) (after : LinesView) → mark_at stamps lines ≡ Some (mark, after)
     → marks_of stamps lines ≡ prepended (mark ∷ []) (marks_of stamps after)
 journal_goes_on stamps lines mark after some = some_marks stamps lines.number lines.parts mark after some
+
+-- it is one of the first so many
+pub first_go_on : (stamps : Bool) (lines : LinesView) (mark : Mark) (after : LinesView) (n i : ℕ) (so_far total : List Mark) → i < n
+    → mark_at stamps lines ≡ Some (mark, after) → so_far ++ take (n - i) (marks_of stamps lines).marks ≡ total
+    → (so_far ++ mark ∷ []) ++ take (n - (i + 1)) (marks_of stamps after).marks ≡ total
+first_go_on stamps lines mark after n i so_far total lt some is =
+    let more : n - i ≡ suc (n - (i + 1)) = omega arith in
+    append_assoc so_far (mark ∷ []) (take (n - (i + 1)) (marks_of stamps after).marks)
+    ∙ sym (ap (λ (k : ℕ). so_far ++ take k (marks_of stamps lines).marks) more
+    ∙ ap (λ (f : MarksFound). so_far ++ take (suc (n - (i + 1))) f.marks) (journal_goes_on stamps lines mark after some))
+    ∙ is
 
 fewer : (stamps : Bool) (n : ℕ) (parts : List (List ℕ)) (mark : Mark) (after : LinesView) → mark_from stamps n parts ≡ Some (mark, after)
     → length after.parts < length parts

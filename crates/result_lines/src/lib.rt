@@ -5,8 +5,9 @@
 //! from it. [`read_result`] gives what a text says, or its first line that is missing or of another
 //! form, as `told_by` of `specs/Told.antt` defines it.
 //!
-//! A contract sees a text as the lines that are left of it. Whether the journals are legal, and
-//! whether replies and guesses are right, is not known here.
+//! A contract sees a text as the lines that are left of it. Of a journal the lines are tested and no
+//! place is kept: [`JournalLines`] reads its first places again, so many as its reader wants. Whether
+//! the journals are legal, and whether replies and guesses are right, is not known here.
 //!
 //! Tests: `judge_tests` (through `journal_check`).
 #![tactic(auto)]
@@ -22,7 +23,7 @@ mod told;
 
 pub use due_lines::{push_hex, push_number};
 pub use laws::{what_is_printed_is_read_back, what_is_read_is_the_text};
-pub use lines::{Lines, is_line};
+pub use lines::{JournalLines, Lines, is_line};
 pub use reading::read_result;
 pub use replies::Replies;
 pub use stop::Stop;

@@ -1,6 +1,6 @@
 //! The lines of a text that are still to be read.
 
-ghost use Rattle.std.specs.Prelude.{◌≡◌, ◌≤◌, ◌+◌, ◌<◌, Some, None, IfSome, IfNone, IfOk, length};
+ghost use Rattle.std.specs.Prelude.{◌≡◌, ◌≤◌, ◌+◌, ◌<◌, Some, None, IfSome, IfNone, IfOk, length, take};
 ghost use Rattle.std.specs.Str.{bytes_eq};
 ghost use Rattle.batch_plans.specs.Limits.{most_input};
 ghost use Rattle.result_lines.specs.Places.{all_of, next_line, with_feed, line_due, guess_from};
@@ -8,7 +8,7 @@ ghost use Rattle.result_lines.specs.Places.{mark_at, marks_of, ended, Tells};
 
 use crate::forms::{read_guess, read_mark};
 use crate::stop::Stop;
-use batch_plans::Batch;
+use batch_plans::{Batch, PlainList};
 use call_places::Mark;
 use field_text::cut_at;
 use std::alloc::{AllocError, Global};
@@ -33,6 +33,37 @@ impl<'a> Model for Lines<'a> {
     ghost view = { λ l. record { number = l.number; parts = lines_of l.rest.now } };
 
     ghost invariant = { λ l. l.number + length l.rest.now ≤ most_input + 1 };
+}
+
+/// The lines of a journal. A contract sees the places that they spell, which are read where they are
+/// needed.
+#[derive(Drop)]
+pub struct JournalLines<'a> {
+    lines: Lines<'a>,
+    stamps: bool,
+}
+
+impl<'a> Model for JournalLines<'a> {
+    ghost use Rattle.std.specs.Prelude.{List};
+    ghost use Rattle.call_places.specs.declared.entries.Mark.{Mark};
+    ghost use Rattle.result_lines.specs.Places.{marks_of};
+
+    ghost Value = { List Mark };
+
+    ghost view = { λ j. (marks_of j.stamps j.lines).marks };
+}
+
+impl JournalLines<'_> {
+    ghost use Rattle.std.specs.Prelude.{◌≡◌, take, IfOk};
+
+    /// The first places, so many or all.
+    pub fn first(&self, alloc: Global, most: usize) -> Result<PlainList<Mark>, AllocError>
+        ensures { IfOk result (λ marks. marks ≡ take most self.now) }
+    {
+        let mut lines = self.lines.again();
+        let marks = lines.first_marks(alloc, self.stamps, most)?;
+        Ok(PlainList::from_vec(marks))
+    }
 }
 
 /// Whether a line is this one, which is given with its line feed.
@@ -117,14 +148,48 @@ impl<'a> Lines<'a> {
         Some(mark)
     }
 
-    /// The places of a journal: as many lines as have their form.
-    pub fn marks(&mut self, alloc: Global, stamps: bool) -> Result<Vec<Mark>, AllocError>
-        ensures { IfOk result (λ marks.
-            marks_of stamps self.old ≡ record { marks = marks.items; lines = self.new }) }
+    // The same lines, to be read another time.
+    fn again(&self) -> Lines<'a>
+        ensures { result ≡ self.now }
+    {
+        Lines {
+            rest: self.rest,
+            number: self.number,
+        }
+    }
+
+    // Passes the places of a journal: as many lines as have their form.
+    fn pass_marks(&mut self, stamps: bool)
+        ensures { self.new ≡ (marks_of stamps self.old).lines }
+    {
+        'marks: while let Some(_mark) = self.mark(stamps) {}
+    }
+
+    /// The places of a journal, of which none is kept: as many lines as have their form.
+    pub fn marks(&mut self, stamps: bool) -> JournalLines<'a>
+        ensures journal { result ≡ (marks_of stamps self.old).marks }
+        ensures lines { self.new ≡ (marks_of stamps self.old).lines }
+    {
+        let lines = self.again();
+        self.pass_marks(stamps);
+        JournalLines { lines, stamps }
+    }
+
+    // The first places of a journal, so many or all.
+    fn first_marks(
+        &mut self,
+        alloc: Global,
+        stamps: bool,
+        most: usize,
+    ) -> Result<Vec<Mark>, AllocError>
+        ensures { IfOk result (λ marks. marks.items ≡ take most (marks_of stamps self.old).marks) }
     {
         let mut marks = Vec::new(alloc);
-        'marks: while let Some(mark) = self.mark(stamps) {
-            marks.push(mark)?;
+        'marks: for _mark in 0..most {
+            match self.mark(stamps) {
+                Some(mark) => marks.push(mark)?,
+                None => return Ok(marks),
+            }
         }
         Ok(marks)
     }

@@ -9,11 +9,10 @@ ghost use Rattle.result_lines.specs.Told.{lane_ended, with_lane, with_journal, w
 ghost use Rattle.batch_plans.specs.Limits.{most_input};
 
 use crate::due_lines::numbered;
-use crate::lines::Lines;
+use crate::lines::{JournalLines, Lines};
 use crate::replies::Replies;
 use crate::stop::Stop;
 use batch_plans::{Batch, CallLine, PlainList};
-use call_places::Mark;
 use due_replies::refusal_of;
 use hpke_context::Context;
 use std::alloc::Global;
@@ -47,7 +46,7 @@ pub struct Told<'a> {
     /// The guesses of the lane that is being read.
     guesses: Vec<GuessLine>,
     /// The journal of each context.
-    journals: Vec<PlainList<Mark>>,
+    journals: Vec<JournalLines<'a>>,
 }
 
 impl<'a> Model for Told<'a> {
@@ -104,7 +103,7 @@ impl<'a> Told<'a> {
     }
 
     /// The journal of each context.
-    pub fn journals(&self) -> &[PlainList<Mark>]
+    pub fn journals(&self) -> &[JournalLines<'a>]
         ensures { result.now ≡ self.now.journals }
     {
         &self.journals
@@ -224,8 +223,8 @@ impl<'a> Told<'a> {
         ensures { Tells (λ _. self.new) result (with_journal stamps number self.old) }
     {
         self.expect_numbered(alloc, b"journal ", number)?;
-        let marks = self.lines.marks(alloc, stamps)?;
-        push(&mut self.journals, PlainList::from_vec(marks))
+        let marks = self.lines.marks(stamps);
+        push(&mut self.journals, marks)
     }
 
     /// The line `end`, and nothing behind it.

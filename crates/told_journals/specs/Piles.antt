@@ -1,5 +1,5 @@
 -- ---- for the proofs: places that are dealt to piles, by the number of a context or of a lane
-use Rattle.std.specs.Prelude.{ℕ, ◌+◌, List, [], ◌∷◌, ◌++◌, length, map, slice_set, slice_index_or, Option}
+use Rattle.std.specs.Prelude.{ℕ, ◌+◌, List, [], ◌∷◌, ◌++◌, length, map, take, slice_set, slice_index_or, Option}
 use Rattle.std.specs.List.{flat_map, range_with_len}
 use Rattle.call_places.specs.declared.entries.Place.{Place}
 use Rattle.call_places.specs.declared.entries.Mark.{Mark}
@@ -62,3 +62,9 @@ in_lanes lanes ps = flat_map (λ lane. own_places lane ps) (range_with_len 0 lan
 abbrev pub asked_on : Batch → ℕ → List Place
 asked_on batch context =
     flat_map (λ lane. lane_places context lane (lane_of batch lane)) (range_with_len 0 (length batch))
+
+-- of each journal of contexts from this one on, one place more than are asked for on it, or all
+abbrev pub kept_from : Batch → ℕ → List (List Mark) → List (List Mark)
+kept_from batch context [] = []
+kept_from batch context (marks ∷ more) =
+    take (length (asked_on batch context) + 1) marks ∷ kept_from batch (context + 1) more

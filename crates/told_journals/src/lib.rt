@@ -3,7 +3,8 @@
 //!
 //! [`broken_journal`] and [`is_one_history`] answer `broken_journal` and `is_legal_history` of the
 //! definitions, which compute what the laws of legal_journals say. They need the calls of the plan
-//! and the contexts that were set up, and no ciphers. [`asked_of`] says what a call asks.
+//! and the contexts that were set up, and no ciphers. [`asked_of`] says what a call asks. Of the lines
+//! of journals, [`kept_journals`] keeps no more places than may be legal, and one for each context.
 //!
 //! Each place is put a fixed number of times on the pile of its context or of its lane, and stamps
 //! are put in order by their numbers. So the time is linear in the calls, the places, the contexts
@@ -16,6 +17,7 @@ mod asks;
 mod dealing;
 mod histories;
 mod journals;
+mod kept;
 mod piles;
 mod same;
 mod spots;
@@ -23,3 +25,4 @@ mod spots;
 pub use asks::asked_of;
 pub use histories::is_one_history;
 pub use journals::broken_journal;
+pub use kept::kept_journals;
