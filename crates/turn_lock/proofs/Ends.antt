@@ -29,10 +29,11 @@ or_cases true b e = inl refl
 or_cases false b e = inr e
 
 module _ {S : Type 0} (entries : S → List Entry) (terms : S → Terms) (passes : ℕ) (t : Terms) where
-  pub begins : (x : S) → entries x ≡ [] → terms x ≡ t → 0 < passes → passes < 65536 → Kept entries terms passes t (opening (0 ∷ 0 ∷ []) (Some x ∷ []) (first_view t))
+  pub begins : (x : S) → entries x ≡ [] → terms x ≡ t → 0 < passes → passes < 65536 → Kept entries terms passes t (opening (0 ∷ 0 ∷ 0 ∷ []) (Some x ∷ []) (first_view t))
   begins x none_yet terms_are some_pass room = record {
     turn = 0;
     ticket = 0;
+    mark = 0;
     log = [];
     count = 1;
     makes = 0;
@@ -75,6 +76,7 @@ module _ {S : Type 0} (entries : S → List Entry) (terms : S → Terms) (passes
       let makes : ℕ = if v.makes || w.makes then id else r.makes in record {
         turn = r.turn;
         ticket = r.ticket;
+        mark = r.mark;
         log = r.log;
         count = r.count;
         makes = makes;

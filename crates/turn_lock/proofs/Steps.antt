@@ -1,5 +1,5 @@
 -- Each step keeps the rule of the lock.
-use Rattle.std.proofs.Common.{◌≡◌, ◌≢◌, ◌⊎◌, inl, inr, ⊎_elim, ℕ, zero, suc, ◌+◌, ◌*◌, ◌^◌, ◌%◌, ◌<◌, ◌≤◌, List, [], ◌∷◌, ◌++◌, length, set, sym, refl, ap, ◌∙◌, subst, arith, true, false}
+use Rattle.std.proofs.Common.{◌≡◌, ◌≢◌, ◌⊎◌, inl, inr, ⊎_elim, ℕ, zero, suc, ◌+◌, ◌*◌, ◌^◌, ◌%◌, ◌==◌, eq-eqb, ne_eqb, ◌<◌, ◌≤◌, List, [], ◌∷◌, ◌++◌, length, set, sym, refl, ap, ◌∙◌, subst, arith, true, false}
 use Rattle.std.specs.Prelude.{Option, Some, slice_index}
 use mathlib.Core.Option.{some, none, some-injective, some-ne-none}
 use mathlib.Core.Option as maybe
@@ -8,6 +8,7 @@ use mathlib.Core.List.{IsPrefix}
 use native.Mathlib.Decide.{ℕ_discrete}
 use native.Mathlib.Nat.{mod-eq_of_lt}
 use lib.ListN.{get_elem?}
+use prog.Atomic.{either}
 use Rattle.atomic_table.specs.Table.{State, Me, Act, keeps, takes, gives, Allows, Splits, Joins}
 use Rattle.atomic_table.proofs.Lists.{at_set, at_snoc, set_here, set_else, set_again, at_longer}
 use Rattle.call_places.specs.declared.entries.Entry.{Entry}
@@ -19,7 +20,7 @@ use Rattle.turn_lock.specs.declared.views.Phase.TheVariants.{Idle, Waiting, Hold
 use Rattle.call_places.specs.declared.listed.Terms.{Terms}
 use Rattle.turn_lock.specs.Views.{part, most_turns, once, once_below, ticket_in, tickets_in_use, number_in, ticket_of, number_of, parts_of, tickets_of}
 use Rattle.turn_lock.specs.Rule.{Fits, InPhase, Holds, Seated, IsHome, IsOut, Kept}
-use Rattle.turn_lock.specs.Steps.{TookTicket, Looked, GaveValue, staying_view, new_view}
+use Rattle.turn_lock.specs.Steps.{TriedTicket, Unchanged, Looked, GaveValue, staying_view, new_view}
 use Rattle.turn_lock.proofs.Totals.{total_set, total_snoc, total_one, total_two, total_most, once_same, below_next, not_below, below_most, number_at}
 use Rattle.turn_lock.proofs.Prefixes.{fits_added, fits_whole, own-append, own-other}
 
@@ -72,17 +73,22 @@ module _ {S : Type 0} (entries : S → List Entry) (terms : S → Terms) (passes
       (λ (x : (j ≢ id) × (get_elem? views j ≡ some u)). others j u x.0 x.1)
       (at_set views id j w u e)
 
-  pub queues : (slots id : ℕ) (me : Me (Option S) View) (n : ℕ) (seen : List Entry) → me.0.phase ≡ Idle → me.0.parts ≡ part n seen ∷ [] → me.0.turns < most_turns
-      → Allows Holding_rule slots id me 1 (λ found. (found + 1) % 2 ^ 64) (TookTicket me)
-  queues slots id me n seen idle parts few s r wide at bound =
+  pub queues : (slots id : ℕ) (me : Me (Option S) View) (n old : ℕ) (seen : List Entry) → me.0.phase ≡ Idle → me.0.parts ≡ part n seen ∷ [] → me.0.turns < most_turns
+      → Allows Holding_rule slots id me 1 (λ found. either (found == old) ((old + 1) % 2 ^ 64) found) (TriedTicket old me)
+  queues slots id me n old seen idle parts few s r wide at bound =
       let found : ℕ = slice_index s.words 1 in
       let is : found ≡ r.ticket = ap (λ ws. slice_index ws 1) r.words in
-      let most = ticket_most s r in
-      let room : found + 1 < 2 ^ 64 = omega arith in
-      let next : (found + 1) % 2 ^ 64 ≡ found + 1 = mod-eq_of_lt room in
+      let new : ℕ = either (found == old) ((old + 1) % 2 ^ 64) found in
       let v = me.0 in
-      let w : View = record v { phase = Waiting found } in
-      let old = r.each id v at in
+      let words : set s.words 1 new ≡ r.turn ∷ new ∷ r.mark ∷ [] = ap (λ ws. set ws 1 new) r.words in
+      dite (ℕ_discrete found old)
+      (λ (hit : found ≡ old).
+      let was : old ≡ r.ticket = sym hit ∙ is in
+      let most = ticket_most s r in
+      let room : old + 1 < 2 ^ 64 = omega arith in
+      let next : new ≡ old + 1 = ap (λ b. either b ((old + 1) % 2 ^ 64) found) (eq-eqb found old hit) ∙ mod-eq_of_lt room in
+      let w : View = record v { phase = Waiting old } in
+      let before = r.each id v at in
       let free : (k : ℕ) → ticket_of k v ≡ 0 = λ k. ap (ticket_in k) idle in
       let one : parts_of v ≡ 1 = ap length parts in
       let unbusy : tickets_of v ≡ v.turns = ap (λ (p : Phase). v.turns + tickets_in_use p) idle ∙ omega arith in (
@@ -91,11 +97,12 @@ module _ {S : Type 0} (entries : S → List Entry) (terms : S → Terms) (passes
         tt,
         record {
           turn = r.turn;
-          ticket = found + 1;
+          ticket = old + 1;
+          mark = r.mark;
           log = r.log;
           count = r.count;
           makes = r.makes;
-          words = ap (λ ws. set ws 1 ((found + 1) % 2 ^ 64)) r.words ∙ ap (λ m. r.turn ∷ m ∷ []) next;
+          words = words ∙ ap (λ m. r.turn ∷ m ∷ r.mark ∷ []) next;
           slot = ⊎_elim
               (λ (h : IsHome entries terms t r.turn r.log s). inl record { value = h.value; is = h.is; entries_are = h.entries_are; terms_are = h.terms_are })
               (λ (o : IsOut entries terms t r.turn r.log s). inr record {
@@ -107,9 +114,9 @@ module _ {S : Type 0} (entries : S → List Entry) (terms : S → Terms) (passes
               })
               r.slot;
           each = each_set r.turn r.count r.makes s.homes r.log s.views id w
-              record { fits = old.fits; phase = tt; few = omega arith; maker = old.maker; terms = old.terms }
+              record { fits = before.fits; phase = tt; few = omega arith; maker = before.maker; terms = before.terms }
               (λ j u _ e. r.each j u e);
-          tickets = λ k. let a = total_set (ticket_of k) s.views id v w at in let b = free k in let c = r.tickets k in let d = below_next k found in let e : once_below k found ≡ once_below k r.ticket = ap (once_below k) is in omega arith;
+          tickets = λ k. let a = total_set (ticket_of k) s.views id v w at in let b = free k in let c = r.tickets k in let d = below_next k old in let e : once_below k old ≡ once_below k r.ticket = ap (once_below k) was in omega arith;
           numbers = λ k. let a = total_set (number_of k) s.views id v w at in let c = r.numbers k in omega arith;
           parts = let a = total_set parts_of s.views id v w at in let c = r.parts in omega arith;
           taken = let a = total_set tickets_of s.views id v w at in let c = r.taken in omega arith;
@@ -117,8 +124,47 @@ module _ {S : Type 0} (entries : S → List Entry) (terms : S → Terms) (passes
           few = r.few;
           room = r.room;
         },
-        (room, refl, refl),
-      )
+        ((λ _. (room, refl, refl)), (λ no. absurd (no hit))),
+      ))
+      (λ (miss : found ≢ old).
+      let same : new ≡ r.ticket = ap (λ b. either b ((old + 1) % 2 ^ 64) found) (ne_eqb found old miss) ∙ is in (
+        v,
+        keeps,
+        tt,
+        subst (λ (x : List ℕ × List View). Holding_rule record { words = x.0; homes = s.homes; views = x.1 }) (λ i. ((r.words ∙ ap (λ m. r.turn ∷ m ∷ r.mark ∷ []) (sym same) ∙ sym words) i, sym (set_again s.views id v at) i)) r,
+        ((λ yes. absurd (miss yes)), (λ _. refl)),
+      ))
+
+  -- word 2 may be anything
+  pub marks : (slots id : ℕ) (me : Me (Option S) View) (new : ℕ) → Allows Holding_rule slots id me 2 (λ _. new) (λ _. Unchanged me)
+  marks slots id me new s r wide at bound = (
+    me.0,
+    keeps,
+    tt,
+    subst (λ (vs : List View). Holding_rule record { words = set s.words 2 new; homes = s.homes; views = vs }) (sym (set_again s.views id me.0 at))
+        record {
+          turn = r.turn;
+          ticket = r.ticket;
+          mark = new;
+          log = r.log;
+          count = r.count;
+          makes = r.makes;
+          words = ap (λ ws. set ws 2 new) r.words;
+          slot = ⊎_elim
+              (λ (h : IsHome entries terms t r.turn r.log s). inl record { value = h.value; is = h.is; entries_are = h.entries_are; terms_are = h.terms_are })
+              (λ (o : IsOut entries terms t r.turn r.log s). inr record { is = o.is; by = o.by; holder = o.holder; at = o.at; holds = o.holds })
+              r.slot;
+          each = r.each;
+          tickets = r.tickets;
+          numbers = r.numbers;
+          parts = r.parts;
+          taken = r.taken;
+          unmade = r.unmade;
+          few = r.few;
+          room = r.room;
+        },
+    refl,
+  )
 
   -- the slot goes out, and whoever holds it knows the log
   phase_out : (turn : ℕ) (homes : List (maybe.Option (Option S))) (log : List Entry) (parts : List Part) (ph : Phase) → InPhase turn homes log parts ph → InPhase {S = S} turn (none ∷ []) log parts ph
@@ -155,7 +201,7 @@ module _ {S : Type 0} (entries : S → List Entry) (terms : S → Terms) (passes
       let is : found ≡ r.turn = ap (λ ws. slice_index ws 0) r.words in
       let v = me.0 in
       let old = r.each id v at in
-      let words : set s.words 0 found ≡ r.turn ∷ r.ticket ∷ [] = ap (λ ws. set ws 0 found) r.words ∙ ap (λ m. m ∷ r.ticket ∷ []) is in
+      let words : set s.words 0 found ≡ r.turn ∷ r.ticket ∷ r.mark ∷ [] = ap (λ ws. set ws 0 found) r.words ∙ ap (λ m. m ∷ r.ticket ∷ r.mark ∷ []) is in
       dite (ℕ_discrete k found)
       (λ (hit : k ≡ found).
       let mine : (j : ℕ) → ticket_of j v ≡ once j found = λ j. ap (ticket_in j) waits ∙ ap (once j) hit in
@@ -173,6 +219,7 @@ module _ {S : Type 0} (entries : S → List Entry) (terms : S → Terms) (passes
         record {
           turn = r.turn;
           ticket = r.ticket;
+          mark = r.mark;
           log = r.log;
           count = r.count;
           makes = r.makes;
@@ -267,10 +314,11 @@ module _ {S : Type 0} (entries : S → List Entry) (terms : S → Terms) (passes
         record {
           turn = r.turn + 1;
           ticket = r.ticket;
+          mark = r.mark;
           log = log;
           count = r.count;
           makes = r.makes;
-          words = ap (λ ws. set ws 0 new) r.words ∙ ap (λ m. m ∷ r.ticket ∷ []) (next ∙ ap (λ m. m + 1) hold.0);
+          words = ap (λ ws. set ws 0 new) r.words ∙ ap (λ m. m ∷ r.ticket ∷ r.mark ∷ []) (next ∙ ap (λ m. m + 1) hold.0);
           slot = inl record { value = x; is = home; entries_are = grown; terms_are = terms_are ∙ old.terms (omega arith) };
           each = each_set (r.turn + 1) r.count r.makes homes log s.views id w
               record { fits = fits_one log n (entries x) grown; phase = tt; few = (let a = old.few in omega arith); maker = old.maker; terms = λ _. old.terms (omega arith) }
@@ -305,6 +353,7 @@ module _ {S : Type 0} (entries : S → List Entry) (terms : S → Terms) (passes
       let views : List View = set s.views id left in record {
         turn = r.turn;
         ticket = r.ticket;
+        mark = r.mark;
         log = r.log;
         count = r.count + 1;
         makes = r.makes;

@@ -1,6 +1,7 @@
 -- What the rule of the lock gives, and that it holds at the start and over each atomic step.
-use Rattle.std.specs.Prelude.{ℕ, ◌≡◌, ◌+◌, ◌%◌, ◌^◌, ◌<◌, ◌≤◌, true, List, [], ◌∷◌, ◌++◌, Option, Some}
+use Rattle.std.specs.Prelude.{ℕ, ◌≡◌, ◌+◌, ◌%◌, ◌^◌, ◌==◌, ◌<◌, ◌≤◌, true, List, [], ◌∷◌, ◌++◌, Option, Some}
 use mathlib.Core.Option.{some}
+use prog.Atomic.{either}
 use lib.ListN.{get_elem?}
 use Rattle.atomic_table.specs.Table.{State, Me, Allows, Splits, Joins, opening}
 use Rattle.call_places.specs.declared.entries.Entry.{Entry}
@@ -10,7 +11,7 @@ use Rattle.turn_lock.specs.declared.views.View.{View}
 use Rattle.turn_lock.specs.declared.views.Phase.TheVariants.{Idle, Waiting, Holding}
 use Rattle.turn_lock.specs.Views.{part, most_turns, parts_of, number_of}
 use Rattle.turn_lock.specs.Rule.{Kept}
-use Rattle.turn_lock.specs.Steps.{first_view, staying_view, new_view, joined_view, spent_view, TookTicket, Looked, GaveValue}
+use Rattle.turn_lock.specs.Steps.{first_view, staying_view, new_view, joined_view, spent_view, TriedTicket, Unchanged, Looked, GaveValue}
 
 module _ {S : Type 0} (entries : S → List Entry) (terms_of : S → Terms) (passes : ℕ)
     (terms : Terms) where
@@ -49,11 +50,15 @@ module _ {S : Type 0} (entries : S → List Entry) (terms_of : S → Terms) (pas
   pub record StepsKeep : Type 0 where
     pub start : (value : S) → entries value ≡ [] → terms_of value ≡ terms
         → 0 < passes → passes < 65536
-        → TheRule (opening (0 ∷ 0 ∷ []) (Some value ∷ []) (first_view terms))
-    -- an idle seat takes a ticket: one is added to word 1
-    pub ticket : (slots id : ℕ) (me : Seat) (n : ℕ) (seen : List Entry)
+        → TheRule (opening (0 ∷ 0 ∷ 0 ∷ []) (Some value ∷ []) (first_view terms))
+    -- an idle seat takes a ticket: one is added to word 1, where it is this ticket
+    pub ticket : (slots id : ℕ) (me : Seat) (n old : ℕ) (seen : List Entry)
         → me.0.phase ≡ Idle → me.0.parts ≡ part n seen ∷ [] → me.0.turns < most_turns
-        → Allows TheRule slots id me 1 (λ found. (found + 1) % 2 ^ 64) (TookTicket me)
+        → Allows TheRule slots id me 1 (λ found. either (found == old) ((old + 1) % 2 ^ 64) found)
+        (TriedTicket old me)
+    -- any seat marks word 2
+    pub marks : (slots id : ℕ) (me : Seat) (new : ℕ)
+        → Allows TheRule slots id me 2 (λ _. new) (λ _. Unchanged me)
     -- a seat that waits looks at word 0, and takes the slot where the turn is its own
     pub look : (slots id : ℕ) (me : Seat) (k n : ℕ) (seen : List Entry)
         → me.0.phase ≡ Waiting k → me.0.parts ≡ part n seen ∷ []

@@ -1,7 +1,8 @@
 -- The rule of the lock: what holds between any two atomic steps, whatever the schedule.
--- Word 0 is the turn, word 1 the ticket that is given out next. Slot 0 has the value at home, or is
--- empty while the one seat whose ticket is the turn has it. The log is the list of entries of the
--- value at home, or else the list that its holder saw when it took the value.
+-- Word 0 is the turn, word 1 the ticket that is given out next, word 2 a mark of those who sleep, of
+-- which the rule says nothing. Slot 0 has the value at home, or is empty while the one seat whose
+-- ticket is the turn has it. The log is the list of entries of the value at home, or else the list
+-- that its holder saw when it took the value.
 use Rattle.std.specs.Prelude.{ℕ, ◌≡◌, ◌⊎◌, ◌+◌, ◌*◌, ◌<◌, ◌≤◌, true, List, [], ◌∷◌, Option, Some}
 use mathlib.Core.Option.{some, none}
 use mathlib.Core.Option as maybe
@@ -68,12 +69,13 @@ pub record Kept {S : Type 0} (entries : S → List Entry) (terms_of : S → Term
     (terms : Terms) (s : State (Option S) View) : Type 0 where
   pub turn : ℕ
   pub ticket : ℕ
+  pub mark : ℕ
   pub log : List Entry
   -- how many numbers were made, and which seat makes them
   pub count : ℕ
   pub makes : ℕ
-  -- the two words
-  pub words : s.words ≡ turn ∷ ticket ∷ []
+  -- the three words
+  pub words : s.words ≡ turn ∷ ticket ∷ mark ∷ []
   -- the seats that wait or hold have the tickets from the turn on, each once
   pub tickets : (k : ℕ) → total (ticket_of k) s.views + once_below k turn ≡ once_below k ticket
   -- the value is in the slot, or with the seat that has the turn

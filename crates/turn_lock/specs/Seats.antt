@@ -10,7 +10,7 @@ use Rattle.turn_lock.specs.declared.views.Part.{Part}
 use Rattle.turn_lock.specs.declared.views.Phase.TheVariants.{Idle, Holding}
 use Rattle.call_places.specs.Terms.{no_terms}
 use Rattle.turn_lock.specs.Views.{part}
-use Rattle.turn_lock.specs.Steps.{first_view}
+use Rattle.turn_lock.specs.Steps.{first_view, TookTicket}
 use Rattle.turn_lock.specs.Passes.{PassView}
 
 -- ---- for the proofs
@@ -49,6 +49,19 @@ pub record IsHolding {V : Type 0} (me : Me (Option V) View)
   pub more_turns : turns < 4294967295
   pub more_tickets : ticket + 1 < 2 ^ 64
   pub calls : CallsWithin 0 next_call (own number (seen_in me.0.parts))
+
+-- a seat that may take a ticket
+pub record MayTake {V : Type 0} (me : Me (Option V) View) : Type 0 where
+  pub number : ℕ
+  pub seen : List Entry
+  pub idle : me.0.phase ≡ Idle
+  pub parts : me.0.parts ≡ part number seen ∷ []
+  pub more_turns : me.0.turns < 4294967295
+
+-- it took the ticket, or nothing changed
+abbrev pub HasTried : {V : Type 0} → Me (Option V) View → Me (Option V) View → Option ℕ → Type 0
+HasTried before after None = after ≡ before
+HasTried before after (Some ticket) = TookTicket before ticket after
 
 -- the seat of a pass
 abbrev pub IsSeatOf : {S : Type 0} → PassView → TableId → Me S View → Type 0

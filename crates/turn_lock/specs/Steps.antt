@@ -71,6 +71,15 @@ module _ {S : Type 0} where
       (ticket + 1 < 2 ^ 64) × (after.0 ≡ record before.0 { phase = Waiting ticket })
       × (after.1 ≡ before.1)
 
+  -- a ticket was taken where this one was found, and else nothing changed
+  abbrev pub TriedTicket : ℕ → Me (Option S) View → ℕ → Me (Option S) View → Type 0
+  TriedTicket ticket before found after =
+      (found ≡ ticket → TookTicket before ticket after) × (found ≢ ticket → after ≡ before)
+
+  -- a step that tells nothing
+  abbrev pub Unchanged : Me (Option S) View → Me (Option S) View → Type 0
+  Unchanged before after = after ≡ before
+
   -- the value was taken: its entries begin with those seen, and it has no others of this number
   pub record TookValue (entries : S → List Entry) (terms_of : S → Terms) (before : Me (Option S) View)
       (turn : ℕ) (after : Me (Option S) View) : Type 0 where

@@ -17,7 +17,7 @@ pub fn the_rule_tells_seats_apart<V: Listed>()
     ensures number { (passes : ℕ) (terms : Terms) → OneHasNumber V.entries V.terms passes terms }
 {}
 
-/// The rule holds of a new lock, and each of the five kinds of step keeps it, whatever state of the
+/// The rule holds of a new lock, and each of the six kinds of step keeps it, whatever state of the
 /// table it finds: so it holds between any two steps of whatever threads.
 ///
 /// A law of the definitions: the call does nothing.

@@ -1,4 +1,4 @@
-//! A lock whose turns go by tickets, round a value that represents a list of entries.
+//! A lock whose turns are numbered by tickets, round a value that represents a list of entries.
 //!
 //! A [`TurnLock`] is made with a number of passes. Whoever has a [`Pass`] may `enter`, which waits
 //! for its turn and gives the value as a [`Held`]; only `leave` takes it back. Once every pass is

@@ -4,13 +4,13 @@ ghost use Rattle.std.specs.Prelude.{◌≡◌, ◌+◌, ◌<◌, ◌≤◌, ◌+
 ghost use Rattle.call_places.specs.declared.entries.Entry.{Entry};
 ghost use Rattle.call_places.specs.Entries.{last_of};
 ghost use Rattle.turn_lock.specs.Passes.{IsHeldBy, AddedByOthers, MayAdd, next_after, fresh_from, AllOf, IsShown, NoOthers};
-ghost use Rattle.turn_lock.specs.Seats.{next_from};
-ghost use Rattle.turn_lock.specs.Steps.{first_view};
+ghost use Rattle.turn_lock.specs.Seats.{next_from, MayTake, HasTried};
+ghost use Rattle.turn_lock.specs.Steps.{first_view, TookTicket};
 
 use crate::held::Held;
 use crate::pass_list::PassList;
 use crate::passes::Pass;
-use crate::rules::{About, Advance, Deal, Gather, Look, Ticket, Tickets};
+use crate::rules::{About, Advance, Deal, Gather, Look, Mark, Ticket, Tickets};
 use crate::views::View;
 use atomic_table::{Seat, Table};
 use call_places::Listed;
@@ -20,19 +20,23 @@ use std::marker::Model;
 use std::snapshot::Snapshot;
 use std::sync::Wait;
 
-// The words of the table: whose turn it is, and the ticket that is given out next.
+// The words of the table: whose turn it is, the ticket that is given out next, and a mark.
 const TURN: usize = 0;
 
 const TICKET: usize = 1;
+
+const SLEEPERS: usize = 2;
+
+// The mark: nobody sleeps, or somebody may.
+const AWAKE: u64 = 0;
+
+const ASLEEP: u64 = 1;
 
 // The slot of the table, which has the value while nobody holds it.
 const VALUE: usize = 0;
 
 // So many looks at the turn are cheaper than a sleep.
 const LOOKS: u32 = 256;
-
-// A thread sleeps by the low 32 bits of a word.
-const PARK_RANGE: u64 = 4_294_967_296;
 
 /// A lock round one value. Contracts see which lock it is, with the terms of its value, which never
 /// change, and how many passes it was made with.
@@ -58,7 +62,7 @@ impl<V: Listed> Model for TurnLock<V> {
       passes = l.table.shared.key.passes;
     } };
 
-    ghost invariant = { λ l. (l.table.shared.table_id.words ≡ 2)
+    ghost invariant = { λ l. (l.table.shared.table_id.words ≡ 3)
         × (l.table.shared.table_id.slots ≡ 1) × (0 < l.table.shared.key.passes) };
 }
 
@@ -85,7 +89,7 @@ impl<V: Listed> TurnLock<V> {
         slots.push(Some(value))?;
         let Ok((table, seat)) = Table::<Option<V>, View, About<V>, Tickets, Global>::new(
             alloc,
-            &[0, 0],
+            &[0, 0, AWAKE],
             slots,
             &about,
         ) else {
@@ -116,7 +120,7 @@ impl<V: Listed> TurnLock<V> {
         list.rotate_right(1);
     }
 
-    /// Takes a ticket, waits for its turn, and takes the value.
+    /// Waits until nobody has the turn, takes the ticket of the next one, and takes the value.
     ///
     /// The entries that came since the pass's last turn are other passes' alone. How long it waits
     /// is up to them: a turn ends only where its holder leaves. It looks some times, and then sleeps.
@@ -135,9 +139,8 @@ impl<V: Listed> TurnLock<V> {
             next_call,
         } = pass;
         let mut seat: Seat<Option<V>, View> = badge.into_seat();
+        let ticket = self.take_ticket(rt, &mut seat);
         let shared = &self.table.shared;
-        let ticket = shared.fetch_add::<Ticket>(&mut seat, TICKET, 1);
-        let mut looks = 0;
         for _ in rt.forever() {
             if shared.load::<Look>(&mut seat, TURN) == ticket {
                 match shared.exchange(&mut seat, VALUE, None) {
@@ -154,37 +157,86 @@ impl<V: Listed> TurnLock<V> {
                     None => unreachable!(),
                 }
             }
-            looks = self.wait(rt, ticket, looks);
         }
         unreachable!()
     }
 
-    // Waits a little after so many looks at the turn, and counts this one. A turn is short, so the
-    // first looks follow at once; later the thread sleeps until a holder leaves. It doesn't sleep
-    // through its own turn: `park` returns where the word isn't what was read here.
-    fn wait<R: Wait>(&self, rt: &R, ticket: u64, looks: u32) -> u32 {
-        if looks < LOOKS {
-            hint::spin_loop();
-            return looks + 1;
-        }
+    // Takes the ticket that is given out next, where it is the turn: so nobody has the value, and its
+    // own turn begins at once.
+    fn try_ticket(&self, seat: &mut Seat<Option<V>, View>) -> Option<u64>
+        requires table { seat.old.table_id ≡ self.now.lock.table }
+        requires seat { MayTake seat.old.me }
+        ensures table { seat.new.table_id ≡ seat.old.table_id }
+        ensures tried { HasTried seat.old.me seat.new.me result }
+    {
         let shared = &self.table.shared;
         let turn = shared.peek(TURN);
-        if turn != ticket {
-            shared.park(rt, TURN, (turn % PARK_RANGE) as u32);
+        if shared.peek(TICKET) != turn {
+            return None;
         }
-        looks
+        let next = turn.wrapping_add(1);
+        if shared.compare_exchange::<Ticket>(seat, TICKET, turn, next) == turn {
+            Some(turn)
+        } else {
+            None
+        }
     }
 
-    // Wakes those who sleep, where a ticket after this one was given out. Who takes a ticket later
-    // finds the new turn.
-    fn wake(&self, ticket: u64) {
+    // Tries some times, since a turn is short.
+    fn look(&self, seat: &mut Seat<Option<V>, View>) -> Option<u64>
+        requires table { seat.old.table_id ≡ self.now.lock.table }
+        requires seat { MayTake seat.old.me }
+        ensures table { seat.new.table_id ≡ seat.old.table_id }
+        ensures tried { HasTried seat.old.me seat.new.me result }
+    {
+        for _ in 0..LOOKS {
+            let ticket = self.try_ticket(seat);
+            if ticket.is_some() {
+                return ticket;
+            }
+            hint::spin_loop();
+        }
+        None
+    }
+
+    // Takes a ticket, and sleeps between its looks.
+    //
+    // It marks that it sleeps before it looks for the last time. So whoever had the turn then finds
+    // the mark when it leaves, and wakes a sleeper; where that was before the sleep, `park` finds
+    // another mark and returns. Who is woken marks again, for those who sleep on.
+    fn take_ticket<R: Wait>(&self, rt: &R, seat: &mut Seat<Option<V>, View>) -> u64
+        requires table { seat.old.table_id ≡ self.now.lock.table }
+        requires seat { MayTake seat.old.me }
+        ensures table { seat.new.table_id ≡ seat.old.table_id }
+        ensures took { TookTicket seat.old.me result seat.new.me }
+    {
+        if let Some(ticket) = self.look(seat) {
+            return ticket;
+        }
         let shared = &self.table.shared;
-        if shared.peek(TICKET) > ticket.saturating_add(1) {
-            shared.wake_all(TURN);
+        for _ in rt.forever() {
+            shared.store::<Mark>(seat, SLEEPERS, ASLEEP);
+            if let Some(ticket) = self.look(seat) {
+                return ticket;
+            }
+            shared.park(rt, SLEEPERS, ASLEEP as u32);
+        }
+        unreachable!()
+    }
+
+    // Wakes one of those who sleep, where somebody may. Until it looks or sleeps again, nobody else
+    // need be woken.
+    fn wake(&self, seat: &mut Seat<Option<V>, View>)
+        requires { seat.old.table_id ≡ self.now.lock.table }
+        ensures { (seat.new.table_id ≡ seat.old.table_id) × (seat.new.me ≡ seat.old.me) }
+    {
+        let shared = &self.table.shared;
+        if shared.peek(SLEEPERS) == ASLEEP && shared.swap::<Mark>(seat, SLEEPERS, AWAKE) == ASLEEP {
+            shared.wake_one(SLEEPERS);
         }
     }
 
-    /// Puts the value back, and lets the next ticket have its turn. It waits for nobody.
+    /// Puts the value back, and ends the turn. It waits for nobody.
     ///
     /// The holder may have added entries at the end: those of its own pass, whose places rise, from
     /// the pass's next call on. A call that has an entry is over: the next call is one above it.
@@ -214,7 +266,7 @@ impl<V: Listed> TurnLock<V> {
             Some(_) => unreachable!(),
         }
         shared.store::<Advance>(&mut seat, TURN, ticket + 1);
-        self.wake(ticket);
+        self.wake(&mut seat);
         Pass {
             badge: seat.into_badge(),
             number,

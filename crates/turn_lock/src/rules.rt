@@ -25,13 +25,22 @@ impl<V: Listed> TableRule<Option<V>, View, About<V>> for Tickets {
     ghost first = { λ about. first_view (V.terms about.first.value) };
 }
 
-// Takes a ticket.
+// Takes the ticket that is given out next, where it is this one.
 pub(crate) struct Ticket;
 
 impl<V: Listed> Play<Option<V>, View> for Ticket {
-    ghost use Rattle.turn_lock.specs.Steps.{TookTicket};
+    ghost use Rattle.turn_lock.specs.Steps.{TriedTicket};
 
-    ghost then = { λ _ before found after. TookTicket before found after };
+    ghost then = { λ s before found after. TriedTicket s.first before found after };
+}
+
+// Marks that somebody sleeps, or that all are awake.
+pub(crate) struct Mark;
+
+impl<V: Listed> Play<Option<V>, View> for Mark {
+    ghost use Rattle.turn_lock.specs.Steps.{Unchanged};
+
+    ghost then = { λ _ before _ after. Unchanged before after };
 }
 
 // Looks at the turn, and takes the slot where it is its own.

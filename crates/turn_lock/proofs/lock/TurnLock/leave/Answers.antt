@@ -3,6 +3,7 @@ use Rattle.call_places.specs.declared.entries.Entry.{Entry}
 use Rattle.call_places.specs.Entries.{last_of, own, CallsWithin}
 use Rattle.turn_lock.specs.Passes.{MayAdd, next_after, HeldView}
 use Rattle.turn_lock.specs.Seats.{next_from}
+use Rattle.turn_lock.specs.Steps.{GaveValue}
 use Rattle.turn_lock.proofs.Calls.{last_below, next_is, calls_after, one_rest}
 use Rattle.turn_lock.proofs.Seats.{filled, left, rests}
 use Rattle.turn_lock.proofs.Steps.{passes_on}
@@ -34,9 +35,9 @@ invariant_of-result g c =
     let h = subst (λ (x : HeldView g.row.V.Denot). MayAdd x.number x.next_call x.seen (g.V.Listed.entries x.value) a.0) (sym c.held.view_is) a.1 in
     let next = c.next_call_of-next_call.ensures ∙ ap (λ l. next_from i.number i.next_call (last_of l)) h.adds ∙ next_is i.number i.next_call 4294967295 _ a.0 h.mine h.calls c.held.invariant.calls in
     let f = filled i.seat.me c.exchange.new.seat.me i.value _ _ _ _ c.held.invariant c.exchange.ensures.3 in
-    let l = left g.V.Listed.entries c.exchange.new.seat.me c.store.new.seat.me i.value _ _ _ _ _ f c.store.ensures.2 in
+    let l = left g.V.Listed.entries c.exchange.new.seat.me c.wake.new.seat.me i.value _ _ _ _ _ f (subst (GaveValue g.V.Listed.entries c.exchange.new.seat.me) (sym c.wake.ensures.1) c.store.ensures.2) in
     let calls = calls_after i.number i.next_call 4294967295 _ a.0 h.mine h.calls h.rise c.held.invariant.calls in
-    (rests g.V.Listed.entries c.store.new.seat.me c.into_badge.result.views i.value i.number i.turns c.next_call_of-next_call.result _ l c.into_badge.ensures.2
+    (rests g.V.Listed.entries c.wake.new.seat.me c.into_badge.result.views i.value i.number i.turns c.next_call_of-next_call.result _ l c.into_badge.ensures.2
     (subst (λ (x : ℕ × List Entry). CallsWithin 0 x.0 (own i.number x.1)) (λ k. (sym next k, sym h.adds k)) calls)).0
 
 pub returns-clause-next_call : goal.returns-clause-next_call
