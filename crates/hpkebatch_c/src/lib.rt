@@ -12,4 +12,7 @@
 #![tactic(auto)]
 
 mod ciphers;
+mod contexts;
 mod statuses;
+
+pub use contexts::HpkeContext;
