@@ -216,16 +216,17 @@ pub extern "C" fn hpkebatch_context_open(
         Ok(key) => key,
         Err(status) => return status,
     };
-    let nonce = nonce_at(&context.base_nonce, context.number);
+    let number = context.number;
+    let nonce = nonce_at(&context.base_nonce, number);
     let mut checks = Checks::by(MayCheck::alone(memory));
     if !key.check_tag(&nonce, aad, ct, &mut checks) {
         return REFUSED_FAILED;
     }
-    if context.number >= context.limit {
+    if number >= context.limit {
         return REFUSED_LIMIT;
     }
     key.decrypt_into(&nonce, aad, ct, out);
-    context.number += 1;
+    context.number = number + 1;
     0
 }
 

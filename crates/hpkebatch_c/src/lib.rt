@@ -13,6 +13,9 @@
 
 mod ciphers;
 mod contexts;
+mod exchanges;
+mod kem;
+mod setups;
 mod statuses;
 
 pub use contexts::HpkeContext;

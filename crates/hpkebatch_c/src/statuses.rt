@@ -29,3 +29,12 @@ pub(crate) const REFUSED_LIMIT: u32 = 10;
 
 /// More bytes are asked for than one export gives.
 pub(crate) const REFUSED_EXPORTSIZE: u32 = 12;
+
+/// One of psk and psk_id is missing.
+pub(crate) const REFUSED_PSKPAIR: u32 = 16;
+
+/// Mode base takes no psk.
+pub(crate) const REFUSED_PSKEXTRA: u32 = 17;
+
+/// Mode psk needs a psk.
+pub(crate) const REFUSED_PSKMISSING: u32 = 18;
