@@ -1,12 +1,16 @@
 # shellcheck shell=bash
 # Tells whether the program that stands was built from the sources as they are. A script at the top
-# of the repository reads this file and calls its functions.
+# of the repository reads this file and calls its functions. Where it set goal=hpkebatch_c before, all that is
+# said of the program is said of the library for C.
 
-program=crates/hpkebatch/out/hpkebatch
+case ${goal-} in
+hpkebatch_c) program=crates/hpkebatch_c/out/libhpkebatch_c.a ;;
+*) goal=hpkebatch program=crates/hpkebatch/out/hpkebatch ;;
+esac
 
 # The lines of crates.txt for the program and for all that it uses, in their order.
 rows() {
-    awk '
+    awk -v goal="$goal" '
         function need(name, used, i, n) {
             if (!(name in uses) || name in needed) return
             needed[name]
@@ -15,7 +19,7 @@ rows() {
         }
         { sub(/#.*/, "") }
         split($0, part, ":") == 2 { split(part[1], word, " "); uses[name[++count] = word[1]] = part[2]; row[count] = $0 }
-        END { need("hpkebatch"); for (i = 1; i <= count; i++) if (name[i] in needed) print row[i] }' crates.txt
+        END { need(goal); for (i = 1; i <= count; i++) if (name[i] in needed) print row[i] }' crates.txt
 }
 
 # The folders of these lines.
@@ -53,7 +57,8 @@ is_as_seen() {
 # Whether the program that stands was built from the sources as they are.
 is_built() {
     local seeing=$program.seen.$$
-    [ -x "$program" ] && [ -f "$program.sources" ] || return
+    [ -f "$program" ] && [ -f "$program.sources" ] || return
+    [ "$goal" = hpkebatch_c ] || [ -x "$program" ] || return
     is_as_seen && return
     # its date is from before the sums, so that a change meanwhile isn't missed
     : 2>/dev/null >"$seeing"

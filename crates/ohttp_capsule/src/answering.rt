@@ -14,7 +14,7 @@ use crate::firsts::opened_first;
 use crate::headers::{HEADER_SIZE, suite_named};
 use crate::responses::{TAG_SIZE, entropy_size, sealed_response};
 use crate::setups::context_of;
-use aes_gcm::Checks;
+use aes_gcm::{Checks, MayCheck};
 use hkdf_labelled::Suite;
 use hpke_context::Context;
 use key_schedule::Role;
@@ -49,8 +49,8 @@ fn suite_for<S: KemParams>(id: u8, request: &[u8], nonce: &[u8]) -> Result<Suite
 }
 
 // The text of a request, and the response, in the context of the request.
-fn answer_in<R: Threads + Sync>(
-    rt: &R,
+fn answer_in(
+    permission: MayCheck,
     alloc: Global,
     context: &Context,
     enc: &[u8],
@@ -65,9 +65,54 @@ fn answer_in<R: Threads + Sync>(
         → result ≡ answered_in context.now enc.now ct.now nonce.now text.now }
     ensures size { IfOk result (λ a. length a.1 ≡ length nonce.now + (length text.now + 16)) }
 {
-    let question = opened_first(alloc, context, ct, &mut Checks::new(rt))?;
+    let question = opened_first(alloc, context, ct, &mut Checks::by(permission))?;
     let response = sealed_response(alloc, context, enc, nonce, text)?;
     Ok((question, response))
+}
+
+/// Answers a request as [`answer`] does, for who may check tags.
+pub fn answer_by<S: KemParams, M: Multiplier>(
+    permission: MayCheck,
+    alloc: Global,
+    mult: &M,
+    secret: &SecretKey<S>,
+    id: u8,
+    request: &[u8],
+    nonce: &[u8],
+    text: &[u8],
+) -> Result<(ByteList, ByteList), CapsuleFault>
+    requires request { length request.now ≤ 1049783 }
+    requires text { length text.now ≤ 2 ^ 20 }
+    ensures answered { result ≢ Err CapsuleFault.OutOfMemory
+        → result ≡ answered S.set S.ID secret.now id request.now nonce.now text.now }
+    ensures short { (result ≡ Err CapsuleFault.Short) ↔ IsShortRequest S.set request.now }
+    ensures header { (result ≡ Err CapsuleFault.Header)
+        ↔ HasOtherHeader S.set S.ID id request.now }
+    ensures nonce_size { (result ≡ Err CapsuleFault.NonceSize)
+        ↔ HasOtherNonce S.set S.ID id request.now nonce.now }
+    ensures failed { result ≢ Err CapsuleFault.OutOfMemory → ((result ≡ Err CapsuleFault.Failed)
+        ↔ DoesNotOpen S.set S.ID secret.now id request.now nonce.now) }
+    ensures size { IfOk result (λ a. length a.1 ≡ length nonce.now + (length text.now + 16)) }
+    ensures exchange { result ≢ Err CapsuleFault.OutOfMemory
+        → (asked : Asked) (question : List ℕ)
+        → Asks S.set S.ID secret.now id asked request.now question
+        → length nonce.now ≡ entropy_size asked.context.suite.aead
+        → Exchanges result asked question text.now }
+{
+    both_ends_agree::<S>();
+    let suite = suite_for::<S>(id, request, nonce)?;
+    let (enc, ct) = request[HEADER_SIZE..].split_at(S::ENC);
+    let shared_secret = decap(alloc, mult, enc, secret)?;
+    let context = context_of(alloc, Role::Recipient, id, suite, &shared_secret)?;
+    answer_in(
+        permission,
+        alloc,
+        context.as_context(),
+        enc,
+        ct,
+        nonce,
+        text,
+    )
 }
 
 /// Decapsulates a request to the key of this identifier, and encapsulates the response with this
@@ -108,10 +153,6 @@ pub fn answer<R: Threads + Sync, S: KemParams, M: Multiplier>(
         → length nonce.now ≡ entropy_size asked.context.suite.aead
         → Exchanges result asked question text.now }
 {
-    both_ends_agree::<S>();
-    let suite = suite_for::<S>(id, request, nonce)?;
-    let (enc, ct) = request[HEADER_SIZE..].split_at(S::ENC);
-    let shared_secret = decap(alloc, mult, enc, secret)?;
-    let context = context_of(alloc, Role::Recipient, id, suite, &shared_secret)?;
-    answer_in(rt, alloc, context.as_context(), enc, ct, nonce, text)
+    let permission = MayCheck::on_threads(rt);
+    answer_by(permission, alloc, mult, secret, id, request, nonce, text)
 }

@@ -27,8 +27,8 @@ pub mod setups;
 mod strings;
 mod taking;
 
-pub use answering::answer;
+pub use answering::{answer, answer_by};
 pub use asking::{Asked, ask};
 pub use faults::CapsuleFault;
 pub use kept::KeptContext;
-pub use taking::take;
+pub use taking::{take, take_by};

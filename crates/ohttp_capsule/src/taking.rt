@@ -8,10 +8,37 @@ ghost use Rattle.ohttp_capsule.specs.Refusals.{IsShortResponse, IsOfNoExchange};
 use crate::asking::Asked;
 use crate::faults::CapsuleFault;
 use crate::responses::{TAG_SIZE, entropy_size, opened, response_key};
-use aes_gcm::Checks;
+use aes_gcm::{Checks, MayCheck};
 use radix_pack::ByteList;
 use std::alloc::Global;
 use std::thread::Threads;
+
+/// Takes a response as [`take`] does, for who may check tags.
+pub fn take_by(
+    permission: MayCheck,
+    alloc: Global,
+    asked: &Asked,
+    response: &[u8],
+) -> Result<ByteList, CapsuleFault>
+    requires response { length response.now ≤ 1048624 }
+    requires cipher { HasCipher asked.now.context }
+    requires enc { length asked.now.enc ≤ 1184 }
+    ensures taken { result ≢ Err CapsuleFault.OutOfMemory → result ≡ taken asked.now response.now }
+    ensures short { (result ≡ Err CapsuleFault.Short) ↔ IsShortResponse asked.now response.now }
+    ensures failed { result ≢ Err CapsuleFault.OutOfMemory → ((result ≡ Err CapsuleFault.Failed)
+        ↔ IsOfNoExchange asked.now response.now) }
+    ensures header { result ≢ Err CapsuleFault.Header }
+    ensures nonce_size { result ≢ Err CapsuleFault.NonceSize }
+{
+    let context = asked.context.as_context();
+    let size = entropy_size(context.suite().aead);
+    if response.len() < size + TAG_SIZE {
+        return Err(CapsuleFault::Short);
+    }
+    let (nonce, ct) = response.split_at(size);
+    let key = response_key(alloc, context, asked.enc.as_slice(), nonce)?;
+    opened(alloc, &key.key, &key.nonce, ct, &mut Checks::by(permission))
+}
 
 /// Decapsulates a response (RFC 9458, 4.4) to a request that [`ask`](crate::ask) made: gives its
 /// text.
@@ -38,12 +65,5 @@ pub fn take<R: Threads + Sync>(
     ensures header { result ≢ Err CapsuleFault.Header }
     ensures nonce_size { result ≢ Err CapsuleFault.NonceSize }
 {
-    let context = asked.context.as_context();
-    let size = entropy_size(context.suite().aead);
-    if response.len() < size + TAG_SIZE {
-        return Err(CapsuleFault::Short);
-    }
-    let (nonce, ct) = response.split_at(size);
-    let key = response_key(alloc, context, asked.enc.as_slice(), nonce)?;
-    opened(alloc, &key.key, &key.nonce, ct, &mut Checks::new(rt))
+    take_by(MayCheck::on_threads(rt), alloc, asked, response)
 }

@@ -5,10 +5,10 @@ use Rattle.ohttp_capsule.specs.declared.faults.CapsuleFault.TheVariants.{Short, 
 use Rattle.ohttp_capsule.specs.Responses.{entropy_size, aead_key, aead_nonce}
 use Rattle.ohttp_capsule.specs.Replies.{least_response}
 use Rattle.ohttp_capsule.proofs.Telling.{told_short, told_late, taken_by_parts, tells_of}
-use Rattle.ohttp_capsule.proofs.taking.take.Goals as goal
+use Rattle.ohttp_capsule.proofs.taking.take_by.Goals as goal
 
 pub returns-then-response-size : goal.returns-then-response-size
-returns-then-response-size g c =
+returns-then-response-size c =
     let asked = c.args.asked.now in
     let response = c.args.response.now in
     let size_is : c.entropy_size-size.result ≡ entropy_size asked.context.suite.aead =
@@ -27,7 +27,7 @@ returns-then-response-size g c =
     }
 
 pub returns-in_err-key : goal.returns-in_err-key
-returns-in_err-key g c =
+returns-in_err-key c =
     let asked = c.args.asked.now in
     let response = c.args.response.now in
     let r = c.from_residual.result in
@@ -49,7 +49,7 @@ returns-in_err-key g c =
     }
 
 pub returns : goal.returns
-returns g c =
+returns c =
     let asked = c.args.asked.now in
     let response = c.args.response.now in
     let r = c.opened.result in

@@ -4,7 +4,7 @@ use Rattle.sntrup_kem.specs.Sizes.{enc_size}
 use Rattle.hpke_context.specs.Contexts.{ContextView, HasCipher, encrypts}
 use Rattle.ohttp_capsule.specs.declared.faults.CapsuleFault.TheVariants.{OutOfMemory}
 use Rattle.ohttp_capsule.proofs.Telling.{told_refusal, told_memory, told_answer, ready_by, tells}
-use Rattle.ohttp_capsule.proofs.answering.answer.Goals as goal
+use Rattle.ohttp_capsule.proofs.answering.answer_by.Goals as goal
 
 pub returns-in_err-suite : goal.returns-in_err-suite
 returns-in_err-suite g c =

@@ -1,0 +1,2 @@
+pub mod Exporters
+pub mod Pairs

@@ -1,0 +1,5 @@
+pub mod Statuses
+pub mod Lengths
+pub mod Contexts
+pub mod Keys
+pub mod Setups

@@ -1,0 +1,40 @@
+//! What a call answers, beside 0 for done. The header names these numbers too.
+
+/// A length doesn't fit, or a number names nothing.
+pub(crate) const WRONG_USAGE: u32 = 2;
+
+/// Memory ran out.
+pub(crate) const NO_MEMORY: u32 = 6;
+
+/// The tag doesn't hold.
+pub(crate) const REFUSED_FAILED: u32 = 11;
+
+/// None of the polynomials that were drawn for g has an inverse.
+pub(crate) const REFUSED_EXHAUSTED: u32 = 13;
+
+/// 3f has no inverse.
+pub(crate) const REFUSED_NOINVERSE: u32 = 14;
+
+/// The bytes encode no secret key.
+pub(crate) const REFUSED_FORM: u32 = 15;
+
+/// A recipient doesn't seal, and a sender doesn't open.
+pub(crate) const REFUSED_ROLE: u32 = 8;
+
+/// The context is export-only.
+pub(crate) const REFUSED_NOCIPHER: u32 = 9;
+
+/// The numbers below LIMIT are used.
+pub(crate) const REFUSED_LIMIT: u32 = 10;
+
+/// More bytes are asked for than one export gives.
+pub(crate) const REFUSED_EXPORTSIZE: u32 = 12;
+
+/// One of psk and psk_id is missing.
+pub(crate) const REFUSED_PSKPAIR: u32 = 16;
+
+/// Mode base takes no psk.
+pub(crate) const REFUSED_PSKEXTRA: u32 = 17;
+
+/// Mode psk needs a psk.
+pub(crate) const REFUSED_PSKMISSING: u32 = 18;

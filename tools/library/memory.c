@@ -1,0 +1,135 @@
+/* Refuses each allocation of each call that takes memory, in turn: that one alone, and all from there on. The call
+ * then answers HPKEBATCH_NO_MEMORY and has changed nothing, or does its work without, and no block is kept. Linked with
+ * --wrap=malloc, --wrap=realloc and --wrap=free, which bring the library's calls here. */
+#include "check.h"
+
+void *__real_malloc(size_t size);
+void *__real_realloc(void *old, size_t size);
+void __real_free(void *block);
+void *__wrap_malloc(size_t size);
+void *__wrap_realloc(void *old, size_t size);
+void __wrap_free(void *block);
+
+static long calls, refused_from, refused_to, blocks;
+
+static int is_refused(void)
+{
+    calls++;
+    return calls >= refused_from && calls <= refused_to;
+}
+
+void *__wrap_malloc(size_t size)
+{
+    void *block = is_refused() ? NULL : __real_malloc(size);
+    blocks += block != NULL;
+    return block;
+}
+
+void *__wrap_realloc(void *old, size_t size)
+{
+    void *block = is_refused() ? NULL : __real_realloc(old, size);
+    blocks += block != NULL && old == NULL;
+    return block;
+}
+
+void __wrap_free(void *block)
+{
+    blocks -= block != NULL;
+    __real_free(block);
+}
+
+/* All that is lent. */
+static const uint8_t seed[32] = {7};
+static struct {
+    uint8_t pk[1322], sk[1999], enc[1184], session[32];
+    hpkebatch_context context;
+} lent, before, after;
+
+static uint32_t call(int which)
+{
+    const uint8_t *none = (const uint8_t *)"";
+    switch (which) {
+    case 0:
+        return hpkebatch_sntrup761_keygen(seed, 0, lent.pk, lent.sk);
+    case 1:
+        return hpkebatch_sntrup761_encap(seed, 1, lent.pk, lent.enc, lent.session);
+    case 2:
+        return hpkebatch_sntrup761_decap(lent.enc, lent.sk, lent.session);
+    case 3:
+        return hpkebatch_sntrup761_sender(&lent.context, lent.enc, seed, 1, lent.pk, 0, 1, 1, 9, none, 0, none, 0, none, 0);
+    case 4:
+        return hpkebatch_sntrup761_recipient(&lent.context, lent.enc, lent.sk, 0, 1, 1, 9, none, 0, none, 0, none, 0);
+    case 5:
+        return hpkebatch_sntrup857_keygen(seed, 0, lent.pk, lent.sk);
+    case 6:
+        return hpkebatch_sntrup857_encap(seed, 1, lent.pk, lent.enc, lent.session);
+    case 7:
+        return hpkebatch_sntrup857_decap(lent.enc, lent.sk, lent.session);
+    case 8:
+        return hpkebatch_sntrup857_sender(&lent.context, lent.enc, seed, 1, lent.pk, 0, 1, 1, 9, none, 0, none, 0, none, 0);
+    default:
+        return hpkebatch_sntrup857_recipient(&lent.context, lent.enc, lent.sk, 0, 1, 1, 9, none, 0, none, 0, none, 0);
+    }
+}
+
+#define CALLS 10
+
+/* Other bytes where the call will write. */
+static void spoil(int which)
+{
+    if (which % 5 == 0) {
+        memset(lent.pk, 7, sizeof lent.pk);
+        memset(lent.sk, 7, sizeof lent.sk);
+    }
+    if (which % 5 == 1 || which % 5 == 3)
+        memset(lent.enc, 7, sizeof lent.enc);
+    if (which % 5 == 1 || which % 5 == 2)
+        memset(lent.session, 7, sizeof lent.session);
+    if (which % 5 >= 3)
+        memset(&lent.context, 7, sizeof lent.context);
+}
+
+static long refusals, survived;
+
+/* The call, where the allocations of these numbers are refused. A list that can't grow by half again may still grow by
+ * what it needs, so one refusal alone may be survived. */
+static void try_refused(int which, long from, long to, int may_survive)
+{
+    lent = before;
+    calls = 0;
+    refused_from = from;
+    refused_to = to;
+    uint32_t status = call(which);
+    refused_from = refused_to = 0;
+    refusals++;
+    CHECK(blocks == 0);
+    if (status == HPKEBATCH_DONE && may_survive) {
+        survived++;
+        CHECK(memcmp(&lent, &after, sizeof lent) == 0);
+    } else {
+        CHECK(status == HPKEBATCH_NO_MEMORY);
+        CHECK(memcmp(&lent, &before, sizeof lent) == 0);
+    }
+}
+
+int main(void)
+{
+    for (int which = 0; which < CALLS; which++) {
+        spoil(which);
+        before = lent;
+        calls = 0;
+        CHECK(call(which) == HPKEBATCH_DONE);
+        long needed = calls;
+        after = lent;
+        CHECK(needed > 0 && blocks == 0);
+        CHECK(memcmp(&after, &before, sizeof after) != 0);
+        for (long at = 1; at <= needed; at++) {
+            try_refused(which, at, at, 1);
+            try_refused(which, at, needed, 0);
+        }
+        lent = after;
+    }
+    printf("memory: %ld refusals, of which %ld were survived\n", refusals, survived);
+    CHECK(survived < refusals / 8);
+    return told("memory");
+}
