@@ -2,6 +2,7 @@ use Rattle.std.proofs.Common.{◌≡◌, ◌≢◌, ℕ, ◌-◌, ℤ, pos, negs
 use Rattle.std.specs.Prelude.{replicate}
 use Rattle.std.specs.Int.{w8}
 use Rattle.std.proofs.lemmas.Bool.{cases_eq}
+use Rattle.std.proofs.lemmas.Grind.{common_steps}
 use Rattle.std.proofs.lemmas.List.{take_at}
 use Rattle.ring_core.specs.Bounds.{IsWithin}
 use Rattle.ring_core.specs.Product.{centred, product, weight}
@@ -14,6 +15,13 @@ use Rattle.sntrup_core.proofs.encryption.decrypt.Goals as goal
 pub from_vec-e-requires-clause-small : goal.from_vec-e-requires-clause-small
 from_vec-e-requires-clause-small g c =
     IsWithin-residues c.as_slice.result.now c.in_ok-residues_3.field-0.items c.in_ok-residues_3.ensures
+
+pub from_vec-e-requires-clause-count : goal.from_vec-e-requires-clause-count
+from_vec-e-requires-clause-count g c = grind (arith, common_steps)
+
+pub choose_list-requires-clause-other_small : goal.choose_list-requires-clause-other_small
+choose_list-requires-clause-other_small g c =
+    subst (λ (xs : List ℤ). IsWithin 1 xs) (sym c.as_slice-2.ensures.list) (IsCentred-small g.S.Params.set.p _ c.as_slice-2.ensures.centred)
 
 pub from_vec-requires-clause-small : goal.from_vec-requires-clause-small
 from_vec-requires-clause-small g c =

@@ -36,7 +36,7 @@ loop-pass-preserved g c =
         c.in-Some-pop.pass,
         i.3.2 ∙ ap (λ l. l ++ more) c.in-Some-pop.ensures.items ∙ append_assoc c.pop-in-loop-pass.new.self.items (c.in-Some-pop.pass ∷ []) more,
         ap (λ m. m.0.parts) joined.2 ∙ ap (λ parts. parts ++ c.loop-pass.seat.me.0.parts) c.into_seat.ensures.3
-        ∙ ap (λ parts. part c.in-Some-pop.pass.number c.in-Some-pop.pass.seen ∷ parts) i.3.3,
+            ∙ ap (λ parts. part c.in-Some-pop.pass.number c.in-Some-pop.pass.seen ∷ parts) i.3.3,
       ),
     )
 
