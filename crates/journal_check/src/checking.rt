@@ -22,6 +22,7 @@ use crate::guesses::wrong_guesses;
 use crate::links::linked_journals;
 use crate::replies::wrong_reply;
 use crate::runs::{JournalRun, run_journals};
+use aes_gcm::MayCheck;
 use batch_plans::{PlainList, Plan};
 use call_places::Mark;
 use context_table::set_up;
@@ -31,7 +32,7 @@ use result_verdicts::Verdict;
 use ring_core::Multiplier;
 use std::alloc::{AllocError, Global};
 use std::thread::Threads;
-use told_journals::{broken_journal, is_one_history};
+use told_journals::{broken_journal, is_one_history, kept_journals};
 
 // A journal that isn't legal, or stamps that make no history.
 fn wrong_journal(
@@ -68,9 +69,11 @@ fn wrong_line(
     plan: &Plan,
     contexts: &[Option<Context>],
     told: &Told,
+    journals: &[PlainList<Mark>],
     runs: &[JournalRun],
 ) -> Result<Verdict, AllocError>
     requires within { IsWithinLimits plan.now }
+    requires same { journals.now ≡ told.now.journals }
     requires lanes_size { length told.now.lanes ≡ length plan.now.lanes }
     requires contexts_size { length contexts.now ≡ length told.now.journals }
     requires runs_size { length runs.now ≡ length told.now.journals }
@@ -84,7 +87,7 @@ fn wrong_line(
         (by_guess (wrong_guesses_of run 0 told.now.lanes))) }
 {
     let mut replies = told.replies();
-    let journals = linked_journals(alloc, plan.lanes.as_slice().len(), told.journals())?;
+    let journals = linked_journals(alloc, plan.lanes.as_slice().len(), journals)?;
     if let Some(line) = wrong_reply(&mut replies, alloc, plan, contexts, &journals, runs)? {
         return Ok(Verdict::Reply { line });
     }
@@ -94,9 +97,10 @@ fn wrong_line(
     }
 }
 
-// The verdict on what a result tells.
-fn verdict_on<R: Threads>(
-    rt: &R,
+// The verdict on what a result tells. Of its journals no more places are kept than may be legal, and
+// one for each context.
+fn verdict_on(
+    permission: MayCheck,
     alloc: Global,
     plan: &Plan,
     contexts: &mut [Option<Context>],
@@ -108,11 +112,13 @@ fn verdict_on<R: Threads>(
     requires contexts_size { length contexts.old ≡ length told.now.journals }
     ensures { IfOk result (λ verdict. verdict ≡ verdict_on_of plan.now contexts.old told.now) }
 {
-    match wrong_journal(alloc, plan, contexts, told.journals())? {
+    let kept = kept_journals(alloc, plan, contexts, told.journals())?;
+    let journals = kept.as_slice();
+    match wrong_journal(alloc, plan, contexts, journals)? {
         Some(wrong) => Ok(wrong),
         None => {
-            let runs = run_journals(rt, alloc, plan, contexts, told.journals())?;
-            wrong_line(alloc, plan, contexts, told, &runs)
+            let runs = run_journals(permission, alloc, plan, contexts, journals)?;
+            wrong_line(alloc, plan, contexts, told, journals, &runs)
         }
     }
 }
@@ -120,9 +126,9 @@ fn verdict_on<R: Threads>(
 /// Checks whether a text is one that the plan may be answered with.
 ///
 /// The set-up is done again, as [`set_up`](context_table::set_up) does it, and each journal is run
-/// through its context. No thread is started.
-pub fn check_result<R: Threads, M: Multiplier>(
-    rt: &R,
+/// through its context.
+pub fn check_result_by<M: Multiplier>(
+    permission: MayCheck,
     alloc: Global,
     mult: &M,
     plan: &Plan,
@@ -139,8 +145,27 @@ pub fn check_result<R: Threads, M: Multiplier>(
     let keys = setup.keys.as_slice();
     let replies = setup.contexts.as_slice();
     match read_result(alloc, plan, keys, replies, &contexts, text) {
-        Ok(told) => verdict_on(rt, alloc, plan, &mut contexts, &told),
+        Ok(told) => verdict_on(permission, alloc, plan, &mut contexts, &told),
         Err(Stop::Wrong(line)) => Ok(Verdict::Form { line }),
         Err(Stop::OutOfMemory) => Err(AllocError),
     }
+}
+
+/// Checks whether a text is one that the plan may be answered with.
+///
+/// As [`check_result_by`], with the permission that the runtime gives. No thread is started.
+pub fn check_result<R: Threads, M: Multiplier>(
+    rt: &R,
+    alloc: Global,
+    mult: &M,
+    plan: &Plan,
+    text: &[u8],
+) -> Result<Verdict, AllocError>
+    requires within { IsWithinLimits plan.now }
+    requires size { length text.now ≤ most_input }
+    ensures verdict { IfOk result (λ verdict. IsVerdict plan.now text.now verdict) }
+    ensures legal { IfOk result (λ verdict.
+        (verdict ≡ Verdict.Legal) ↔ IsReply plan.now text.now) }
+{
+    check_result_by(MayCheck::on_threads(rt), alloc, mult, plan, text)
 }

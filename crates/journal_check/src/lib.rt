@@ -7,7 +7,8 @@
 //! sequential context (RFC 9180, 5.2), and the replies are compared with its answers. Each guess is
 //! compared with the numbers that it may have had.
 //!
-//! Nothing here starts a thread. Each call, each place and each reply is passed a fixed number of
+//! Nothing here starts a thread: [`check_result_by`] serves a caller that has no runtime, by a
+//! permission to check tags. Each call, each place and each reply is passed a fixed number of
 //! times, whatever the contexts and lanes are; stamps are put in order by their numbers. Each pair
 //! of a lane and a journal costs one first place and one cursor, and nothing else.
 //!
@@ -23,5 +24,5 @@ mod links;
 mod replies;
 mod runs;
 
-pub use checking::check_result;
+pub use checking::{check_result, check_result_by};
 pub use result_verdicts::Verdict;

@@ -14,12 +14,11 @@ ghost use Rattle.journal_check.specs.Runs.{asked_at as asked_at_of, items_at, Is
 ghost use Rattle.journal_check.specs.Runs.{IsRunOf, AreRuns, AreFor};
 
 use crate::items::{Asked, answer, asked_at};
-use aes_gcm::Checks;
+use aes_gcm::{Checks, MayCheck};
 use batch_plans::{PlainList, Plan};
 use call_places::Mark;
 use hpke_context::{Context, Sequential};
 use std::alloc::{AllocError, Global};
-use std::thread::Threads;
 
 /// A journal along which its context was run: of each place the line of its reply, and the number
 /// that was due there.
@@ -72,8 +71,8 @@ fn run_along(
 }
 
 /// Runs the journal of a context, and hands the context back.
-pub(crate) fn run_journal<R: Threads>(
-    rt: &R,
+pub(crate) fn run_journal(
+    permission: MayCheck,
     alloc: Global,
     plan: &Plan,
     context: Context,
@@ -87,7 +86,7 @@ pub(crate) fn run_journal<R: Threads>(
         ≡ numbers_from (cipher_of context) 0 (items_at plan.now (places marks.now))) }
     ensures context { IfOk result (λ done. done.1 ≡ context) }
 {
-    let mut checks = Checks::new(rt);
+    let mut checks = Checks::by(permission);
     let mut sequential = Sequential::new(context);
     let done = run_along(alloc, plan, &mut sequential, marks, &mut checks)?;
     Ok((done, sequential.into_context()))
@@ -111,8 +110,8 @@ fn put_back(contexts: &mut [Option<Context>], number: usize, context: Context)
 }
 
 // Runs the journal of the context of this number, where it stands.
-fn run_at<R: Threads>(
-    rt: &R,
+fn run_at(
+    permission: MayCheck,
     alloc: Global,
     plan: &Plan,
     contexts: &mut [Option<Context>],
@@ -130,7 +129,7 @@ fn run_at<R: Threads>(
 {
     match take(contexts, number) {
         Some(context) => {
-            let (done, context) = run_journal(rt, alloc, plan, context, marks)?;
+            let (done, context) = run_journal(permission, alloc, plan, context, marks)?;
             put_back(contexts, number, context);
             Ok(done)
         }
@@ -142,8 +141,8 @@ fn run_at<R: Threads>(
 }
 
 /// Runs the journals of all contexts that stand. Where memory runs out a context may be lost.
-pub(crate) fn run_journals<R: Threads>(
-    rt: &R,
+pub(crate) fn run_journals(
+    permission: MayCheck,
     alloc: Global,
     plan: &Plan,
     contexts: &mut [Option<Context>],
@@ -158,7 +157,7 @@ pub(crate) fn run_journals<R: Threads>(
 {
     let mut runs = Vec::new(alloc);
     'journals: for (number, marks) in journals.iter().enumerate() {
-        let done = run_at(rt, alloc, plan, contexts, number, marks.as_slice())?;
+        let done = run_at(permission, alloc, plan, contexts, number, marks.as_slice())?;
         runs.push(done)?;
     }
     Ok(runs)

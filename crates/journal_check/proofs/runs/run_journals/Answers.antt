@@ -9,7 +9,7 @@ use Rattle.journal_check.proofs.Slots.{runs_push}
 use Rattle.journal_check.proofs.runs.run_journals.Goals as goal
 
 pub journals-preserved : goal.journals-preserved
-journals-preserved g c =
+journals-preserved c =
     let plan = c.args.plan.now in
     let contexts = c.args.contexts.now in
     let journals = c.args.journals.now in

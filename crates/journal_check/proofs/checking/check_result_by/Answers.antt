@@ -8,7 +8,7 @@ use Rattle.result_verdicts.specs.Verdicts.{by_form, verdict_on}
 use Rattle.journal_check.specs.Verdicts.{IsVerdict}
 use Rattle.journal_check.proofs.LegalVerdicts.{legal_iff_reply}
 use Rattle.journal_check.proofs.ToldSizes.{read_as, read_wrong, has_of}
-use Rattle.journal_check.proofs.checking.check_result.Goals as goal
+use Rattle.journal_check.proofs.checking.check_result_by.Goals as goal
 
 pub verdict_on-requires-clause-few : goal.verdict_on-requires-clause-few
 verdict_on-requires-clause-few g c =
