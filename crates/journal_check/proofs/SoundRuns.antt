@@ -1,5 +1,5 @@
 -- What follows where no journal is broken.
-use Rattle.std.proofs.Common.{◌≡◌, ℕ, ◌<◌, Bool, List, [], ◌∷◌, length, map, Option, Some, None, sym, ap, ◌∙◌, subst, inl, inr, arith}
+use Rattle.std.proofs.Common.{◌≡◌, ℕ, ◌<◌, Bool, List, [], ◌∷◌, length, map, Option, Some, None, refl, sym, ap, ◌∙◌, subst, inl, inr, arith}
 use Rattle.std.specs.Prelude.{slice_index_or}
 use Rattle.std.specs.List.{All}
 use Rattle.std.proofs.lemmas.Bool.{cases_lt}
@@ -106,19 +106,28 @@ module _ (run : Run) (runs : List JournalRun) (are : AreRuns run.plan run.contex
 
 -- ---- the verdict
 
--- what follows where a call succeeded
--- what the journals and their stamps leave to later parts
-module _ (plan : Plan) (contexts : List (Option ContextView)) (told : ToldView) (found : List (List Mark)) (same : found ≡ told.journals) (wrong : Option Verdict)
+-- what the journals that were kept and their stamps leave to later parts
+module _ (plan : Plan) (contexts : List (Option ContextView)) (told : ToldView) (found : List (List Mark))
+    (broken : broken_journal (has_stamps plan.version) (batch_of plan contexts) 0 found ≡ broken_journal (has_stamps plan.version) (batch_of plan contexts) 0 told.journals)
+    (whole : broken_journal (has_stamps plan.version) (batch_of plan contexts) 0 told.journals ≡ None → found ≡ told.journals) (wrong : Option Verdict)
     (judged : (later : Verdict) → by_journal (broken_journal (has_stamps plan.version) (batch_of plan contexts) 0 found)
     (by_stamps (is_one_history (has_stamps plan.version) (batch_of plan contexts) found) later) ≡ or_later wrong later) where
   abbrev later_verdict : Verdict
   later_verdict = by_reply (wrong_reply told.replies (all_replies (run_told plan contexts told))) (by_guess (wrong_guesses (run_told plan contexts told) 0 told.lanes))
 
   front : verdict_on plan contexts told ≡ or_later wrong later_verdict
-  front =
-      ap (λ (js : List (List Mark)). by_journal (broken_journal (has_stamps plan.version) (batch_of plan contexts) 0 js)
-      (by_stamps (is_one_history (has_stamps plan.version) (batch_of plan contexts) js) later_verdict)) (sym same)
-      ∙ judged later_verdict
+  front = go (broken_journal (has_stamps plan.version) (batch_of plan contexts) 0 told.journals) refl ∙ judged later_verdict
+    where
+      go : (first : Option ℕ) → broken_journal (has_stamps plan.version) (batch_of plan contexts) 0 told.journals ≡ first
+          → verdict_on plan contexts told
+          ≡ by_journal (broken_journal (has_stamps plan.version) (batch_of plan contexts) 0 found)
+          (by_stamps (is_one_history (has_stamps plan.version) (batch_of plan contexts) found) later_verdict)
+      go None none =
+          ap (λ (js : List (List Mark)). by_journal (broken_journal (has_stamps plan.version) (batch_of plan contexts) 0 js)
+          (by_stamps (is_one_history (has_stamps plan.version) (batch_of plan contexts) js) later_verdict)) (sym (whole none))
+      go (Some context) some =
+          ap (λ (o : Option ℕ). by_journal o (by_stamps (is_one_history (has_stamps plan.version) (batch_of plan contexts) told.journals) later_verdict)) some
+          ∙ sym (ap (λ (o : Option ℕ). by_journal o (by_stamps (is_one_history (has_stamps plan.version) (batch_of plan contexts) found) later_verdict)) (broken ∙ some))
 
   pub found_early : (verdict : Verdict) → wrong ≡ Some verdict → verdict ≡ verdict_on plan contexts told
   found_early verdict is = sym (front ∙ ap (λ (o : Option Verdict). or_later o later_verdict) is)

@@ -32,7 +32,7 @@ use result_verdicts::Verdict;
 use ring_core::Multiplier;
 use std::alloc::{AllocError, Global};
 use std::thread::Threads;
-use told_journals::{broken_journal, is_one_history};
+use told_journals::{broken_journal, is_one_history, kept_journals};
 
 // A journal that isn't legal, or stamps that make no history.
 fn wrong_journal(
@@ -69,9 +69,11 @@ fn wrong_line(
     plan: &Plan,
     contexts: &[Option<Context>],
     told: &Told,
+    journals: &[PlainList<Mark>],
     runs: &[JournalRun],
 ) -> Result<Verdict, AllocError>
     requires within { IsWithinLimits plan.now }
+    requires same { journals.now ≡ told.now.journals }
     requires lanes_size { length told.now.lanes ≡ length plan.now.lanes }
     requires contexts_size { length contexts.now ≡ length told.now.journals }
     requires runs_size { length runs.now ≡ length told.now.journals }
@@ -85,7 +87,7 @@ fn wrong_line(
         (by_guess (wrong_guesses_of run 0 told.now.lanes))) }
 {
     let mut replies = told.replies();
-    let journals = linked_journals(alloc, plan.lanes.as_slice().len(), told.journals())?;
+    let journals = linked_journals(alloc, plan.lanes.as_slice().len(), journals)?;
     if let Some(line) = wrong_reply(&mut replies, alloc, plan, contexts, &journals, runs)? {
         return Ok(Verdict::Reply { line });
     }
@@ -95,7 +97,8 @@ fn wrong_line(
     }
 }
 
-// The verdict on what a result tells.
+// The verdict on what a result tells. Of its journals no more places are kept than may be legal, and
+// one for each context.
 fn verdict_on(
     permission: MayCheck,
     alloc: Global,
@@ -109,11 +112,13 @@ fn verdict_on(
     requires contexts_size { length contexts.old ≡ length told.now.journals }
     ensures { IfOk result (λ verdict. verdict ≡ verdict_on_of plan.now contexts.old told.now) }
 {
-    match wrong_journal(alloc, plan, contexts, told.journals())? {
+    let kept = kept_journals(alloc, plan, contexts, told.journals())?;
+    let journals = kept.as_slice();
+    match wrong_journal(alloc, plan, contexts, journals)? {
         Some(wrong) => Ok(wrong),
         None => {
-            let runs = run_journals(permission, alloc, plan, contexts, told.journals())?;
-            wrong_line(alloc, plan, contexts, told, &runs)
+            let runs = run_journals(permission, alloc, plan, contexts, journals)?;
+            wrong_line(alloc, plan, contexts, told, journals, &runs)
         }
     }
 }

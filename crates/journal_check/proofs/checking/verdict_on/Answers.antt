@@ -1,4 +1,4 @@
-use Rattle.std.proofs.Common.{◌≡◌, List, None, refl, subst, sym, Option}
+use Rattle.std.proofs.Common.{◌≡◌, List, None, refl, subst, sym, ap, ◌∙◌, Option}
 use Rattle.std.proofs.lemmas.Result.{IfOk-weaker}
 use Rattle.call_places.specs.declared.entries.Mark.{Mark}
 use Rattle.hpke_context.specs.Contexts.{ContextView}
@@ -14,15 +14,39 @@ use Rattle.journal_check.proofs.checking.verdict_on.Goals as goal
 
 pub returns-in-Some : goal.returns-in-Some
 returns-in-Some c =
-    found_early c.args.plan.now c.args.contexts.now c.args.told.now c.journals.result.now c.journals.ensures c.in_ok-wrong.field-0 c.in_ok-wrong.ensures.verdict c.in-Some.wrong c.in-Some.is
+    let plan = c.args.plan.now in
+    let contexts = c.args.contexts.now in
+    let told = c.args.told.now in
+    let stamps = has_stamps plan.version in
+    let batch = batch_of plan contexts in
+    let broken = ap (broken_journal stamps batch 0) c.as_slice-journals.ensures.value ∙ c.in_ok-kept.ensures.broken stamps ∙ ap (broken_journal stamps batch 0) c.journals.ensures in
+    found_early plan contexts told c.as_slice-journals.result.now broken
+    (λ none. c.as_slice-journals.ensures.value ∙ c.in_ok-kept.ensures.whole stamps (ap (broken_journal stamps batch 0) c.journals.ensures ∙ none) ∙ c.journals.ensures)
+    c.in_ok-wrong.field-0 c.in_ok-wrong.ensures.verdict c.in-Some.wrong c.in-Some.is
 
 pub run_journals-requires-clause-fit : goal.run_journals-requires-clause-fit
 run_journals-requires-clause-fit c =
     let plan = c.args.plan.now in
     let contexts = c.args.contexts.now in
+    let told = c.args.told.now in
     let stamps = has_stamps plan.version in
-    let none = subst (λ (js : List (List Mark)). broken_journal stamps (batch_of plan contexts) 0 js ≡ None) c.journals.ensures (c.in_ok-wrong.ensures.none c.in-None.is) in
-    subst (AreFor plan contexts) (sym c.journals-in-None.ensures) (are_for plan contexts c.args.told.now.journals stamps c.requires.within none c.requires.contexts_size)
+    let batch = batch_of plan contexts in
+    let broken = ap (broken_journal stamps batch 0) c.as_slice-journals.ensures.value ∙ c.in_ok-kept.ensures.broken stamps ∙ ap (broken_journal stamps batch 0) c.journals.ensures in
+    let none : broken_journal stamps batch 0 told.journals ≡ None = sym broken ∙ c.in_ok-wrong.ensures.none c.in-None.is in
+    let same : c.as_slice-journals.result.now ≡ told.journals = c.as_slice-journals.ensures.value ∙ c.in_ok-kept.ensures.whole stamps (ap (broken_journal stamps batch 0) c.journals.ensures ∙ none) ∙ c.journals.ensures in
+    subst (AreFor plan contexts) (sym same) (are_for plan contexts told.journals stamps c.requires.within none c.requires.contexts_size)
+
+pub wrong_line-requires-clause-same : goal.wrong_line-requires-clause-same
+wrong_line-requires-clause-same c =
+    let plan = c.args.plan.now in
+    let contexts = c.args.contexts.now in
+    let told = c.args.told.now in
+    let stamps = has_stamps plan.version in
+    let batch = batch_of plan contexts in
+    let broken = ap (broken_journal stamps batch 0) c.as_slice-journals.ensures.value ∙ c.in_ok-kept.ensures.broken stamps ∙ ap (broken_journal stamps batch 0) c.journals.ensures in
+    let none : broken_journal stamps batch 0 told.journals ≡ None = sym broken ∙ c.in_ok-wrong.ensures.none c.in-None.is in
+    let same : c.as_slice-journals.result.now ≡ told.journals = c.as_slice-journals.ensures.value ∙ c.in_ok-kept.ensures.whole stamps (ap (broken_journal stamps batch 0) c.journals.ensures ∙ none) ∙ c.journals.ensures in
+    same
 
 pub wrong_line-requires-clause-long : goal.wrong_line-requires-clause-long
 wrong_line-requires-clause-long c =
@@ -30,10 +54,13 @@ wrong_line-requires-clause-long c =
     let contexts = c.args.contexts.now in
     let told = c.args.told.now in
     let stamps = has_stamps plan.version in
-    let none = subst (λ (js : List (List Mark)). broken_journal stamps (batch_of plan contexts) 0 js ≡ None) c.journals.ensures (c.in_ok-wrong.ensures.none c.in-None.is) in
+    let batch = batch_of plan contexts in
+    let broken = ap (broken_journal stamps batch 0) c.as_slice-journals.ensures.value ∙ c.in_ok-kept.ensures.broken stamps ∙ ap (broken_journal stamps batch 0) c.journals.ensures in
+    let none : broken_journal stamps batch 0 told.journals ≡ None = sym broken ∙ c.in_ok-wrong.ensures.none c.in-None.is in
+    let same : c.as_slice-journals.result.now ≡ told.journals = c.as_slice-journals.ensures.value ∙ c.in_ok-kept.ensures.whole stamps (ap (broken_journal stamps batch 0) c.journals.ensures ∙ none) ∙ c.journals.ensures in
     let run = run_told plan contexts told in
     let runs = c.in_ok-runs-in-None.runs.items in
-    let are = subst (λ (js : List (List Mark)). AreRuns plan contexts js runs) c.journals-in-None.ensures c.in_ok-runs-in-None.ensures.runs in
+    let are = subst (λ (js : List (List Mark)). AreRuns plan contexts js runs) same c.in_ok-runs-in-None.ensures.runs in
     let legal = legal_at plan contexts told.journals stamps c.requires.within none c.requires.contexts_size in
     subst (λ (cs : List (Option ContextView)). AreLong cs told.journals c.deref.result.now) (sym c.in_ok-runs-in-None.ensures.kept)
     (subst (AreLong contexts told.journals) (sym c.deref.ensures.value) (are_long run runs are legal))
@@ -44,10 +71,13 @@ wrong_line-requires-clause-numbers c =
     let contexts = c.args.contexts.now in
     let told = c.args.told.now in
     let stamps = has_stamps plan.version in
-    let none = subst (λ (js : List (List Mark)). broken_journal stamps (batch_of plan contexts) 0 js ≡ None) c.journals.ensures (c.in_ok-wrong.ensures.none c.in-None.is) in
+    let batch = batch_of plan contexts in
+    let broken = ap (broken_journal stamps batch 0) c.as_slice-journals.ensures.value ∙ c.in_ok-kept.ensures.broken stamps ∙ ap (broken_journal stamps batch 0) c.journals.ensures in
+    let none : broken_journal stamps batch 0 told.journals ≡ None = sym broken ∙ c.in_ok-wrong.ensures.none c.in-None.is in
+    let same : c.as_slice-journals.result.now ≡ told.journals = c.as_slice-journals.ensures.value ∙ c.in_ok-kept.ensures.whole stamps (ap (broken_journal stamps batch 0) c.journals.ensures ∙ none) ∙ c.journals.ensures in
     let run = run_told plan contexts told in
     let runs = c.in_ok-runs-in-None.runs.items in
-    let are = subst (λ (js : List (List Mark)). AreRuns plan contexts js runs) c.journals-in-None.ensures c.in_ok-runs-in-None.ensures.runs in
+    let are = subst (λ (js : List (List Mark)). AreRuns plan contexts js runs) same c.in_ok-runs-in-None.ensures.runs in
     let legal = legal_at plan contexts told.journals stamps c.requires.within none c.requires.contexts_size in
     subst (λ (cs : List (Option ContextView)). HaveNumbers cs told.journals c.deref.result.now) (sym c.in_ok-runs-in-None.ensures.kept)
     (subst (HaveNumbers contexts told.journals) (sym c.deref.ensures.value) (have_numbers run runs are legal))
@@ -58,24 +88,32 @@ wrong_line-requires-clause-own c =
     let contexts = c.args.contexts.now in
     let told = c.args.told.now in
     let stamps = has_stamps plan.version in
-    let none = subst (λ (js : List (List Mark)). broken_journal stamps (batch_of plan contexts) 0 js ≡ None) c.journals.ensures (c.in_ok-wrong.ensures.none c.in-None.is) in
+    let batch = batch_of plan contexts in
+    let broken = ap (broken_journal stamps batch 0) c.as_slice-journals.ensures.value ∙ c.in_ok-kept.ensures.broken stamps ∙ ap (broken_journal stamps batch 0) c.journals.ensures in
+    let none : broken_journal stamps batch 0 told.journals ≡ None = sym broken ∙ c.in_ok-wrong.ensures.none c.in-None.is in
+    let same : c.as_slice-journals.result.now ≡ told.journals = c.as_slice-journals.ensures.value ∙ c.in_ok-kept.ensures.whole stamps (ap (broken_journal stamps batch 0) c.journals.ensures ∙ none) ∙ c.journals.ensures in
     subst (λ (cs : List (Option ContextView)). HaveLanes plan cs told.journals) (sym c.in_ok-runs-in-None.ensures.kept)
     (have_lanes plan contexts told.journals stamps c.requires.within none)
 
-pub returns-in_ok-runs-in-None : goal.returns-in_ok-runs-in-None
-returns-in_ok-runs-in-None c =
+pub returns : goal.returns
+returns c =
     let plan = c.args.plan.now in
     let contexts = c.args.contexts.now in
     let told = c.args.told.now in
     let stamps = has_stamps plan.version in
-    let none = subst (λ (js : List (List Mark)). broken_journal stamps (batch_of plan contexts) 0 js ≡ None) c.journals.ensures (c.in_ok-wrong.ensures.none c.in-None.is) in
+    let batch = batch_of plan contexts in
+    let broken = ap (broken_journal stamps batch 0) c.as_slice-journals.ensures.value ∙ c.in_ok-kept.ensures.broken stamps ∙ ap (broken_journal stamps batch 0) c.journals.ensures in
+    let none : broken_journal stamps batch 0 told.journals ≡ None = sym broken ∙ c.in_ok-wrong.ensures.none c.in-None.is in
+    let same : c.as_slice-journals.result.now ≡ told.journals = c.as_slice-journals.ensures.value ∙ c.in_ok-kept.ensures.whole stamps (ap (broken_journal stamps batch 0) c.journals.ensures ∙ none) ∙ c.journals.ensures in
     let run = run_told plan contexts told in
     let runs = c.in_ok-runs-in-None.runs.items in
-    let are = subst (λ (js : List (List Mark)). AreRuns plan contexts js runs) c.journals-in-None.ensures c.in_ok-runs-in-None.ensures.runs in
+    let are = subst (λ (js : List (List Mark)). AreRuns plan contexts js runs) same c.in_ok-runs-in-None.ensures.runs in
     let legal = legal_at plan contexts told.journals stamps c.requires.within none c.requires.contexts_size in
     IfOk-weaker c.wrong_line.result _ _
     (λ verdict judged.
-    found_late plan contexts told c.journals.result.now c.journals.ensures c.in_ok-wrong.field-0 c.in_ok-wrong.ensures.verdict verdict c.in-None.is
+    found_late plan contexts told c.as_slice-journals.result.now broken
+    (λ none. c.as_slice-journals.ensures.value ∙ c.in_ok-kept.ensures.whole stamps (ap (broken_journal stamps batch 0) c.journals.ensures ∙ none) ∙ c.journals.ensures)
+    c.in_ok-wrong.field-0 c.in_ok-wrong.ensures.verdict verdict c.in-None.is
     (judged run refl (sym c.in_ok-runs-in-None.ensures.kept) refl
     (subst (AreRepliesOf run) (sym c.deref.ensures.value) (are_replies run runs are legal))
     (subst (AreNumbersOf run) (sym c.deref.ensures.value) (are_numbers run runs are legal)) legal))
