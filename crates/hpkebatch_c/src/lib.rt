@@ -11,10 +11,12 @@
 //! time on one context.
 #![tactic(auto)]
 
+mod batch;
 mod ciphers;
 mod contexts;
 mod exchanges;
 mod kem;
+mod outputs;
 mod setups;
 mod statuses;
 
