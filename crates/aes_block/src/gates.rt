@@ -1,9 +1,9 @@
 //! The S-box by a circuit (Boyar and Peralta's of 115 gates), on eight states at once.
 //!
 //! The plain form is SubBytes (FIPS 197, 5.1.1) of each state, a table of 256 entries read at each
-//! byte. Here lane p of register j holds bit j of byte p of eight states, that of state i as its bit
-//! i, and each gate is one operation on whole registers. So no address and no branch depends on a
-//! byte. The circuit inverts in the field as a square of a smaller field: `outer_sums` goes over to
+//! byte. Here a lane of register j holds bit j of one byte of each of eight states, that of state i
+//! as its bit i, and each gate is one operation on whole registers. So no address and no branch
+//! depends on a byte. The circuit inverts in the field as a square of a smaller field: `outer_sums` goes over to
 //! it, `inner_sums`, `inner_inverse` and `inner_products` invert there, and `last_sums` comes back,
 //! with the affine map. It is equal since a gate acts on each bit alone: one run of the same circuit
 //! on numbers of 256 bits, bit v for the byte v, computes the S-box of all bytes, and the check runs

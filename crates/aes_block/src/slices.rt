@@ -1,15 +1,15 @@
 //! Blocks and round keys by bits, and back.
 //!
-//! Eight blocks are eight registers of 16 bytes. Turned, lane p of register j holds bit j of byte p of
-//! each block: the eight bytes that stand in a lane are a square of 8 by 8 bits, and turning
-//! transposes it. The plain form gathers 64 bits a lane. Here three steps do it for all lanes at once:
-//! for n = 1, 2 and 4 the registers whose numbers differ in the bit n exchange the bits whose places
-//! differ in it. Bit i of register k so goes to the place that has the bit n of the two numbers
-//! exchanged, and after all three to bit k of register i (`turned_all` of `proofs/Turning.antt`).
+//! Eight blocks are eight registers of 16 bytes. The bytes of a block go by the columns of a square; in
+//! a register they go by its rows, so that what moves along the columns is whole rows. A block is
+//! transposed before, and after.
 //!
-//! The lanes go by the rows of a block's square of bytes, and its bytes by the columns. So a block is
-//! transposed before, and after: each row stands together, and the rounds' moves along the columns
-//! are moves of whole rows.
+//! Turned, lane p of register j holds bit j of the byte in lane p of each block: the eight bytes that
+//! stand in a lane are a square of 8 by 8 bits, and turning transposes it. The plain form gathers 64
+//! bits a lane. Here three steps do it for all lanes at once: for n = 1, 2 and 4 the registers whose
+//! numbers differ in the bit n exchange the bits whose places differ in it. Bit i of register k so goes
+//! to the place that has the bit n of the two numbers exchanged, and after all three to bit k of
+//! register i (`turned_all` of `proofs/Turning.antt`).
 //!
 //! A round key is the same for all blocks, so each of its lanes has all bits set or none.
 
