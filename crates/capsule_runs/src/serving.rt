@@ -1,8 +1,9 @@
 //! A plan of capsules, served whole.
 
-ghost use Rattle.std.specs.Prelude.{IfOk};
+ghost use Rattle.std.specs.Prelude.{◌≡◌, IfOk};
 ghost use Rattle.capsule_frames.specs.Within.{IsWithin};
-ghost use Rattle.capsule_runs.specs.Replies.{AreReplies};
+ghost use Rattle.context_table.specs.Slots.{HoldKeys};
+ghost use Rattle.capsule_runs.specs.Replies.{AreReplies, due_replies};
 
 use crate::answers::all_answers;
 use crate::asks::all_asks;
@@ -10,7 +11,7 @@ use crate::merging::merged;
 use crate::takes::all_takes;
 use batch_plans::{KeyReplies, PlainList};
 use capsule_frames::{CapsulePlan, CapsuleReply};
-use context_table::key_table;
+use context_table::{KeyTable, key_table};
 use ring_core::Multiplier;
 use std::alloc::{AllocError as OutOfMemory, Global};
 use std::thread::Threads;
@@ -43,12 +44,28 @@ pub fn serve_capsules<R: Threads + Sync, M: Multiplier + Sync>(
     ensures { IfOk result (λ a. AreReplies plan.now a.keys a.replies) }
 {
     let keys = key_table(alloc, &plan.plan, mult)?;
-    let asks = all_asks(alloc, plan, mult, &keys)?;
-    let answers = all_answers(rt, alloc, plan, mult, &keys, &asks)?;
-    let takes = all_takes(rt, alloc, plan, &asks, &answers)?;
-    let replies = merged(alloc, plan.lines.as_slice(), asks, answers, takes)?;
+    let replies = replies_with(rt, alloc, plan, mult, &keys)?;
     Ok(CapsuleAnswers {
         keys: keys.replies,
         replies: PlainList::from_vec(replies),
     })
+}
+
+// The replies to the capsule lines of a plan, by its keys.
+fn replies_with<R: Threads + Sync, M: Multiplier + Sync>(
+    rt: &R,
+    alloc: Global,
+    plan: &CapsulePlan,
+    mult: &M,
+    keys: &KeyTable,
+) -> Result<Vec<CapsuleReply>, OutOfMemory>
+    requires within { IsWithin plan.now }
+    requires keys { HoldKeys plan.now.plan keys.now.replies keys.now.slots }
+    ensures { IfOk result (λ v. v.items ≡ due_replies plan.now keys.now.replies) }
+{
+    let asks = all_asks(alloc, plan, mult, keys)?;
+    let answers = all_answers(rt, alloc, plan, mult, keys, &asks)?;
+    let takes = all_takes(rt, alloc, plan, &asks, &answers)?;
+    let replies = merged(alloc, plan.lines.as_slice(), asks, answers, takes)?;
+    Ok(replies)
 }

@@ -1,3 +1,4 @@
+use Rattle.std.proofs.lemmas.Grind.{common_steps}
 use Rattle.std.proofs.Common.{ap, arith}
 use Rattle.capsule_frames.specs.declared.words.CapsuleWord.TheVariants.{Ask}
 use Rattle.capsule_frames.specs.Capsules.{count_of}
@@ -9,3 +10,6 @@ sent-requires-clause-number g c =
     let most = c.requires.within.kinds Ask in
     let made = c.lines.invariant.count in
     omega (arith, same, most, made, c.len-number.ensures)
+
+pub lines-preserved : goal.lines-preserved
+lines-preserved g c = grind (arith, common_steps)
