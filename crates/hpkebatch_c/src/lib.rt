@@ -15,6 +15,7 @@ mod ciphers;
 mod contexts;
 mod exchanges;
 mod kem;
+mod messages;
 mod setups;
 mod statuses;
 
