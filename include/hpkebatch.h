@@ -158,6 +158,25 @@ uint32_t hpkebatch_context_open(hpkebatch_context *context, const uint8_t *aad, 
 uint32_t hpkebatch_context_export(const hpkebatch_context *context, const uint8_t *exporter_context,
                                   size_t exporter_context_len, uint8_t *out, size_t out_len);
 
+/* ---- many messages of a context in one call: all of them, or none */
+
+/* A byte string: where it begins, and its size. */
+typedef struct hpkebatch_bytes {
+    const uint8_t *at;
+    size_t size;
+} hpkebatch_bytes;
+
+/* Reads a sender's context, and as many additional data as texts; writes the ciphertexts, each with its tag, one behind
+ * another to out, which has 16 bytes for each text more than the texts have, and moves number on by texts_len. */
+uint32_t hpkebatch_context_seal_all(hpkebatch_context *context, const hpkebatch_bytes *aads, size_t aads_len,
+                                    const hpkebatch_bytes *texts, size_t texts_len, uint8_t *out, size_t out_len);
+
+/* Reads a recipient's context, and as many additional data as ciphertexts with their tags; writes the texts one behind
+ * another to out, which has 16 bytes for each ciphertext fewer than those have, and moves number on by cts_len, if all
+ * tags hold at the numbers from number on. HPKEBATCH_LIMIT is tested before the tags. */
+uint32_t hpkebatch_context_open_all(hpkebatch_context *context, const hpkebatch_bytes *aads, size_t aads_len,
+                                    const hpkebatch_bytes *cts, size_t cts_len, uint8_t *out, size_t out_len);
+
 /* The struct is laid out as the library has it. */
 #if defined(__cplusplus) && __cplusplus >= 201103L
 static_assert(sizeof(hpkebatch_context) == 136, "hpkebatch_context has 136 bytes");

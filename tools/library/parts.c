@@ -169,6 +169,51 @@ static void test_messages(void)
     CHECK(hpkebatch_context_seal(&sender, NONE, text, 29, out, 45) == HPKEBATCH_WRONG_USAGE);
 }
 
+/* The same messages in one call, and each refusal of such a call. */
+static void test_many(void)
+{
+    hpkebatch_context sender, recipient, kept;
+    uint8_t text[29], out[90], opened[58], before[90];
+    bytes_of(text_hex, text);
+    hpkebatch_bytes aads[2] = {{TEXT("Count-0")}, {TEXT("Count-1")}}, texts[2] = {{text, 29}, {text, 29}};
+    hpkebatch_bytes ends[2] = {{out, 45}, {out + 45, 45}};
+    CHECK(context_a_1_1(&sender, HPKEBATCH_SENDER, 2) == HPKEBATCH_DONE);
+    CHECK(context_a_1_1(&recipient, HPKEBATCH_RECIPIENT, 2) == HPKEBATCH_DONE);
+    CHECK(hpkebatch_context_seal_all(&sender, aads, 2, texts, 2, out, 90) == HPKEBATCH_DONE);
+    CHECK(is_hex(out, cts[0]) && is_hex(out + 45, cts[1]) && sender.number == 2);
+
+    memset(opened, 7, sizeof opened);
+    kept = recipient;
+    out[89] ^= 1;
+    CHECK(hpkebatch_context_open_all(&recipient, aads, 2, ends, 2, opened, 58) == HPKEBATCH_FAILED);
+    out[89] ^= 1;
+    CHECK(hpkebatch_context_open_all(&recipient, aads, 2, ends, 2, opened, 57) == HPKEBATCH_WRONG_USAGE);
+    CHECK(hpkebatch_context_open_all(&recipient, aads, 1, ends, 2, opened, 58) == HPKEBATCH_WRONG_USAGE);
+    CHECK(hpkebatch_context_open_all(&sender, aads, 2, ends, 2, opened, 58) == HPKEBATCH_ROLE);
+    ends[1].size = 15;
+    CHECK(hpkebatch_context_open_all(&recipient, aads, 2, ends, 2, opened, 29) == HPKEBATCH_WRONG_USAGE);
+    ends[1].size = 45;
+    CHECK(memcmp(&recipient, &kept, sizeof kept) == 0);
+    CHECK(opened[0] == 7 && opened[57] == 7);
+    CHECK(hpkebatch_context_open_all(&recipient, aads, 2, ends, 2, opened, 58) == HPKEBATCH_DONE);
+    CHECK(memcmp(opened, text, 29) == 0 && memcmp(opened + 29, text, 29) == 0 && recipient.number == 2);
+    CHECK(hpkebatch_context_open_all(&recipient, aads, 0, ends, 0, opened, 0) == HPKEBATCH_DONE);
+    CHECK(hpkebatch_context_open_all(&recipient, aads, 2, ends, 2, opened, 58) == HPKEBATCH_LIMIT);
+
+    /* One number is left, and two messages want one each. */
+    CHECK(context_a_1_1(&sender, HPKEBATCH_SENDER, 2) == HPKEBATCH_DONE);
+    CHECK(hpkebatch_context_seal(&sender, TEXT("Count-0"), text, 29, out, 45) == HPKEBATCH_DONE);
+    kept = sender;
+    memcpy(before, out, sizeof out);
+    CHECK(hpkebatch_context_seal_all(&sender, aads, 2, texts, 2, out, 90) == HPKEBATCH_LIMIT);
+    CHECK(hpkebatch_context_seal_all(&sender, aads, 2, texts, 2, out, 89) == HPKEBATCH_WRONG_USAGE);
+    CHECK(hpkebatch_context_seal_all(&sender, aads, 2, texts, 1, out, 45) == HPKEBATCH_WRONG_USAGE);
+    CHECK(hpkebatch_context_seal_all(&recipient, aads, 2, texts, 2, out, 90) == HPKEBATCH_ROLE);
+    CHECK(memcmp(&sender, &kept, sizeof kept) == 0 && memcmp(out, before, sizeof out) == 0);
+    CHECK(hpkebatch_context_seal_all(&sender, aads + 1, 1, texts, 1, out, 45) == HPKEBATCH_DONE);
+    CHECK(is_hex(out, cts[1]) && sender.number == 2);
+}
+
 /* RFC 9180, A.1.1.2, each with L = 32; and the most bytes of an export, and one more (RFC 9180, 5.3). */
 static void test_exports(void)
 {
@@ -197,6 +242,7 @@ int main(void)
     test_ciphers();
     test_schedule();
     test_messages();
+    test_many();
     test_exports();
     return told("parts");
 }

@@ -39,6 +39,16 @@ static void seal_1024(void)
     CHECK(hpkebatch_context_seal(&sender, text, 0, text, 1024, ct, 1040) == HPKEBATCH_DONE);
 }
 
+#define MANY 1000
+
+static hpkebatch_bytes aads[MANY], texts[MANY];
+static uint8_t cts[MANY * 80];
+
+static void seal_all_64(void)
+{
+    CHECK(hpkebatch_context_seal_all(&sender, aads, MANY, texts, MANY, cts, sizeof cts) == HPKEBATCH_DONE);
+}
+
 static void print_time(const char *what, void (*call)(void), int times)
 {
     double least = 1e12;
@@ -61,6 +71,11 @@ int main(void)
     print_time("sntrup761 decap", decap, 20);
     CHECK(hpkebatch_context_shared(&sender, 0, 0, 0xf761, 1, 1, UINT64_MAX, session, 32, none, 0, none, 0, none, 0) == 0);
     print_time("seal of 64 bytes", seal_64, 1000);
+    for (int i = 0; i < MANY; i++) {
+        aads[i] = (hpkebatch_bytes){text, 0};
+        texts[i] = (hpkebatch_bytes){text, 64};
+    }
+    print_time("1,000 such in one call", seal_all_64, 1);
     print_time("seal of 1,024 bytes", seal_1024, 1000);
     return faults != 0;
 }

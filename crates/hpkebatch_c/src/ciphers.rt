@@ -10,10 +10,10 @@ use aes_gcm::{Checks, GcmKey, MayCheck};
 use std::rt::Memory;
 
 /// The most bytes of a text.
-const MOST_TEXT: usize = 68_719_476_704;
+pub(crate) const MOST_TEXT: usize = 68_719_476_704;
 
 /// The most bytes of additional data, and one more.
-const AAD_END: usize = 2_305_843_009_213_693_952;
+pub(crate) const AAD_END: usize = 2_305_843_009_213_693_952;
 
 /// The key of 16 or 32 bytes. It has tables of 9 KiB: kept by itself, so that no caller's frame has room
 /// for what it moves.

@@ -16,6 +16,7 @@ mod ciphers;
 mod contexts;
 mod exchanges;
 mod kem;
+mod messages;
 mod outputs;
 mod setups;
 mod statuses;
