@@ -1,4 +1,5 @@
-use Rattle.std.proofs.Common.{◌≡◌, Bor, Some, refl, sym, ap, ◌∙◌, subst}
+use Rattle.std.proofs.Common.{◌≡◌, Bor, Some, refl, sym, ap, ◌∙◌, subst, arith}
+use Rattle.std.proofs.lemmas.Grind.{elements}
 use Rattle.due_replies.specs.Live.{Noting}
 use Rattle.lane_workers.specs.LiveLanes.{lives}
 use Rattle.stamp_counter.specs.Seats.{CounterView, SeatView}
@@ -28,6 +29,9 @@ note-live-requires-clause-may g c =
     may_note v c.args.lane.now.work.lane c.args.call c.requires.0 t.at c.args.lane.now t.is_at t.shared
     t.there (record { act = c.args.act; name = c.args.name }) c.requires.2 c.unwrap-pass.result c.unwrap-seat.result
     (sym c.take.ensures.value ∙ c.unwrap-pass.ensures) (sym c.take-2.ensures.value ∙ c.unwrap-seat.ensures)
+
+pub note-live-requires-clause-name : goal.note-live-requires-clause-name
+note-live-requires-clause-name g c = grind (arith, elements)
 
 pub note-live-requires-clause-counter : goal.note-live-requires-clause-counter
 note-live-requires-clause-counter g c =
