@@ -18,8 +18,7 @@ use context_books::Draw;
 use due_replies::{refusal_of, standing};
 use hpke_context::Context;
 use lane_replies::{export, finish_opening, finish_seal, items_of_opening, refuse};
-use speculative_open::GuessTable;
-use std::thread::Threads;
+use speculative_open::{Crew, GuessTable};
 
 /// How far a lane is with its next call.
 #[derive(Clone, Copy)]
@@ -61,23 +60,24 @@ fn keep_guess(progress: &mut LaneProgress, call: &CallLine, batch: Batch)
 
 impl Lane {
     /// Does the next step of a call of this lane.
-    pub(crate) fn step<R: Threads + Sync>(
+    pub(crate) fn step<C: Crew>(
         &mut self,
-        rt: &R,
+        crew: &C,
         plan: &Plan,
         contexts: &[Option<Context>],
         books: &mut Books,
         lane: u32,
         call: &CallLine,
     )
-        requires { MayStep plan.now contexts.now lane self.old books.old call.now }
+        requires ready { C.ready crew.now }
+        requires may { MayStep plan.now contexts.now lane self.old books.old call.now }
         ensures { Steps plan.now contexts.now lane call.now self.old self.new books.old
             books.new }
     {
         match self.stage {
             Stage::Fresh => self.begin(plan, contexts, books, lane, call),
             Stage::Drawn(drawn) => self.finish_seal(plan, contexts, call, drawn),
-            Stage::Guessed(guess) => self.test(rt, plan, contexts, call, guess),
+            Stage::Guessed(guess) => self.test(crew, plan, contexts, call, guess),
             Stage::Tested => self.commit(plan, contexts, books, lane, call),
             Stage::Settled { first, missed } => {
                 self.finish_opening(plan, contexts, call, first, missed);
@@ -160,14 +160,15 @@ impl Lane {
     }
 
     // Check: tests the tags of an opening around the guess.
-    fn test<R: Threads + Sync>(
+    fn test<C: Crew>(
         &mut self,
-        rt: &R,
+        crew: &C,
         plan: &Plan,
         contexts: &[Option<Context>],
         call: &CallLine,
         guess: u64,
     )
+        requires ready { C.ready crew.now }
         requires stage { self.old.stage ≡ Stage.Guessed guess }
         requires may { (lane : ℕ) × (books : Books)
             × MayStep plan.now contexts.now lane self.old books call.now }
@@ -182,8 +183,8 @@ impl Lane {
             unreachable!()
         };
         let pool = plan.pool.as_slice();
-        self.table
-            .fill(rt, key, base_nonce, guess, context.limit(), pool, items);
+        let limit = context.limit();
+        crew.fill(&mut self.table, key, base_nonce, guess, limit, pool, items);
         self.stage = Stage::Tested;
     }
 

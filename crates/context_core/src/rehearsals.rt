@@ -20,6 +20,7 @@ use aes_gcm::Checks;
 use batch_plans::{Answers, LaneAnswerList, LaneAnswers, LaneProgress, Plan};
 use hpke_context::Context;
 use lane_quotas::write_journals;
+use speculative_open::{Crew, OnThreads};
 use std::alloc::{AllocError, Global};
 use std::mem;
 use std::thread::Threads;
@@ -33,13 +34,8 @@ struct Rehearsal {
 
 impl Rehearsal {
     // An event: a lane does its next step. One at its end, or that isn't there, does nothing.
-    fn event<R: Threads + Sync>(
-        &mut self,
-        rt: &R,
-        plan: &Plan,
-        contexts: &[Option<Context>],
-        number: u8,
-    )
+    fn event<C: Crew>(&mut self, crew: &C, plan: &Plan, contexts: &[Option<Context>], number: u8)
+        requires ready { C.ready crew.now }
         requires within { IsWithinLimits plan.now }
         requires standing { AreOfLines plan.now.contexts contexts.now }
         requires follows { (w : Core)
@@ -57,18 +53,26 @@ impl Rehearsal {
         let calls = &plan.lanes.as_slice()[i];
         let lane = &mut self.lanes[i];
         if let Some(call) = calls.as_slice().get(lane.call) {
-            lane.step(rt, plan, contexts, &mut self.books, u32::from(number), call);
+            lane.step(
+                crew,
+                plan,
+                contexts,
+                &mut self.books,
+                u32::from(number),
+                call,
+            );
         }
     }
 
     // The events of a schedule.
-    fn follow<R: Threads + Sync>(
+    fn follow<C: Crew>(
         &mut self,
-        rt: &R,
+        crew: &C,
         plan: &Plan,
         contexts: &[Option<Context>],
         schedule: &[u8],
     )
+        requires ready { C.ready crew.now }
         requires within { IsWithinLimits plan.now }
         requires standing { AreOfLines plan.now.contexts contexts.now }
         requires follows { (w : Core)
@@ -79,18 +83,13 @@ impl Rehearsal {
             (cipher_at contexts.now) w schedule.now) self.new.lanes.items self.new.books }
     {
         'events: for number in schedule {
-            self.event(rt, plan, contexts, *number);
+            self.event(crew, plan, contexts, *number);
         }
     }
 
     // A lane goes on to its end: no call has more than four steps.
-    fn end<R: Threads + Sync>(
-        &mut self,
-        rt: &R,
-        plan: &Plan,
-        contexts: &[Option<Context>],
-        number: u8,
-    )
+    fn end<C: Crew>(&mut self, crew: &C, plan: &Plan, contexts: &[Option<Context>], number: u8)
+        requires ready { C.ready crew.now }
         requires within { IsWithinLimits plan.now }
         requires standing { AreOfLines plan.now.contexts contexts.now }
         requires there { number < length plan.now.lanes }
@@ -105,15 +104,16 @@ impl Rehearsal {
     {
         let calls = plan.lanes.as_slice()[number as usize].as_slice().len();
         'calls: for _call in 0..calls {
-            self.event(rt, plan, contexts, number);
-            self.event(rt, plan, contexts, number);
-            self.event(rt, plan, contexts, number);
-            self.event(rt, plan, contexts, number);
+            self.event(crew, plan, contexts, number);
+            self.event(crew, plan, contexts, number);
+            self.event(crew, plan, contexts, number);
+            self.event(crew, plan, contexts, number);
         }
     }
 
     // Each lane goes on to its end, one after another.
-    fn end_all<R: Threads + Sync>(&mut self, rt: &R, plan: &Plan, contexts: &[Option<Context>])
+    fn end_all<C: Crew>(&mut self, crew: &C, plan: &Plan, contexts: &[Option<Context>])
+        requires ready { C.ready crew.now }
         requires within { IsWithinLimits plan.now }
         requires standing { AreOfLines plan.now.contexts contexts.now }
         requires follows { (w : Core)
@@ -125,18 +125,13 @@ impl Rehearsal {
             self.new.lanes.items self.new.books }
     {
         'lanes: for number in 0..plan.lanes.as_slice().len() {
-            self.end(rt, plan, contexts, number as u8);
+            self.end(crew, plan, contexts, number as u8);
         }
     }
 
     // All events: those of the schedule, and then those of each lane up to its end.
-    fn run<R: Threads + Sync>(
-        &mut self,
-        rt: &R,
-        plan: &Plan,
-        contexts: &[Option<Context>],
-        schedule: &[u8],
-    )
+    fn run<C: Crew>(&mut self, crew: &C, plan: &Plan, contexts: &[Option<Context>], schedule: &[u8])
+        requires ready { C.ready crew.now }
         requires within { IsWithinLimits plan.now }
         requires standing { AreOfLines plan.now.contexts contexts.now }
         requires begun { IsRehearsal plan.now contexts.now
@@ -145,8 +140,8 @@ impl Rehearsal {
             (core (batch_of plan.now contexts.now) (cipher_at contexts.now) schedule.now)
             self.new.lanes.items self.new.books }
     {
-        self.follow(rt, plan, contexts, schedule);
-        self.end_all(rt, plan, contexts);
+        self.follow(crew, plan, contexts, schedule);
+        self.end_all(crew, plan, contexts);
     }
 }
 
@@ -166,8 +161,8 @@ fn hand_out(alloc: Global, answers: &mut [LaneAnswers], lanes: &mut [Lane])
 }
 
 // The books and the lanes of a plan before the first step. The lanes get their answers.
-fn begun<R: Threads + Sync>(
-    rt: &R,
+fn begun<C: Crew>(
+    crew: &C,
     alloc: Global,
     plan: &Plan,
     contexts: &[Option<Context>],
@@ -185,7 +180,7 @@ fn begun<R: Threads + Sync>(
     let books = Books {
         books: books(alloc, plan, contexts)?,
         places: 0,
-        checks: Checks::new(rt),
+        checks: Checks::by(crew.permission()),
     };
     let mut lanes = lanes(alloc, plan)?;
     hand_out(alloc, answers.as_mut_slice(), lanes.as_mut_slice());
@@ -207,16 +202,50 @@ fn take_back(alloc: Global, lanes: &mut [Lane], answers: &mut [LaneAnswers])
     }
 }
 
-/// Serves the lanes of a plan on one thread but for the tests of tags, and fills the answers that were made for the plan and
-/// these contexts.
+/// Serves the lanes of a plan on one thread but for the tests of tags, which are the crew's, and fills
+/// the answers that were made for the plan and these contexts.
 ///
 /// Each number of the schedule is that of a lane, which does its next step; one at its end, or that
 /// isn't there, does nothing. Then lane 0 goes on to its end, then lane 1, and so on. The steps of a
 /// call are those of core_schedules: Finish for a call that is refused and for an export; Draw and
 /// Finish for a seal; Guess, Check, Commit and Finish for an opening.
 ///
-/// All memory is taken before the first step. The tags of a large opening are tested ahead by several
-/// threads, which are joined in the same step.
+/// All memory is taken before the first step.
+pub fn rehearse_by<C: Crew>(
+    crew: &C,
+    alloc: Global,
+    plan: &Plan,
+    contexts: &[Option<Context>],
+    schedule: &[u8],
+    answers: &mut Answers,
+) -> Result<(), AllocError>
+    requires ready { C.ready crew.now }
+    requires within { IsWithinLimits plan.now }
+    requires standing { AreOfLines plan.now.contexts contexts.now }
+    requires room { answers.old ≡ room_for plan.now answers.old.keys answers.old.contexts
+        (export_limits contexts.now) }
+    requires replies { (length answers.old.keys ≡ length plan.now.keys)
+        × (length answers.old.contexts ≡ length plan.now.contexts) }
+    ensures answered { OnOk result (AreAnswersOf (rehearsed plan.now contexts.now schedule.now)
+        answers.new) }
+    ensures set_up { OnOk result ((answers.new.keys ≡ answers.old.keys)
+        × (answers.new.contexts ≡ answers.old.contexts)) }
+    ensures printable { OnOk result (IsAnswered plan.now answers.new) }
+    ensures kept { OnErr result (answers.new ≡ answers.old) }
+{
+    let mut rehearsal = begun(crew, alloc, plan, contexts, &mut answers.lanes)?;
+    rehearsal.run(crew, plan, contexts, schedule);
+    take_back(
+        alloc,
+        rehearsal.lanes.as_mut_slice(),
+        answers.lanes.as_mut_slice(),
+    );
+    write_journals(&rehearsal.books.books, answers.journals.as_mut_slice());
+    Ok(())
+}
+
+/// Serves the lanes of a plan as [`rehearse_by`] does. The tags of a large opening are tested ahead by
+/// several threads, which are joined in the same step.
 pub fn rehearse<R: Threads + Sync>(
     rt: &R,
     alloc: Global,
@@ -238,13 +267,12 @@ pub fn rehearse<R: Threads + Sync>(
     ensures printable { OnOk result (IsAnswered plan.now answers.new) }
     ensures kept { OnErr result (answers.new ≡ answers.old) }
 {
-    let mut rehearsal = begun(rt, alloc, plan, contexts, &mut answers.lanes)?;
-    rehearsal.run(rt, plan, contexts, schedule);
-    take_back(
+    rehearse_by(
+        &OnThreads::new(rt),
         alloc,
-        rehearsal.lanes.as_mut_slice(),
-        answers.lanes.as_mut_slice(),
-    );
-    write_journals(&rehearsal.books.books, answers.journals.as_mut_slice());
-    Ok(())
+        plan,
+        contexts,
+        schedule,
+        answers,
+    )
 }

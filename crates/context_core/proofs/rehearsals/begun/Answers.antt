@@ -39,9 +39,9 @@ returns-clause-begun g c =
     take-append-le vec.len given (drop (length given) vec.items) (omega arith)
     ∙ take_all vec.len given (omega arith) in
     begun_follows c.args.plan.now c.args.contexts.now c.requires.within c.requires.standing
-    (record { books = c.in_ok-books.field-0; places = 0; checks = c.new.result })
+    (record { books = c.in_ok-books.field-0; places = 0; checks = c.by.result })
     vec.items (take vec.len (given ++ drop (length given) vec.items)) c.as_mut_slice.result.now
-    c.in_ok-books.ensures refl (omega (arith, c.new.ensures)) c.in_ok-lanes.ensures.count
+    c.in_ok-books.ensures refl (omega (arith, c.by.ensures)) c.in_ok-lanes.ensures.count
     c.in_ok-lanes.ensures.fresh (c.as_mut_slice.ensures.items ∙ c.requires.room)
     (ap length given_is ∙ given_count)
     (λ l lane one low. ap (λ (xs : List Lane). get_or xs l lane) given_is

@@ -11,13 +11,13 @@ use Rattle.context_core.specs.Books.{book_at}
 use Rattle.lane_quotas.specs.Journals.{written, HasRoom}
 use Rattle.context_core.specs.Preparing.{answers_of, IsEnded}
 use Rattle.context_core.proofs.Ended.{refill_is, ended, lines_are, has_room, journals_are, lane_count, journals_count}
-use Rattle.context_core.proofs.rehearsals.rehearse.Goals as goal
+use Rattle.context_core.proofs.rehearsals.rehearse_by.Goals as goal
 
 pub begun-requires-clause-room : goal.begun-requires-clause-room
-begun-requires-clause-room g c = λ κs le. ap (λ (a : Answers). a.lanes) c.requires.room
+begun-requires-clause-room g c = ap (λ (a : Answers). a.lanes) c.requires.room
 
 pub run-requires-clause-begun : goal.run-requires-clause-begun
-run-requires-clause-begun g c = λ κs le. c.in_ok-rehearsal.ensures.begun
+run-requires-clause-begun g c = c.in_ok-rehearsal.ensures.begun
 
 pub take_back-requires-clause-count : goal.take_back-requires-clause-count
 take_back-requires-clause-count g c =

@@ -20,7 +20,7 @@ items_of_opening-items-requires g c =
     m.call_is
 
 pub fill-requires-clause-room : goal.fill-requires-clause-room
-fill-requires-clause-room g c = λ κs le.
+fill-requires-clause-room g c =
     let m = c.requires.may.2 in
     let plan = c.args.plan.now in
     let l = c.requires.may.0 in
@@ -35,7 +35,7 @@ fill-requires-clause-room g c = λ κs le.
     omega (arith, ap length c.items_of_opening-items.ensures, count, most)
 
 pub fill-requires-clause-spans : goal.fill-requires-clause-spans
-fill-requires-clause-spans g c = λ κs le.
+fill-requires-clause-spans g c =
     let m = c.requires.may.2 in
     let plan = c.args.plan.now in
     let fits = line_within plan c.requires.may.0 c.args.self.now.call c.args.call.now m.within m.there
@@ -56,7 +56,7 @@ returns g c = λ l books w at there t.
     let view = c.in-Some.context.now in
     let opens = guessed_opens plan contexts m.within m.standing l lane books call at there w t
     c.args.guess c.requires.stage in
-    let table = c.fill.new.self in
+    let table = c.fill.new.table in
     let key = c.in-Some-Some.key.now in
     let nonce = c.in-Some-Some.base_nonce.now in
     let pool = c.as_slice-pool.result.now in
@@ -73,4 +73,4 @@ returns g c = λ l books w at there t.
     opens.free view (ap (λ n. standing_at contexts n) (sym c.context_of.ensures) ∙ c.in-Some.ensures)
     (record lane { stage = Tested; table = table }) c.args.guess c.requires.stage refl refl refl
     c.fill.ensures.room refl c.fill.ensures.guess
-    (record { limit = c.fill.ensures.limit ∙ c.limit.ensures.limit; fits = fits })
+    (record { limit = c.fill.ensures.limit ∙ c.limit-limit.ensures.limit; fits = fits })

@@ -7,7 +7,7 @@ use Rattle.context_core.proofs.Events.{four_more}
 use Rattle.context_core.proofs.rehearsals.Rehearsal.end.Goals as goal
 
 pub event-requires-clause-follows : goal.event-requires-clause-follows
-event-requires-clause-follows g c = λ κs le.
+event-requires-clause-follows g c =
     let batch = batch_of c.args.plan.now c.args.contexts.now in
     let w = c.requires.follows.0 in (
       all_happen batch (cipher_at c.args.contexts.now) w
@@ -16,7 +16,7 @@ event-requires-clause-follows g c = λ κs le.
     )
 
 pub event-requires-in-calls-clause-follows : goal.event-requires-in-calls-clause-follows
-event-requires-in-calls-clause-follows g c = λ κs le.
+event-requires-in-calls-clause-follows g c =
     let batch = batch_of c.args.plan.now c.args.contexts.now in
     let ciphers = cipher_at c.args.contexts.now in
     let w = c.requires.follows.0 in
@@ -26,7 +26,7 @@ event-requires-in-calls-clause-follows g c = λ κs le.
     )
 
 pub event-requires-in-calls-2-clause-follows : goal.event-requires-in-calls-2-clause-follows
-event-requires-in-calls-2-clause-follows g c = λ κs le.
+event-requires-in-calls-2-clause-follows g c =
     let batch = batch_of c.args.plan.now c.args.contexts.now in
     let ciphers = cipher_at c.args.contexts.now in
     let w = c.requires.follows.0 in
@@ -38,7 +38,7 @@ event-requires-in-calls-2-clause-follows g c = λ κs le.
     )
 
 pub event-requires-in-calls-3-clause-follows : goal.event-requires-in-calls-3-clause-follows
-event-requires-in-calls-3-clause-follows g c = λ κs le.
+event-requires-in-calls-3-clause-follows g c =
     let batch = batch_of c.args.plan.now c.args.contexts.now in
     let ciphers = cipher_at c.args.contexts.now in
     let w = c.requires.follows.0 in

@@ -8,7 +8,7 @@ use Rattle.context_core.proofs.Events.{one_lane_more}
 use Rattle.context_core.proofs.rehearsals.Rehearsal.end_all.Goals as goal
 
 pub end-requires-clause-follows : goal.end-requires-clause-follows
-end-requires-clause-follows g c = λ κs le.
+end-requires-clause-follows g c =
     let plan = c.args.plan.now in
     let follows = c.requires.follows in (
       all_happen (batch_of plan c.args.contexts.now) (cipher_at c.args.contexts.now) follows.0

@@ -25,8 +25,8 @@ returns-then-i-len g c = λ w t.
     subst (λ (v : Core). IsRehearsal plan contexts v lanes books)
     (sym (not_there_event plan contexts w lanes books c.args.number t past)) t
 
-pub step-requires-after_bounds : goal.step-requires-after_bounds
-step-requires-after_bounds g c κs within =
+pub step-requires-clause-may : goal.step-requires-clause-may
+step-requires-clause-may g c =
     let plan = c.args.plan.now in
     let contexts = c.args.contexts.now in
     let lanes = c.args.self.now.lanes.items in

@@ -8,7 +8,7 @@ use Rattle.context_core.proofs.Events.{one_more}
 use Rattle.context_core.proofs.rehearsals.Rehearsal.follow.Goals as goal
 
 pub event-requires-clause-follows : goal.event-requires-clause-follows
-event-requires-clause-follows g c = λ κs le.
+event-requires-clause-follows g c =
     let follows = c.requires.follows in (
       all_happen (batch_of c.args.plan.now c.args.contexts.now) (cipher_at c.args.contexts.now)
           follows.0 (take c.events.number-index c.args.schedule.now),

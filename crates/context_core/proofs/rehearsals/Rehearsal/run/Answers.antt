@@ -4,11 +4,11 @@ use Rattle.context_core.proofs.Ended.{last_follows}
 use Rattle.context_core.proofs.rehearsals.Rehearsal.run.Goals as goal
 
 pub follow-requires-clause-follows : goal.follow-requires-clause-follows
-follow-requires-clause-follows g c = λ κs le.
+follow-requires-clause-follows g c =
     (start (batch_of c.args.plan.now c.args.contexts.now), c.requires.begun)
 
 pub end_all-requires-clause-follows : goal.end_all-requires-clause-follows
-end_all-requires-clause-follows g c = λ κs le.
+end_all-requires-clause-follows g c =
     let plan = c.args.plan.now in
     let contexts = c.args.contexts.now in
     let first = start (batch_of plan contexts) in (
