@@ -9,6 +9,7 @@ ghost use Rattle.command_tests.specs.Passes.{IsNew};
 use crate::expected::assert_same;
 use call_places::{Entry, Listed, Place, Step};
 use std::alloc::{AllocError as OutOfMemory, Global};
+use std::hint;
 use std::process::Abort;
 use std::sync::Wait;
 use std::test::Fail;
@@ -60,8 +61,15 @@ fn note(log: &mut Log, lane: u32, call: u32)
     let _ = log.list.push(entry);
 }
 
+// Keeps its turn for so many pauses.
+fn pause(pauses: u32) {
+    for _ in 0..pauses {
+        hint::spin_loop();
+    }
+}
+
 // One turn, which adds an entry of this call.
-fn add_one<R: Wait>(rt: &R, lock: &TurnLock<Log>, pass: Pass, call: u32) -> Pass
+fn add_one<R: Wait>(rt: &R, lock: &TurnLock<Log>, pass: Pass, call: u32, pauses: u32) -> Pass
     requires lock { pass.lock ≡ lock.now.lock }
     requires call { (pass.turns < 4294967295) × (pass.next_call ≤ call) × (call < 4294967295) }
     ensures lock { (result.lock ≡ lock.now.lock) × (result.turns ≡ pass.turns + 1)
@@ -70,16 +78,17 @@ fn add_one<R: Wait>(rt: &R, lock: &TurnLock<Log>, pass: Pass, call: u32) -> Pass
     let lane = pass.number();
     let mut held = lock.enter(rt, pass);
     note(held.value(), lane, call);
+    pause(pauses);
     lock.leave(held)
 }
 
-fn add_each<R: Wait>(rt: &R, lock: &TurnLock<Log>, mut pass: Pass, each: u32) -> Pass
+fn add_each<R: Wait>(rt: &R, lock: &TurnLock<Log>, mut pass: Pass, each: u32, pauses: u32) -> Pass
     requires new { IsNew lock.now.lock pass }
     requires each { each < 4294967295 }
     ensures { result.lock ≡ lock.now.lock }
 {
     for call in 0..each {
-        pass = add_one(rt, lock, pass, call);
+        pass = add_one(rt, lock, pass, call, pauses);
     }
     pass
 }
@@ -90,6 +99,7 @@ fn add_all<R: Threads + Wait + Sync>(
     lock: &TurnLock<Log>,
     passes: Vec<Pass>,
     each: u32,
+    pauses: u32,
 ) -> Result<Vec<Pass>, OutOfMemory>
     requires new { All (IsNew lock.now.lock) passes.items }
     requires each { each < 4294967295 }
@@ -101,7 +111,7 @@ fn add_all<R: Threads + Wait + Sync>(
         &|pass: Pass| -> Pass
             requires { IsNew lock.now.lock pass × (each < 4294967295) }
             ensures { result.lock ≡ lock.entry.now.lock }
-        { add_each(rt, lock, pass, each) },
+        { add_each(rt, lock, pass, each, pauses) },
     )
 }
 
@@ -139,6 +149,7 @@ fn filled<R: Threads + Wait + Sync>(
     alloc: Global,
     passes: u32,
     each: u32,
+    pauses: u32,
 ) -> Result<Log, OutOfMemory>
     requires passes { (0 < passes) × (passes < 65536) }
     requires each { each < 4294967295 }
@@ -148,7 +159,7 @@ fn filled<R: Threads + Wait + Sync>(
     };
     let (lock, mut list) = TurnLock::new(alloc, log, passes)?;
     let new = hand_out(alloc, &lock, &mut list)?;
-    let used = add_all(rt, &lock, new, each)?;
+    let used = add_all(rt, &lock, new, each, pauses)?;
     take_back(&lock, &mut list, used);
     Ok(lock.close(list))
 }
@@ -173,12 +184,20 @@ fn assert_in_order(rt: &impl Abort, log: &Log, count: usize) {
 
 #[test]
 fn each_lane_has_its_calls_in_order(rt: HostRuntime) -> Result<(), Fail> {
-    let two = filled(&rt, rt.alloc(), 2, 1000)?;
+    let two = filled(&rt, rt.alloc(), 2, 1000, 0)?;
     assert_in_order(&rt, &two, 2000);
-    let sixteen = filled(&rt, rt.alloc(), 16, 200)?;
+    let sixteen = filled(&rt, rt.alloc(), 16, 200, 0)?;
     assert_in_order(&rt, &sixteen, 3200);
-    let untouched = filled(&rt, rt.alloc(), 3, 0)?;
+    let untouched = filled(&rt, rt.alloc(), 3, 0, 0)?;
     assert_same(&rt, untouched.list.len(), 0, "what was not listed");
+    Ok(())
+}
+
+// Each turn is longer than a pass looks for its own, so those that wait sleep.
+#[test]
+fn those_who_sleep_get_their_turns(rt: HostRuntime) -> Result<(), Fail> {
+    let log = filled(&rt, rt.alloc(), 8, 20, 20_000)?;
+    assert_in_order(&rt, &log, 160);
     Ok(())
 }
 
