@@ -2,7 +2,7 @@
 //! context that the other one retires. The checker computes each row.
 
 ghost use Rattle.std.specs.Prelude.{◌≡◌, ◌∷◌, [], true, false};
-ghost use Rattle.call_places.specs.declared.entries.Act.TheVariants.{Look};
+ghost use Rattle.call_places.specs.declared.entries.Act.TheVariants.{Look, Retire};
 ghost use Rattle.call_places.specs.Notes.{note_entry};
 ghost use Rattle.legal_journals.specs.Batches.{place};
 ghost use Rattle.due_replies.specs.LiveChecks.{is_live_history};
@@ -42,7 +42,7 @@ pub fn rows_of_tables()
         (told (added 0 false ∷ looked 2 true ∷ note_entry (place 1 1 0) 5 0 Look true ∷ [])
         (sealed_and_opened 1 3 4)) ≡ false }
     ensures other_name { is_live_history
-        (told (added 0 false ∷ looked 2 true ∷ note_entry (place 1 1 0) 5 1 Look false ∷ [])
+        (told (added 0 false ∷ looked 2 true ∷ note_entry (place 1 1 0) 5 1 Retire false ∷ [])
         (sealed_and_opened 1 3 4)) ≡ false }
     ensures of_the_seal { is_live_history
         (told (added 0 false ∷ looked 2 true ∷ note_entry (place 1 0 0) 5 0 Look true ∷ [])
