@@ -4,6 +4,7 @@ mod faults;
 mod hostile;
 mod live;
 mod other_runs;
+mod rooms;
 mod runs;
 mod threads;
 

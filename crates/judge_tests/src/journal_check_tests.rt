@@ -2,10 +2,12 @@
 
 mod history_rows;
 mod opening_rows;
+mod order_rows;
 mod rows;
 
 use self::history_rows::{REFUSALS, STAMPS};
 use self::opening_rows::{GUESSES, OPENINGS};
+use self::order_rows::ORDERS;
 use self::rows::{FORMS, Row, SEALS};
 use batch_plans::limits::MOST_INPUT;
 use journal_check::{Verdict, check_result};
@@ -77,6 +79,15 @@ fn each_result_of_refusals_gets_its_verdict(rt: HostRuntime) -> Result<(), Fail>
 #[test]
 fn each_history_gets_its_verdict(rt: HostRuntime) -> Result<(), Fail> {
     for row in &STAMPS {
+        let verdict = verdict_of(&rt, rt.alloc(), row)?;
+        assert!(rt; verdict == Some(row.verdict), "{}", row.source);
+    }
+    Ok(())
+}
+
+#[test]
+fn the_first_thing_that_is_wrong_is_told(rt: HostRuntime) -> Result<(), Fail> {
+    for row in &ORDERS {
         let verdict = verdict_of(&rt, rt.alloc(), row)?;
         assert!(rt; verdict == Some(row.verdict), "{}", row.source);
     }

@@ -21,22 +21,26 @@ const ADDS: &str =
 const ADDED: &str =
     "added\nsealed 0 f938558b5d72f1a23810b4be2ab4f84331acc02fc97babc53a52ae8218a355a96d8770ac83d07bea87e13c512a\n";
 
-// A gate over `ADDS` that holds a lane at its first draw until the other one's `add` is answered, and
-// that one at its own first draw until the lane is held.
+// A gate that holds a lane at a point of a call until the other one's call 1 is answered, and that one
+// at its first draw until the lane is held.
 #[derive(Drop)]
-struct AddGate {
+struct CallGate {
     held: u32,
+    call: u32,
+    point: Point,
     is_held: AtomicBool,
-    is_added: AtomicBool,
+    is_answered: AtomicBool,
     gave_up: AtomicBool,
 }
 
-impl AddGate {
-    fn new(held: u32) -> AddGate {
-        AddGate {
+impl CallGate {
+    fn new(held: u32, call: u32, point: Point) -> CallGate {
+        CallGate {
             held,
+            call,
+            point,
             is_held: AtomicBool::new(false),
-            is_added: AtomicBool::new(false),
+            is_answered: AtomicBool::new(false),
             gave_up: AtomicBool::new(false),
         }
     }
@@ -59,16 +63,18 @@ impl AddGate {
     }
 }
 
-impl Gate for AddGate {
+impl Gate for CallGate {
     fn reached(&self, lane: u32, call: u32, point: Point) {
-        let is_held = lane == self.held;
-        match (call, point) {
-            (0, Point::Drawn) if is_held => {
+        if lane == self.held {
+            if call == self.call && point == self.point {
                 self.is_held.store(true, Ordering::SeqCst);
-                self.wait(&self.is_added);
+                self.wait(&self.is_answered);
             }
+            return;
+        }
+        match (call, point) {
             (0, Point::Drawn) => self.wait(&self.is_held),
-            (1, Point::Answered) if !is_held => self.is_added.store(true, Ordering::SeqCst),
+            (1, Point::Answered) => self.is_answered.store(true, Ordering::SeqCst),
             _ => {}
         }
     }
@@ -80,7 +86,7 @@ impl Gate for AddGate {
 fn a_lane_that_is_held_up_holds_no_add_up(rt: HostRuntime) -> Result<(), Fail> {
     let alloc = rt.alloc();
     for held in 0..2 {
-        let gate = AddGate::new(held);
+        let gate = CallGate::new(held, 0, Point::Drawn);
         let words = ["live", "--workers", "2"];
         let (outcome, sink) = gated_answer_to(&rt, alloc, &words, ADDS, 4096, &gate);
         assert_same(&rt, outcome, Outcome::Done, "outcome");
@@ -90,6 +96,34 @@ fn a_lane_that_is_held_up_holds_no_add_up(rt: HostRuntime) -> Result<(), Fail> {
         let mut numbers = sealed_numbers(alloc, sink.bytes())?;
         numbers.sort_unstable();
         assert!(rt; numbers.iter().copied().eq([0, 0, 0, 1]));
+    }
+    Ok(())
+}
+
+// Lane 0 adds a context and opens a message of RFC 9180, A.1.1.1, on it; lane 1 seals that message on
+// another context, and then it retires the one that lane 0 added.
+const RETIRES: &str =
+    "hpkebatch 2\nshare send 32 1 1 fe0e18c9f024ce43799ae393c7e8fe8fce9d218875e8227b0187c04e7d2ea1fc base 4f6465206f6e2061204772656369616e2055726e - - 9\nlane\nadd recv 32 1 1 fe0e18c9f024ce43799ae393c7e8fe8fce9d218875e8227b0187c04e7d2ea1fc base 4f6465206f6e2061204772656369616e2055726e - - 9\nunseal +0 436f756e742d30 f938558b5d72f1a23810b4be2ab4f84331acc02fc97babc53a52ae8218a355a96d8770ac83d07bea87e13c512a\nlane\nseal 0 436f756e742d30 4265617574792069732074727574682c20747275746820626561757479\nretire +0\nend\n";
+
+// What a text has of `RETIRES` where the retirement comes between the look and the opening: the replies,
+// the place of the opening behind all notes, and the note of the retirement just before it.
+const SERVED: [&str; 3] = [
+    "\nlane 0\nadded\nopened 0 4265617574792069732074727574682c20747275746820626561757479\nlane 1\nsealed 0 f938558b5d72f1a23810b4be2ab4f84331acc02fc97babc53a52ae8218a355a96d8770ac83d07bea87e13c512a\nretired\njournal 0\n",
+    "\njournal +0\n0 1 0 4\ntable\n0 0 0 ",
+    "\n1 1 1 3\nend\n",
+];
+
+// A call that has looked its context up is served, also where it is retired before its turn comes.
+#[test]
+fn a_call_is_served_whose_context_is_retired_behind_its_look(rt: HostRuntime) -> Result<(), Fail> {
+    let gate = CallGate::new(0, 1, Point::Guessed);
+    let words = ["live", "--workers", "2"];
+    let (outcome, sink) = gated_answer_to(&rt, rt.alloc(), &words, RETIRES, 4096, &gate);
+    assert_same(&rt, outcome, Outcome::Done, "outcome");
+    assert!(rt; !gate.gave_up());
+    let text = str::from_utf8(sink.bytes())?;
+    for piece in SERVED {
+        assert_same(&rt, count_in(text, piece), 1, piece);
     }
     Ok(())
 }

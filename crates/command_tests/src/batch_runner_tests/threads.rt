@@ -2,10 +2,12 @@
 
 use crate::batch_runner_tests::{answer_to, assert_end, gated_answer_to};
 use crate::expected::assert_same;
-use batch_io::{HoldGate, Point};
+use batch_io::{Gate, HoldGate, Point};
 use batch_runner::Outcome;
 use std::alloc::Global;
+use std::sync::atomic::{AtomicBool, AtomicU32, Ordering};
 use std::test::Fail;
+use std::thread;
 
 // A turn of a gate that holds a lane is one load: so many are enough on a busy machine.
 pub const MOST_TURNS: u64 = 1_000_000_000;
@@ -107,6 +109,73 @@ fn each_number_is_used_once_by_whichever_lane(rt: HostRuntime) -> Result<(), Fai
         }
         numbers.sort_unstable();
         assert!(rt; numbers.iter().copied().eq(0..32), "{workers}");
+    }
+    Ok(())
+}
+
+// ---- as many lanes at once as there are workers
+
+// A gate at which each lane waits, at its first draw, until so many lanes are there.
+#[derive(Drop)]
+struct MeetGate {
+    lanes: u32,
+    there: AtomicU32,
+    gave_up: AtomicBool,
+}
+
+impl MeetGate {
+    fn new(lanes: u32) -> MeetGate {
+        MeetGate {
+            lanes,
+            there: AtomicU32::new(0),
+            gave_up: AtomicBool::new(false),
+        }
+    }
+
+    fn gave_up(&self) -> bool {
+        self.gave_up.load(Ordering::SeqCst)
+    }
+
+    // Waits until so many lanes are there, for so many turns at most.
+    fn meet(&self) {
+        self.there.fetch_add(1, Ordering::SeqCst);
+        for turn in 0..MOST_TURNS {
+            if self.there.load(Ordering::SeqCst) >= self.lanes || self.gave_up() {
+                return;
+            }
+            if turn % 1024 == 0 {
+                thread::yield_now();
+            }
+        }
+        self.gave_up.store(true, Ordering::SeqCst);
+    }
+}
+
+impl Gate for MeetGate {
+    fn reached(&self, _lane: u32, call: u32, point: Point) {
+        if call == 0 && point == Point::Drawn {
+            self.meet();
+        }
+    }
+}
+
+// Four lanes are served at once where the words name no number, and sixteen where they say so.
+#[test]
+fn each_worker_serves_a_lane_meanwhile(rt: HostRuntime) -> Result<(), Fail> {
+    let alloc = rt.alloc();
+    let batch = sixteen_lanes(alloc)?;
+    for command in ["run", "live"] {
+        let gate = MeetGate::new(4);
+        let (outcome, _) = gated_answer_to(&rt, alloc, &[command], &batch, 4096, &gate);
+        assert_same(&rt, outcome, Outcome::Done, command);
+        assert!(rt; !gate.gave_up(), "{command}");
+        for (workers, lanes) in [("3", 3), ("16", 16)] {
+            let gate = MeetGate::new(lanes);
+            let words = [command, "--workers", workers];
+            let (outcome, _) = gated_answer_to(&rt, alloc, &words, &batch, 4096, &gate);
+            assert_same(&rt, outcome, Outcome::Done, command);
+            assert!(rt; !gate.gave_up(), "{command} {workers}");
+        }
     }
     Ok(())
 }
