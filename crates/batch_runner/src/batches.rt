@@ -34,7 +34,11 @@ fn reply_to<R: Threads + Wait + Sync, K: Sink, G: Gate + Sync>(
         (Answers command.now (Ok plan.now)) result }
 {
     match answers_to(rt, alloc, plan, command, gate) {
-        Ok(answers) => tell_answers(plan, &answers, sink),
+        Ok(answers) => {
+            let outcome = tell_answers(plan, &answers, sink);
+            drop(answers);
+            outcome
+        }
         Err(_) => Outcome::OutOfMemory,
     }
 }
@@ -54,7 +58,11 @@ pub(crate) fn answer_batch<R: Threads + Wait + Sync, K: Sink, G: Gate + Sync>(
         (Answers command.now (batch input.now)) result }
 {
     match read_batch(alloc, input) {
-        Ok(plan) => reply_to(rt, alloc, &plan, command, sink, gate),
+        Ok(plan) => {
+            let outcome = reply_to(rt, alloc, &plan, command, sink, gate);
+            drop(plan);
+            outcome
+        }
         Err(fault) => tell_fault(&fault, sink),
     }
 }

@@ -28,7 +28,11 @@ fn reply_to<R: Threads + Sync, K: Sink>(
     ensures { Writes K.written K.faults sink.old sink.new (Exchanges (Ok plan.now)) result }
 {
     match serve_capsules(rt, alloc, plan, &Named { name: mult }) {
-        Ok(answers) => tell_capsules(&answers, sink),
+        Ok(answers) => {
+            let outcome = tell_capsules(&answers, sink);
+            drop(answers);
+            outcome
+        }
         Err(_) => Outcome::OutOfMemory,
     }
 }
@@ -45,7 +49,11 @@ pub(crate) fn exchange<R: Threads + Sync, K: Sink>(
         (Exchanges (capsules input.now)) result }
 {
     match read_capsules(alloc, input) {
-        Ok(plan) => reply_to(rt, alloc, &plan, mult, sink),
+        Ok(plan) => {
+            let outcome = reply_to(rt, alloc, &plan, mult, sink);
+            drop(plan);
+            outcome
+        }
         Err(fault) => tell_fault(&fault, sink),
     }
 }

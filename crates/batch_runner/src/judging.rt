@@ -56,7 +56,11 @@ pub(crate) fn judge<R: Threads, K: Sink>(
         (Judges (front_batch input.now) input.now) result }
 {
     match read_front(alloc, input) {
-        Ok((plan, end)) => judge_result(rt, alloc, &plan, behind(input, end), mult, sink),
+        Ok((plan, end)) => {
+            let outcome = judge_result(rt, alloc, &plan, behind(input, end), mult, sink);
+            drop(plan);
+            outcome
+        }
         Err(fault) => tell_fault(&fault, sink),
     }
 }

@@ -59,7 +59,11 @@ fn reply_to<R: Threads + Wait + Sync, K: Sink, G: Gate + Sync>(
         (AnswersBy IsLiveReply (Ok plan.now)) result }
 {
     match served_by(rt, alloc, plan, workers, mult, gate) {
-        Ok(answers) => tell_live(plan, &answers, sink),
+        Ok(answers) => {
+            let outcome = tell_live(plan, &answers, sink);
+            drop(answers);
+            outcome
+        }
         Err(_) => Outcome::OutOfMemory,
     }
 }
@@ -79,7 +83,11 @@ pub(crate) fn answer_live<R: Threads + Wait + Sync, K: Sink, G: Gate + Sync>(
         (AnswersLive (live input.now)) result }
 {
     match read_live(alloc, input) {
-        Ok(plan) => reply_to(rt, alloc, &plan, workers, mult, sink, gate),
+        Ok(plan) => {
+            let outcome = reply_to(rt, alloc, &plan, workers, mult, sink, gate);
+            drop(plan);
+            outcome
+        }
         Err(fault) => tell_fault(&fault, sink),
     }
 }

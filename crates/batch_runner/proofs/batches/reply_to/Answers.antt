@@ -7,8 +7,8 @@ use Rattle.batch_runner.proofs.batches.reply_to.Goals as goal
 pub returns-in-Ok : goal.returns-in-Ok
 returns-in-Ok g c =
     let plan = c.args.plan.now in
-    replied g.K.Sink.written g.K.Sink.faults c.args.sink.now c.tell_answers.new.sink (IsReplyBy c.args.command.now) plan
-    (answers_text plan c.in-Ok.answers) c.tell_answers.result c.in-Ok.ensures.text c.tell_answers.ensures
+    replied g.K.Sink.written g.K.Sink.faults c.args.sink.now c.tell_answers-outcome.new.sink (IsReplyBy c.args.command.now) plan
+    (answers_text plan c.in-Ok.answers) c.tell_answers-outcome.result c.in-Ok.ensures.text c.tell_answers-outcome.ensures
 
 pub returns-in-Err : goal.returns-in-Err
 returns-in-Err g c =

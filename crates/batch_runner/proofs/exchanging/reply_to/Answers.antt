@@ -8,13 +8,13 @@ use Rattle.batch_runner.proofs.exchanging.reply_to.Goals as goal
 pub returns-in-Ok : goal.returns-in-Ok
 returns-in-Ok g c =
     let plan = c.args.plan.now in
-    replied g.K.Sink.written g.K.Sink.faults c.args.sink.now c.tell_capsules.new.sink (IsCapsuleReply) plan
-    (capsules_text c.in-Ok.answers.keys c.in-Ok.answers.replies) c.tell_capsules.result (record {
+    replied g.K.Sink.written g.K.Sink.faults c.args.sink.now c.tell_capsules-outcome.new.sink (IsCapsuleReply) plan
+    (capsules_text c.in-Ok.answers.keys c.in-Ok.answers.replies) c.tell_capsules-outcome.result (record {
       keys = c.in-Ok.answers.keys;
       replies = c.in-Ok.answers.replies;
       are = c.in-Ok.ensures;
       text_is = refl;
-    }) c.tell_capsules.ensures
+    }) c.tell_capsules-outcome.ensures
 
 pub returns-in-Err : goal.returns-in-Err
 returns-in-Err g c =

@@ -10,8 +10,8 @@ use Rattle.batch_runner.proofs.judging.judge.Goals as goal
 pub behind-requires : goal.behind-requires
 behind-requires g c = front_within c.args.input.now c.in-Ok.plan c.in-Ok.end c.in-Ok.ensures.front
 
-pub judge_result-requires-clause-size : goal.judge_result-requires-clause-size
-judge_result-requires-clause-size g c =
+pub judge_result-outcome-requires-clause-size : goal.judge_result-outcome-requires-clause-size
+judge_result-outcome-requires-clause-size g c =
     subst (λ (rest : List ℕ). length rest ≤ most_input) (sym c.behind.ensures)
     (rest_small c.args.input.now c.in-Ok.plan c.in-Ok.end c.in-Ok.ensures.front)
 
@@ -21,11 +21,11 @@ returns-in-Ok g c =
     let written = g.K.Sink.written in
     let faults = g.K.Sink.faults in
     let old = c.args.sink.now in
-    let new = c.judge_result.new.sink in
-    subst (λ read. Writes written faults old new (Judges read input) c.judge_result.result)
+    let new = c.judge_result-outcome.new.sink in
+    subst (λ read. Writes written faults old new (Judges read input) c.judge_result-outcome.result)
     (sym c.in-Ok.ensures.front)
-    (subst (λ rest. Writes written faults old new (TellsVerdict c.in-Ok.plan rest) c.judge_result.result)
-    c.behind.ensures c.judge_result.ensures)
+    (subst (λ rest. Writes written faults old new (TellsVerdict c.in-Ok.plan rest) c.judge_result-outcome.result)
+    c.behind.ensures c.judge_result-outcome.ensures)
 
 pub returns-in-Err : goal.returns-in-Err
 returns-in-Err g c =

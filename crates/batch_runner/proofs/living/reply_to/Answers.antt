@@ -8,8 +8,8 @@ use Rattle.batch_runner.proofs.living.reply_to.Goals as goal
 pub returns-in-Ok : goal.returns-in-Ok
 returns-in-Ok g c =
     let plan = c.args.plan.now in
-    replied g.K.Sink.written g.K.Sink.faults c.args.sink.now c.tell_live.new.sink (IsLiveReply) plan
-    (live_text plan c.in-Ok.answers) c.tell_live.result c.in-Ok.ensures.text c.tell_live.ensures
+    replied g.K.Sink.written g.K.Sink.faults c.args.sink.now c.tell_live-outcome.new.sink (IsLiveReply) plan
+    (live_text plan c.in-Ok.answers) c.tell_live-outcome.result c.in-Ok.ensures.text c.tell_live-outcome.ensures
 
 pub returns-in-Err : goal.returns-in-Err
 returns-in-Err g c =
