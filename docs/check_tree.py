@@ -9,7 +9,7 @@ VISIBLE = r"\s*(?:pub(?:\([^)]*\))? )?"
 IMPL = re.compile(r"\s*(?:unsafe )?impl\b")
 TYPE_HEAD = re.compile(rf"{VISIBLE}(?:struct|enum|trait) (\w+)")
 MEMBER = re.compile(r"\s+(?:pub(?:\([^)]*\))? )?(?:ghost |type |const )?(\w+)\s*(?:[:,({=]|$)")
-FUNCTION = re.compile(rf"{VISIBLE}(?:const )?fn (\w+)")
+FUNCTION = re.compile(rf'{VISIBLE}(?:const )?(?:extern "C" )?fn (\w+)')
 CLAUSE = re.compile(r"\s+(?:ensures|requires) (?:(\w+) )?\{")
 OTHER = re.compile(r"\b(?:const|static|type|mod|macro_rules!) (\w+)")
 DEFINITION = re.compile(r"\s*(?:[a-z]+ )*?pub (?:(?:record|data|mod) )?([^\s:({]+)|([\w'-]+) :|ruleset ([\w'-]+)")

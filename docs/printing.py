@@ -193,7 +193,7 @@ class Printer:
     @staticmethod
     def function_open_in(text):
         """The function whose body a text ends in; none where it ends between functions."""
-        heads = list(re.finditer(r"^( *)(?:pub(?:\([^)]*\))? )?(?:const )?fn (\w+)", text, re.M))
+        heads = list(re.finditer(r'^( *)(?:pub(?:\([^)]*\))? )?(?:const )?(?:extern "C" )?fn (\w+)', text, re.M))
         if heads and not re.search(rf"^{heads[-1][1]}}}", text[heads[-1].end():], re.M):
             return heads[-1][2]
         return None
