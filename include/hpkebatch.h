@@ -31,7 +31,10 @@ extern "C" {
 
 #define HPKEBATCH_DONE 0
 #define HPKEBATCH_WRONG_USAGE 2 /* a length doesn't fit, or a number names nothing */
+#define HPKEBATCH_BAD_BATCH 3   /* the text is no batch */
+#define HPKEBATCH_NO_ROOM 5     /* out has fewer bytes than the text */
 #define HPKEBATCH_NO_MEMORY 6
+#define HPKEBATCH_BROKEN 7      /* the reply is none that `run` may give for the batch */
 #define HPKEBATCH_ROLE 8        /* a recipient doesn't seal, and a sender doesn't open */
 #define HPKEBATCH_NOCIPHER 9    /* the context is export-only */
 #define HPKEBATCH_LIMIT 10      /* the context's numbers are used up */
@@ -176,6 +179,17 @@ uint32_t hpkebatch_context_seal_all(hpkebatch_context *context, const hpkebatch_
  * tags hold at the numbers from number on. HPKEBATCH_LIMIT is tested before the tags. */
 uint32_t hpkebatch_context_open_all(hpkebatch_context *context, const hpkebatch_bytes *aads, size_t aads_len,
                                     const hpkebatch_bytes *cts, size_t cts_len, uint8_t *out, size_t out_len);
+
+/* ---- batches and replies of the command (docs/FORMAT.md) */
+
+/* Reads a text. HPKEBATCH_DONE: it is a batch of `run`, and nothing is written. HPKEBATCH_BAD_BATCH: it isn't; out gets
+ * the line `bad LINE REASON` that `run` writes for it, at most 64 bytes, and out_len its size. The bytes of out behind
+ * it stay as they were. */
+uint32_t hpkebatch_read(const uint8_t *input, size_t input_len, uint8_t *out, size_t out_room, size_t *out_len);
+
+/* Reads a batch and a reply. HPKEBATCH_DONE: `run` may give this reply for the batch. HPKEBATCH_BROKEN: it may not.
+ * HPKEBATCH_BAD_BATCH: the batch isn't one. HPKEBATCH_WRONG_USAGE: the reply has more than 67,108,864 bytes. */
+uint32_t hpkebatch_check(const uint8_t *batch, size_t batch_len, const uint8_t *reply, size_t reply_len);
 
 /* The struct is laid out as the library has it. */
 #if defined(__cplusplus) && __cplusplus >= 201103L

@@ -1,5 +1,5 @@
 /* batch BATCH REPLY: the calls on a batch of `run` and its stored reply. */
-#include "hpkebatch_batch.h"
+#include "hpkebatch.h"
 #include <stdio.h>
 #include <stdlib.h>
 #include <string.h>
