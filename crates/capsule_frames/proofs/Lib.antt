@@ -1,2 +1,3 @@
 pub mod SpelledLines
 pub mod SpelledPlans
+pub mod Differences

@@ -16,12 +16,14 @@
 
 mod draft;
 mod forms;
+mod known;
 mod lines;
 mod printing;
 mod reading;
 mod replies;
 mod words;
 
+pub use known::KnownText;
 pub use lines::{CapsuleLine, CapsuleLines, CapsulePlan};
 pub use printing::print_capsules;
 pub use reading::{one_reading, one_spelling, read_capsules};

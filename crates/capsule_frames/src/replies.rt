@@ -1,5 +1,6 @@
 //! What capsule lines are answered.
 
+use crate::known::KnownText;
 use batch_plans::ByteList;
 
 /// Why a capsule line is refused.
@@ -25,12 +26,19 @@ pub enum CapsuleRefusal {
 
 /// What a capsule line is answered.
 #[derive(Drop)]
-pub enum CapsuleReply {
+pub enum CapsuleReply<'a> {
     /// The request.
-    Asked { request: ByteList },
+    Asked {
+        request: ByteList,
+    },
     /// The text of the request, and the response.
-    Answered { text: ByteList, response: ByteList },
+    Answered {
+        text: KnownText<'a>,
+        response: ByteList,
+    },
     /// The text of the response.
-    Took { text: ByteList },
+    Took {
+        text: KnownText<'a>,
+    },
     Refused(CapsuleRefusal),
 }

@@ -35,17 +35,29 @@ fn request_at<'a>(pool: &'a [u8], asks: &'a [AskResult], request: EncField) -> O
     }
 }
 
-// The answer of a key to a request, where there is one.
-fn given_with<R: Threads + Sync, S: KemParams, M: Multiplier>(
+// The text that a request has where it is that of an ask, with a key of that ask: the ask's.
+fn text_asked<'p>(asks: &[AskResult<'p>], request: EncField) -> &'p [u8] {
+    let EncField::Of(number) = request else {
+        return &[];
+    };
+    match sent_by(asks, number) {
+        Some(sent) => sent.text(),
+        None => &[],
+    }
+}
+
+// The answer of a key to a request, where there is one. Its text may be one that is known.
+fn given_with<'p, R: Threads + Sync, S: KemParams, M: Multiplier>(
     rt: &R,
     alloc: Global,
     mult: &M,
     key: &KeyPair<S>,
     id: u8,
     request: Option<&[u8]>,
+    known: &'p [u8],
     nonce: &[u8],
-    text: &[u8],
-) -> Result<AnswerResult, OutOfMemory>
+    text: &'p [u8],
+) -> Result<AnswerResult<'p>, OutOfMemory>
     requires request { IfSome request (λ r. length r.now ≤ most_request) }
     requires text { length text.now ≤ most_text }
     ensures { IfOk result (λ g. g ≡ given_with key.now.kem key.now.secret id
@@ -59,7 +71,8 @@ fn given_with<R: Threads + Sync, S: KemParams, M: Multiplier>(
     };
     match answer(rt, alloc, mult, secret, id, request, nonce, text) {
         Ok((question, response)) => {
-            let given = Given::copied(alloc, question.as_slice(), response.as_slice())?;
+            let (question, response) = (question.as_slice(), response.as_slice());
+            let given = Given::copied(alloc, known, question, response, text)?;
             Ok(Ok(given))
         }
         Err(fault) => Ok(Err(refusal_of(fault)?)),
@@ -68,14 +81,14 @@ fn given_with<R: Threads + Sync, S: KemParams, M: Multiplier>(
 
 // What answers are made with, besides their lines.
 #[derive(Drop)]
-struct Gateway<'a, M: Multiplier> {
-    plan: &'a Plan,
+struct Gateway<'a, 'p, M: Multiplier> {
+    plan: &'p Plan,
     mult: &'a M,
     keys: &'a KeyTable,
-    asks: &'a [AskResult],
+    asks: &'a [AskResult<'p>],
 }
 
-impl<M: Multiplier> Gateway<'_, M> {
+impl<'p, M: Multiplier> Gateway<'_, 'p, M> {
     // What becomes of an answer.
     #[tactic(auto, unfolding(crate::specs::Lines::given))]
     fn given<R: Threads + Sync>(
@@ -83,7 +96,7 @@ impl<M: Multiplier> Gateway<'_, M> {
         rt: &R,
         alloc: Global,
         job: AnswerJob,
-    ) -> Result<AnswerResult, OutOfMemory>
+    ) -> Result<AnswerResult<'p>, OutOfMemory>
         requires keys { HoldKeys self.now.plan.now self.now.keys.now.replies
             self.now.keys.now.slots }
         requires job { IsJobWithin (length self.now.plan.now.pool) job }
@@ -91,15 +104,21 @@ impl<M: Multiplier> Gateway<'_, M> {
             self.now.asks.now job) }
     {
         let pool = self.plan.pool.as_slice();
-        let request = request_at(pool, first(self.asks, job.asks), job.request);
+        let asks = first(self.asks, job.asks);
+        let request = request_at(pool, asks, job.request);
+        let known = text_asked(asks, job.request);
         let (nonce, text) = (job.nonce.of(pool), job.text.of(pool));
         match self.keys.key(job.key) {
             None => Ok(Err(CapsuleRefusal::NoKey)),
             Some(Key::Of761(pair)) => {
-                given_with(rt, alloc, self.mult, pair, job.id, request, nonce, text)
+                given_with(
+                    rt, alloc, self.mult, pair, job.id, request, known, nonce, text,
+                )
             }
             Some(Key::Of857(pair)) => {
-                given_with(rt, alloc, self.mult, pair, job.id, request, nonce, text)
+                given_with(
+                    rt, alloc, self.mult, pair, job.id, request, known, nonce, text,
+                )
             }
         }
     }
@@ -111,7 +130,7 @@ impl<M: Multiplier> Gateway<'_, M> {
         alloc: Global,
         jobs: &[AnswerJob],
         i: usize,
-        slot: &mut Result<AnswerResult, OutOfMemory>,
+        slot: &mut Result<AnswerResult<'p>, OutOfMemory>,
     )
         requires keys { HoldKeys self.now.plan.now self.now.keys.now.replies
             self.now.keys.now.slots }
@@ -125,14 +144,14 @@ impl<M: Multiplier> Gateway<'_, M> {
     }
 }
 
-impl<M: Multiplier + Sync> Gateway<'_, M> {
+impl<'p, M: Multiplier + Sync> Gateway<'_, 'p, M> {
     // Each slot gets what becomes of its answer.
     fn fill<R: Threads + Sync>(
         &self,
         rt: &R,
         alloc: Global,
         jobs: &[AnswerJob],
-        slots: &mut [Result<AnswerResult, OutOfMemory>],
+        slots: &mut [Result<AnswerResult<'p>, OutOfMemory>],
     )
         requires keys { HoldKeys self.now.plan.now self.now.keys.now.replies
             self.now.keys.now.slots }
@@ -160,7 +179,7 @@ impl<M: Multiplier + Sync> Gateway<'_, M> {
         rt: &R,
         alloc: Global,
         jobs: &[AnswerJob],
-    ) -> Result<Vec<Result<AnswerResult, OutOfMemory>>, OutOfMemory>
+    ) -> Result<Vec<Result<AnswerResult<'p>, OutOfMemory>>, OutOfMemory>
         requires keys { HoldKeys self.now.plan.now self.now.keys.now.replies
             self.now.keys.now.slots }
         requires jobs { All (IsJobWithin (length self.now.plan.now.pool)) jobs.now }
@@ -175,10 +194,10 @@ impl<M: Multiplier + Sync> Gateway<'_, M> {
 }
 
 // So many slots, with no answer yet.
-fn empty_slots(
+fn empty_slots<'p>(
     alloc: Global,
     count: usize,
-) -> Result<Vec<Result<AnswerResult, OutOfMemory>>, OutOfMemory>
+) -> Result<Vec<Result<AnswerResult<'p>, OutOfMemory>>, OutOfMemory>
     ensures { IfOk result (λ v. length v.items ≡ count) }
 {
     let mut slots = Vec::new(alloc);
@@ -189,11 +208,11 @@ fn empty_slots(
 }
 
 // The answers, if there was memory for each.
-fn filled(
+fn filled<'p>(
     alloc: Global,
-    slots: Vec<Result<AnswerResult, OutOfMemory>>,
-) -> Result<Vec<AnswerResult>, OutOfMemory>
-    ensures { IfOk result (λ v. map Ok v.items ≡ slots.items) }
+    slots: Vec<Result<AnswerResult<'p>, OutOfMemory>>,
+) -> Result<Vec<AnswerResult<'p>>, OutOfMemory>
+    ensures { IfOk result (λ v. map Ok v.items ≡ slots.entry.items) }
 {
     let mut answers = Vec::new(alloc);
     'slots: for slot in slots {
@@ -205,14 +224,14 @@ fn filled(
 /// What becomes of the answers of a plan, in their order, by several threads. They are joined before
 /// the call returns.
 #[inline(never)]
-pub(crate) fn all_answers<R: Threads + Sync, M: Multiplier + Sync>(
+pub(crate) fn all_answers<'p, R: Threads + Sync, M: Multiplier + Sync>(
     rt: &R,
     alloc: Global,
-    plan: &CapsulePlan,
+    plan: &'p CapsulePlan,
     mult: &M,
     keys: &KeyTable,
-    asks: &[AskResult],
-) -> Result<Vec<AnswerResult>, OutOfMemory>
+    asks: &[AskResult<'p>],
+) -> Result<Vec<AnswerResult<'p>>, OutOfMemory>
     requires within { IsWithin plan.now }
     requires keys { HoldKeys plan.now.plan keys.now.replies keys.now.slots }
     ensures { IfOk result (λ v. v.items ≡ map

@@ -22,7 +22,7 @@ use sntrup_kem::KemParams;
 use std::alloc::{AllocError as OutOfMemory, Global};
 
 // A request to a key, by words of a stream that stands at its first.
-fn sent_to<S: KemParams, M: Multiplier>(
+fn sent_to<'p, S: KemParams, M: Multiplier>(
     alloc: Global,
     mut words: SeedStream,
     mult: &M,
@@ -30,8 +30,8 @@ fn sent_to<S: KemParams, M: Multiplier>(
     id: u8,
     kdf: Kdf,
     aead: Aead,
-    text: &[u8],
-) -> Result<Sent, OutOfMemory>
+    text: &'p [u8],
+) -> Result<Sent<'p>, OutOfMemory>
     requires start { ⟦<SeedStream as Words>⟧.place words ≡ 0 }
     requires size { S.ENC ≤ 1184 }
     requires aead { aead ≢ ExportOnly }
@@ -40,11 +40,11 @@ fn sent_to<S: KemParams, M: Multiplier>(
         (⟦<SeedStream as Words>⟧.word words) text.now) }
 {
     let (asked, request) = ask(alloc, &mut words, mult, key.public(), id, kdf, aead, text)?;
-    Ok(Sent::new(asked, copied(alloc, request.as_slice())?))
+    Ok(Sent::new(asked, copied(alloc, request.as_slice())?, text))
 }
 
 // The same to a key of either parameter set.
-fn sent_by<M: Multiplier>(
+fn sent_by<'p, M: Multiplier>(
     alloc: Global,
     words: SeedStream,
     mult: &M,
@@ -52,8 +52,8 @@ fn sent_by<M: Multiplier>(
     id: u8,
     kdf: Kdf,
     aead: Aead,
-    text: &[u8],
-) -> Result<Sent, OutOfMemory>
+    text: &'p [u8],
+) -> Result<Sent<'p>, OutOfMemory>
     requires start { ⟦<SeedStream as Words>⟧.place words ≡ 0 }
     requires aead { aead ≢ ExportOnly }
     requires text { length text.now ≤ most_text }
@@ -68,9 +68,9 @@ fn sent_by<M: Multiplier>(
 
 // What becomes of the ask of this number.
 #[tactic(auto, unfolding(crate::specs::Lines::sent))]
-fn sent<M: Multiplier>(
+fn sent<'p, M: Multiplier>(
     alloc: Global,
-    plan: &Plan,
+    plan: &'p Plan,
     mult: &M,
     keys: &KeyTable,
     number: usize,
@@ -79,7 +79,7 @@ fn sent<M: Multiplier>(
     kdf: Kdf,
     aead: Aead,
     text: Span,
-) -> Result<AskResult, OutOfMemory>
+) -> Result<AskResult<'p>, OutOfMemory>
     requires seed { IsSome plan.now.seed }
     requires keys { HoldKeys plan.now keys.now.replies keys.now.slots }
     requires number { number < 2 ^ 32 }
@@ -98,12 +98,12 @@ fn sent<M: Multiplier>(
 
 /// What becomes of the asks of a plan, in their order.
 #[inline(never)]
-pub(crate) fn all_asks<M: Multiplier>(
+pub(crate) fn all_asks<'p, M: Multiplier>(
     alloc: Global,
-    plan: &CapsulePlan,
+    plan: &'p CapsulePlan,
     mult: &M,
     keys: &KeyTable,
-) -> Result<Vec<AskResult>, OutOfMemory>
+) -> Result<Vec<AskResult<'p>>, OutOfMemory>
     requires within { IsWithin plan.now }
     requires keys { HoldKeys plan.now.plan keys.now.replies keys.now.slots }
     ensures { IfOk result (λ v. v.items

@@ -16,7 +16,7 @@ pub(crate) fn first<T>(results: &[T], count: usize) -> &[T]
 }
 
 /// What the ask of this number left, where it was made.
-pub(crate) fn sent_by(asks: &[AskResult], number: u32) -> Option<&Sent>
+pub(crate) fn sent_by<'a, 'p>(asks: &'a [AskResult<'p>], number: u32) -> Option<&'a Sent<'p>>
     ensures { option_copied result ≡ left_by asks.now number }
 {
     match asks.get(number as usize) {
@@ -26,7 +26,10 @@ pub(crate) fn sent_by(asks: &[AskResult], number: u32) -> Option<&Sent>
 }
 
 /// What the answer of this number left, where it was given.
-pub(crate) fn given_by(answers: &[AnswerResult], number: u32) -> Option<&Given>
+pub(crate) fn given_by<'a, 'p>(
+    answers: &'a [AnswerResult<'p>],
+    number: u32,
+) -> Option<&'a Given<'p>>
     ensures { option_copied result ≡ left_by answers.now number }
 {
     match answers.get(number as usize) {

@@ -11,8 +11,8 @@ use capsule_frames::{CapsuleLine, CapsuleReply};
 use std::alloc::{AllocError as OutOfMemory, Global};
 use std::vec::IntoIter;
 
-fn asked_reply(now: AskResult) -> CapsuleReply
-    ensures { result ≡ asked_reply now }
+fn asked_reply<'p>(now: AskResult<'p>) -> CapsuleReply<'p>
+    ensures { result ≡ asked_reply now.entry }
 {
     match now {
         Ok(sent) => CapsuleReply::Asked {
@@ -22,8 +22,8 @@ fn asked_reply(now: AskResult) -> CapsuleReply
     }
 }
 
-fn answered_reply(now: AnswerResult) -> CapsuleReply
-    ensures { result ≡ answered_reply now }
+fn answered_reply<'p>(now: AnswerResult<'p>) -> CapsuleReply<'p>
+    ensures { result ≡ answered_reply now.entry }
 {
     match now {
         Ok(given) => {
@@ -34,8 +34,8 @@ fn answered_reply(now: AnswerResult) -> CapsuleReply
     }
 }
 
-fn took_reply(now: TakeResult) -> CapsuleReply
-    ensures { result ≡ took_reply now }
+fn took_reply<'p>(now: TakeResult<'p>) -> CapsuleReply<'p>
+    ensures { result ≡ took_reply now.entry }
 {
     match now {
         Ok(text) => CapsuleReply::Took { text },
@@ -44,12 +44,12 @@ fn took_reply(now: TakeResult) -> CapsuleReply
 }
 
 // The reply to a line: the next result of its kind, where one is left.
-fn next_reply(
+fn next_reply<'p>(
     line: &CapsuleLine,
-    asks: &mut IntoIter<AskResult>,
-    answers: &mut IntoIter<AnswerResult>,
-    takes: &mut IntoIter<TakeResult>,
-) -> Option<CapsuleReply>
+    asks: &mut IntoIter<AskResult<'p>>,
+    answers: &mut IntoIter<AnswerResult<'p>>,
+    takes: &mut IntoIter<TakeResult<'p>>,
+) -> Option<CapsuleReply<'p>>
     ensures { (lines : List CapsuleLine) → merged (line.now ∷ lines) (into_iter_items asks.old)
         (into_iter_items answers.old) (into_iter_items takes.old)
         ≡ followed result (merged lines (into_iter_items asks.new) (into_iter_items answers.new)
@@ -63,14 +63,15 @@ fn next_reply(
 }
 
 /// The replies to these lines, each the next of its kind, as far as there are results.
-pub(crate) fn merged(
+pub(crate) fn merged<'p>(
     alloc: Global,
     lines: &[CapsuleLine],
-    asks: Vec<AskResult>,
-    answers: Vec<AnswerResult>,
-    takes: Vec<TakeResult>,
-) -> Result<Vec<CapsuleReply>, OutOfMemory>
-    ensures { IfOk result (λ v. v.items ≡ merged lines.now asks.items answers.items takes.items) }
+    asks: Vec<AskResult<'p>>,
+    answers: Vec<AnswerResult<'p>>,
+    takes: Vec<TakeResult<'p>>,
+) -> Result<Vec<CapsuleReply<'p>>, OutOfMemory>
+    ensures { IfOk result (λ v. v.items
+        ≡ merged lines.now asks.entry.items answers.entry.items takes.entry.items) }
 {
     let mut asks_left = asks.into_iter();
     let mut answers_left = answers.into_iter();

@@ -3,20 +3,22 @@
 ghost use Rattle.std.specs.Prelude.{◌≡◌, IfOk};
 
 use batch_plans::{ByteList, PlainList};
-use capsule_frames::CapsuleRefusal;
+use capsule_frames::{CapsuleRefusal, KnownText};
 use ohttp_capsule::Asked;
 use std::alloc::{AllocError as OutOfMemory, Global};
 use std::marker::Model;
 
 /// What a client has of an ask that was made: what it keeps, and the request. They are within the
-/// limits of [`answer`](ohttp_capsule::answer) and [`take`](ohttp_capsule::take).
+/// limits of [`answer`](ohttp_capsule::answer) and [`take`](ohttp_capsule::take). Its text is that
+/// of the plan, by which an answer's text is known.
 #[derive(Drop)]
-pub(crate) struct Sent {
+pub(crate) struct Sent<'p> {
     asked: Asked,
     request: ByteList,
+    text: &'p [u8],
 }
 
-impl Model for Sent {
+impl<'p> Model for Sent<'p> {
     ghost use Rattle.std.specs.Prelude.{◌≤◌, length};
     ghost use Rattle.hpke_context.specs.Contexts.{HasCipher};
     ghost use Rattle.capsule_runs.specs.Results.{SentView};
@@ -29,17 +31,21 @@ impl Model for Sent {
         × (length s.request ≤ 1049783) };
 }
 
-impl Sent {
+impl<'p> Sent<'p> {
     ghost use Rattle.std.specs.Prelude.{◌≡◌, ◌≤◌, length};
     ghost use Rattle.hpke_context.specs.Contexts.{HasCipher};
 
-    pub(crate) fn new(asked: Asked, request: ByteList) -> Sent
+    pub(crate) fn new(asked: Asked, request: ByteList, text: &'p [u8]) -> Sent<'p>
         requires cipher { HasCipher asked.context }
         requires enc { length asked.enc ≤ 1184 }
         requires request { length request ≤ 1049783 }
         ensures { result ≡ record { asked = asked; request = request } }
     {
-        Sent { asked, request }
+        Sent {
+            asked,
+            request,
+            text,
+        }
     }
 
     pub(crate) fn asked(&self) -> &Asked
@@ -57,22 +63,29 @@ impl Sent {
         self.request.as_slice()
     }
 
+    /// The text of the ask, in the plan.
+    pub(crate) fn text(&self) -> &'p [u8] {
+        self.text
+    }
+
     pub(crate) fn into_request(self) -> ByteList
-        ensures { result ≡ self.request }
+        ensures { result ≡ self.entry.request }
     {
         self.request
     }
 }
 
 /// What a gateway has of an answer that was given: the text of the request, and the response, which
-/// is within the limit of [`take`](ohttp_capsule::take).
+/// is within the limit of [`take`](ohttp_capsule::take). What it said is the text of the plan, by
+/// which the text of a take is known.
 #[derive(Drop)]
-pub(crate) struct Given {
-    text: ByteList,
+pub(crate) struct Given<'p> {
+    text: KnownText<'p>,
     response: ByteList,
+    said: &'p [u8],
 }
 
-impl Model for Given {
+impl<'p> Model for Given<'p> {
     ghost use Rattle.std.specs.Prelude.{◌≤◌, length};
     ghost use Rattle.capsule_runs.specs.Results.{GivenView};
 
@@ -83,17 +96,32 @@ impl Model for Given {
     ghost invariant = { λ g. length g.response ≤ 1048624 };
 }
 
-impl Given {
+impl<'p> Given<'p> {
     ghost use Rattle.std.specs.Prelude.{◌≡◌, ◌≤◌, length, IfOk};
 
-    /// A text and a response, copied.
-    pub(crate) fn copied(alloc: Global, text: &[u8], response: &[u8]) -> Result<Given, OutOfMemory>
+    /// A text, which may be one that is known, and a response, which is copied.
+    pub(crate) fn copied(
+        alloc: Global,
+        known: &'p [u8],
+        text: &[u8],
+        response: &[u8],
+        said: &'p [u8],
+    ) -> Result<Given<'p>, OutOfMemory>
         requires { length response.now ≤ 1048624 }
         ensures { IfOk result (λ g. g ≡ record { text = text.now; response = response.now }) }
     {
-        let text = copied(alloc, text)?;
+        let text = KnownText::held_in(alloc, known, text)?;
         let response = copied(alloc, response)?;
-        Ok(Given { text, response })
+        Ok(Given {
+            text,
+            response,
+            said,
+        })
+    }
+
+    /// The text that was answered with, in the plan.
+    pub(crate) fn said(&self) -> &'p [u8] {
+        self.said
     }
 
     pub(crate) fn response(&self) -> &[u8]
@@ -103,20 +131,20 @@ impl Given {
         self.response.as_slice()
     }
 
-    pub(crate) fn into_parts(self) -> (ByteList, ByteList)
-        ensures text { result.0 ≡ self.text }
-        ensures response { result.1 ≡ self.response }
+    pub(crate) fn into_parts(self) -> (KnownText<'p>, ByteList)
+        ensures text { result.0 ≡ self.entry.text }
+        ensures response { result.1 ≡ self.entry.response }
     {
         (self.text, self.response)
     }
 }
 
 /// What becomes of an ask, of an answer and of a take.
-pub(crate) type AskResult = Result<Sent, CapsuleRefusal>;
+pub(crate) type AskResult<'p> = Result<Sent<'p>, CapsuleRefusal>;
 
-pub(crate) type AnswerResult = Result<Given, CapsuleRefusal>;
+pub(crate) type AnswerResult<'p> = Result<Given<'p>, CapsuleRefusal>;
 
-pub(crate) type TakeResult = Result<ByteList, CapsuleRefusal>;
+pub(crate) type TakeResult<'p> = Result<KnownText<'p>, CapsuleRefusal>;
 
 /// The same bytes in memory of their own.
 pub(crate) fn copied(alloc: Global, bytes: &[u8]) -> Result<ByteList, OutOfMemory>

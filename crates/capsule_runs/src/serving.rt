@@ -17,13 +17,14 @@ use std::alloc::{AllocError as OutOfMemory, Global};
 use std::thread::Threads;
 
 /// The replies to capsule lines, in the order of the text.
-pub type CapsuleReplies = PlainList<CapsuleReply>;
+pub type CapsuleReplies<'p> = PlainList<CapsuleReply<'p>>;
 
-/// The replies to the key lines and to the capsule lines of a plan.
+/// The replies to the key lines and to the capsule lines of a plan, which holds the texts that are
+/// its own.
 #[derive(Drop)]
-pub struct CapsuleAnswers {
+pub struct CapsuleAnswers<'p> {
     pub keys: KeyReplies,
-    pub replies: CapsuleReplies,
+    pub replies: CapsuleReplies<'p>,
 }
 
 /// Serves a plan of capsules (RFC 9458, 4): all asks, then all answers by 16 threads at most, then
@@ -34,12 +35,12 @@ pub struct CapsuleAnswers {
 /// the plan's seed, ask number a from stream 2a + 1; refused lines are counted too. A line is refused
 /// by the first of the causes in the order of [`CapsuleRefusal`](capsule_frames::CapsuleRefusal). The
 /// threads are joined before the call returns.
-pub fn serve_capsules<R: Threads + Sync, M: Multiplier + Sync>(
+pub fn serve_capsules<'p, R: Threads + Sync, M: Multiplier + Sync>(
     rt: &R,
     alloc: Global,
-    plan: &CapsulePlan,
+    plan: &'p CapsulePlan,
     mult: &M,
-) -> Result<CapsuleAnswers, OutOfMemory>
+) -> Result<CapsuleAnswers<'p>, OutOfMemory>
     requires { IsWithin plan.now }
     ensures { IfOk result (λ a. AreReplies plan.now a.keys a.replies) }
 {
@@ -52,13 +53,13 @@ pub fn serve_capsules<R: Threads + Sync, M: Multiplier + Sync>(
 }
 
 // The replies to the capsule lines of a plan, by its keys.
-fn replies_with<R: Threads + Sync, M: Multiplier + Sync>(
+fn replies_with<'p, R: Threads + Sync, M: Multiplier + Sync>(
     rt: &R,
     alloc: Global,
-    plan: &CapsulePlan,
+    plan: &'p CapsulePlan,
     mult: &M,
     keys: &KeyTable,
-) -> Result<Vec<CapsuleReply>, OutOfMemory>
+) -> Result<Vec<CapsuleReply<'p>>, OutOfMemory>
     requires within { IsWithin plan.now }
     requires keys { HoldKeys plan.now.plan keys.now.replies keys.now.slots }
     ensures { IfOk result (λ v. v.items ≡ due_replies plan.now keys.now.replies) }

@@ -7,9 +7,9 @@ ghost use Rattle.capsule_runs.specs.Lines.{response_at, took};
 ghost use Rattle.capsule_runs.specs.Orders.{takes_from};
 
 use crate::finding::{first, given_by, refusal_of, sent_by};
-use crate::results::{AnswerResult, AskResult, TakeResult, copied};
+use crate::results::{AnswerResult, AskResult, TakeResult};
 use batch_plans::EncField;
-use capsule_frames::{CapsuleLine, CapsulePlan, CapsuleRefusal};
+use capsule_frames::{CapsuleLine, CapsulePlan, CapsuleRefusal, KnownText};
 use ohttp_capsule::take;
 use std::alloc::{AllocError as OutOfMemory, Global};
 use std::thread::Threads;
@@ -30,41 +30,53 @@ fn response_at<'a>(
     }
 }
 
+// The text that a response has where it is that of an answer, to the ask of the take: the answer's.
+fn text_said<'p>(answers: &[AnswerResult<'p>], response: EncField) -> &'p [u8] {
+    let EncField::Of(number) = response else {
+        return &[];
+    };
+    match given_by(answers, number) {
+        Some(given) => given.said(),
+        None => &[],
+    }
+}
+
 // What becomes of a take, after these asks and answers.
 #[tactic(auto, unfolding(crate::specs::Lines::took))]
-fn took<R: Threads + Sync>(
+fn took<'p, R: Threads + Sync>(
     rt: &R,
     alloc: Global,
     plan: &CapsulePlan,
-    asks: &[AskResult],
-    answers: &[AnswerResult],
+    asks: &[AskResult<'p>],
+    answers: &[AnswerResult<'p>],
     ask: u32,
     response: EncField,
-) -> Result<TakeResult, OutOfMemory>
+) -> Result<TakeResult<'p>, OutOfMemory>
     requires { IsMessageWithin most_response (length plan.now.plan.pool) response }
     ensures { IfOk result (λ t. t ≡ took plan.now.plan asks.now answers.now ask response) }
 {
     let Some(sent) = sent_by(asks, ask) else {
         return Ok(Err(CapsuleRefusal::NoAsk));
     };
+    let known = text_said(answers, response);
     let Some(response) = response_at(plan.plan.pool.as_slice(), answers, response) else {
         return Ok(Err(CapsuleRefusal::NoAnswer));
     };
     match take(rt, alloc, sent.asked(), response) {
-        Ok(text) => Ok(Ok(copied(alloc, text.as_slice())?)),
+        Ok(text) => Ok(Ok(KnownText::held_in(alloc, known, text.as_slice())?)),
         Err(fault) => Ok(Err(refusal_of(fault)?)),
     }
 }
 
 /// What becomes of the takes of a plan, in their order.
 #[inline(never)]
-pub(crate) fn all_takes<R: Threads + Sync>(
+pub(crate) fn all_takes<'p, R: Threads + Sync>(
     rt: &R,
     alloc: Global,
     plan: &CapsulePlan,
-    asks: &[AskResult],
-    answers: &[AnswerResult],
-) -> Result<Vec<TakeResult>, OutOfMemory>
+    asks: &[AskResult<'p>],
+    answers: &[AnswerResult<'p>],
+) -> Result<Vec<TakeResult<'p>>, OutOfMemory>
     requires { IsWithin plan.now }
     ensures { IfOk result (λ v. v.items
         ≡ takes_from plan.now.plan asks.now answers.now 0 0 plan.now.lines) }

@@ -10,7 +10,9 @@ use crate::expected::assert_same;
 use crate::sinks::sink_of;
 use batch_plans::{EncField, KeyLine, KeyReply, PlainList, Plan};
 use call_places::Span;
-use capsule_frames::{CapsuleLine, CapsuleRefusal, CapsuleReply, print_capsules, read_capsules};
+use capsule_frames::{
+    CapsuleLine, CapsuleRefusal, CapsuleReply, KnownText, print_capsules, read_capsules,
+};
 use field_text::{BadBatch, Printed, ReadBatchFault};
 use hkdf_labelled::{Aead, Kdf};
 use std::alloc::Global;
@@ -110,7 +112,8 @@ fn a_batch_is_read(rt: HostRuntime) -> Result<(), Fail> {
     Ok(())
 }
 
-// The reply to a batch of one key and a line of each kind, and a refused one, by hand.
+// The reply to a batch of one key and a line of each kind, and a refused one, by hand. A text is
+// printed as it is, whether it is one that is known or another.
 #[test]
 fn replies_are_printed(rt: HostRuntime) -> Result<(), Fail> {
     let alloc = rt.alloc();
@@ -122,11 +125,14 @@ fn replies_are_printed(rt: HostRuntime) -> Result<(), Fail> {
                 request: PlainList::from_vec(Vec::from_array(alloc, [1u8])?),
             },
             CapsuleReply::Answered {
-                text: PlainList::from_vec(Vec::from_array(alloc, [2u8])?),
+                text: KnownText::held_in(alloc, &[2u8], &[2u8])?,
                 response: PlainList::from_vec(Vec::from_array(alloc, [3u8])?),
             },
             CapsuleReply::Took {
-                text: PlainList::from_vec(Vec::new(alloc)),
+                text: KnownText::own(PlainList::from_vec(Vec::new(alloc))),
+            },
+            CapsuleReply::Took {
+                text: KnownText::held_in(alloc, &[4u8], &[5u8])?,
             },
             CapsuleReply::Refused(CapsuleRefusal::NonceSize),
         ],
@@ -139,7 +145,7 @@ fn replies_are_printed(rt: HostRuntime) -> Result<(), Fail> {
         "printed",
     );
     let want =
-        b"hpkebatch 2\nkey 0 peer\nasked 01\nanswered 02 03\ntook -\nrefused noncesize\nend\n";
+        b"hpkebatch 2\nkey 0 peer\nasked 01\nanswered 02 03\ntook -\ntook 05\nrefused noncesize\nend\n";
     assert_same(&rt, sink.bytes(), want.as_slice(), "the reply");
     Ok(())
 }
