@@ -1,6 +1,6 @@
 //! Whether a text is a batch, and whether a reply is one of a batch.
 
-ghost use Rattle.std.specs.Prelude.{◌≡◌, ◌≢◌, ◌≤◌, ◌<◌, ◌↔◌, length, take, drop, IsTrue, IfOk, OnErr, None, Some, Ok, false};
+ghost use Rattle.std.specs.Prelude.{◌≡◌, ◌≢◌, ◌⊎◌, ◌≤◌, ◌<◌, ◌↔◌, length, take, drop, IsTrue, IfOk, OnErr, None, Some, Ok, false};
 ghost use Rattle.field_text.specs.declared.faults.BadBatch.{BadBatch as BadBatch_};
 ghost use Rattle.batch_plans.specs.Limits.{IsWithinLimits, most_input};
 ghost use Rattle.request_frames.specs.Batch.{BadAt};
@@ -77,6 +77,7 @@ pub extern "C" fn hpkebatch_read(
     ensures behind { drop out_len.new out.new ≡ drop out_len.new out.old }
     ensures refused { result ≢ 3 → (out.new ≡ out.old) × (out_len.new ≡ out_len.old) }
     ensures room { result ≡ 5 → HasLongerLine input.now (length out.old) }
+    ensures statuses { (result ≡ 0) ⊎ (result ≡ 3) ⊎ (result ≡ 5) ⊎ (result ≡ 6) }
 {
     let Ok(found) = first_bad(alloc, input) else {
         return NO_MEMORY;
@@ -110,6 +111,7 @@ pub extern "C" fn hpkebatch_check(alloc: Global, memory: Memory, batch: &[u8], r
     ensures broken { result ≡ 7 → IsNoReplyTo batch.now reply.now }
     ensures bad { result ≡ 3 → IsNoBatch batch.now }
     ensures usage { (result ≡ 2) ↔ (most_input < length reply.now) }
+    ensures statuses { (result ≡ 0) ⊎ (result ≡ 2) ⊎ (result ≡ 3) ⊎ (result ≡ 6) ⊎ (result ≡ 7) }
 {
     if reply.len() > MOST_INPUT {
         return WRONG_USAGE;
