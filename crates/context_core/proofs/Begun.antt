@@ -22,19 +22,15 @@ use Rattle.batch_plans.specs.Progress.{begun}
 use Rattle.batch_plans.proofs.Rooms.{lane_within, lane_is_small}
 use Rattle.due_replies.specs.Standing.{export_limits, AreOfLines}
 use Rattle.due_replies.specs.Asks.{ask_of, batch_of}
-use Rattle.lane_replies.specs.Answered.{HasRoomFor}
-use Rattle.lane_replies.proofs.Answering.{answered_begun}
-use Rattle.lane_replies.proofs.Rooms.{room_begun}
 use Rattle.context_core.specs.declared.books.Books.{Books}
 use Rattle.context_core.specs.declared.lanes.Lane.{Lane}
 use Rattle.context_core.specs.Books.{book_at}
 use Rattle.lane_replies.specs.LaneCalls.{lane_calls}
-use Rattle.context_core.specs.Following.{core_stage, AreBooks, Answered, IsLane, IsAt, IsRehearsal}
+use Rattle.context_core.specs.Following.{core_stage, opened_count, unsettled, AreBooks, IsLane, IsAt, IsRehearsal}
 use Rattle.lane_quotas.specs.Quotas.{lane_quota}
 use Rattle.context_core.specs.Preparing.{fresh_in, fresh_at, IsFresh, AreFresh, with_answers}
 use Rattle.context_core.proofs.Allowed.{within_contexts}
 use Rattle.context_core.proofs.Adding.{nothing_placed}
-use Rattle.context_core.proofs.Runs.{guesses_are, has_done, all_served}
 use Rattle.lane_quotas.proofs.Places.{quota_is}
 
 -- ---- the start
@@ -116,20 +112,8 @@ module _ (plan : Plan) (contexts : List (Option ContextView)) (within : IsWithin
   begins l lane low fresh progress =
       let asks = lane_of batch l in
       let calls = lane_calls plan l in
-      let given = lane_room plan (export_limits contexts) calls in
       let call = fresh.call in
       let stage = fresh.stage in
-      let guesses = guesses_are plan contexts first l _ (first_lane l low) in
-      let done = has_done plan contexts first l 0 [] (λ c high. refl) refl guesses refl in
-      let answered : Answered plan contexts first l 0 [] (begun given) = record {
-        earlier = first;
-        more = [];
-        grown = refl;
-        done = done;
-        served = all_served plan contexts first (λ c few p has. absurd has);
-        kept = guesses;
-        lines = answered_begun given;
-      } in
       record {
         guess = 0;
         guesses = [];
@@ -139,14 +123,21 @@ module _ (plan : Plan) (contexts : List (Option ContextView)) (within : IsWithin
             ∙ (λ i. all_asked l 0 (take (sym call i) asks)
             ++ placed (core_stage (sym stage i)) l (sym call i) (drop (sym call i) asks));
         count = ap (λ n. Rattle.legal_journals.specs.Guesses.guess_count (take n asks)) (sym call);
-        answered = subst (λ n. Answered plan contexts first l n [] lane.progress) (sym call)
-            (subst (Answered plan contexts first l 0 []) (sym progress) answered);
-        room = subst (λ n. HasRoomFor plan (export_limits contexts) (drop n calls) lane.progress)
-            (sym call) (subst (HasRoomFor plan (export_limits contexts) (drop 0 calls)) (sym progress)
-            (room_begun plan (export_limits contexts) calls (lane_within plan within l [] low)));
         within = omega arith;
-        tools = record { rows = fresh.rows; steps_room = fresh.steps };
+        progress = progress;
+        tools = record {
+          rows = fresh.rows;
+          steps_room =
+              let all : unsettled lane.stage (drop lane.call calls) ≡ calls =
+              (λ i. unsettled (stage i) (drop (call i) calls)) in
+              let sum = ap (sum_by opened_count) all in
+              let none = fresh.settled in
+              let room = fresh.steps in
+              omega arith;
+        };
         stage = λ other at. subst (IsAt plan contexts first l lane other 0) (sym stage) tt;
+        notes = fresh.notes;
+        done = λ k other less at. absurd (omega arith);
       }
 
   -- ---- all of them
@@ -179,7 +170,14 @@ module _ (plan : Plan) (contexts : List (Option ContextView)) (within : IsWithin
             ∙ get_or-map (lane_room plan (export_limits contexts)) plan.lanes l [] blank low in
             subst (IsLane plan contexts first l) (sym lane_is)
             (begins l (with_answers (get_or fresh l lane) (get_or answers l blank)) low
-            (record { call = one.call; stage = one.stage; rows = one.rows; steps = one.steps })
+            (record {
+              call = one.call;
+              stage = one.stage;
+              notes = one.notes;
+              rows = one.rows;
+              settled = one.settled;
+              steps = one.steps;
+            })
             (ap begun room));
         others = λ l high. refl;
       }

@@ -1,10 +1,10 @@
 -- Lanes and books after the last step have the answers of the rehearsed run.
-use Rattle.std.proofs.Common.{◌≡◌, ◌<◌, ◌≤◌, ℕ, zero, suc, ◌+◌, List, [], ◌∷◌, length, map, take, drop, get_or, sym, refl, ap, ◌∙◌, subst, arith, Option, Some, None}
-use Rattle.std.specs.Prelude.{slice_get, replicate}
+use Rattle.std.proofs.Common.{◌≡◌, ◌<◌, ◌≤◌, ℕ, zero, suc, ◌+◌, List, [], ◌∷◌, ◌++◌, length, map, take, drop, get_or, sym, refl, ap, ◌∙◌, subst, arith, Option, Some, None}
+use Rattle.std.specs.Prelude.{slice_get, slice_index_or, replicate}
 use Rattle.std.specs.List.{All, range_with_len, refill}
-use Rattle.std.proofs.lemmas.List.{length-map, length-replicate, take_all, take-append-le, drop_all, nil_from_length}
+use Rattle.std.proofs.lemmas.List.{length-map, length-replicate, take_all, take-append-le, nil_from_length}
 use Rattle.std.proofs.lemmas.List.FromFn.{fill_by_all, get_or-map-range_with_len, length-map-range_with_len}
-use Rattle.std.proofs.lemmas.Option.{slice_get-get_or, get_or_from_slice_get}
+use Rattle.std.proofs.lemmas.Option.{slice_get_within, slice_get-get_or, get_or_from_slice_get}
 use Rattle.call_places.specs.declared.entries.Mark.{Mark}
 use Rattle.call_places.specs.declared.entries.Entry.{Entry}
 use Rattle.hpke_context.specs.Answers.{Cipher}
@@ -31,18 +31,19 @@ use Rattle.reply_texts.proofs.Lanes.{lanes_lines-numbered}
 use Rattle.due_replies.specs.Standing.{standing_at, export_limits, AreOfLines}
 use Rattle.due_replies.specs.Asks.{batch_of, cipher_at, ask_of}
 use Rattle.due_replies.specs.Runs.{lane_call_lines}
-use Rattle.due_replies.proofs.Done.{done_lines_stay, lane_asks}
-use Rattle.lane_replies.proofs.Rooms.{room_ended}
+use Rattle.due_replies.proofs.Done.{lane_asks}
+use Rattle.lane_replies.proofs.KeepingUp.{keeps_up_ended}
 use Rattle.context_core.specs.declared.books.Books.{Books}
 use Rattle.context_core.specs.declared.lanes.Lane.{Lane}
+use Rattle.context_core.specs.declared.lanes.Stage.TheVariants as stages
 use Rattle.context_core.specs.Rehearsals.{rehearsed}
 use Rattle.context_core.specs.Books.{book_at}
 use Rattle.lane_replies.specs.LaneCalls.{lane_calls}
-use Rattle.context_core.specs.Following.{run_of, long_ends, core_stage, IsBookOf, IsRehearsal}
+use Rattle.context_core.specs.Following.{run_of, long_ends, core_stage, IsBookOf, IsDone, AreDone, AreAnswered, IsRehearsal}
 use Rattle.lane_quotas.specs.Journals.{written, HasRoom}
 use Rattle.context_core.specs.Preparing.{answers_of, IsEnded}
 use Rattle.context_core.proofs.Histories.{places_are}
-use Rattle.context_core.proofs.Runs.{guesses_are, grows}
+use Rattle.context_core.proofs.Runs.{guesses_are}
 use Rattle.lane_quotas.proofs.Places.{journal_count}
 use Rattle.context_core.proofs.Events.{ends_are}
 
@@ -50,6 +51,12 @@ use Rattle.context_core.proofs.Events.{ends_are}
 pub refill_is : {X : Type 0} (n : ℕ) (xs ws : List X) → length ws ≡ n → refill n xs ws ≡ ws
 refill_is n xs ws size =
     take-append-le n ws (drop (length ws) xs) (omega arith) ∙ take_all n ws (omega arith)
+
+-- the lanes of a list of this length, when all of them are written over
+pub answered_are : (size : ℕ) (old new now : List Lane) → size ≡ length old
+    → length new ≡ length old → now ≡ take size (new ++ drop (length new) old) → now ≡ new
+answered_are size old new now size_is same is =
+    is ∙ refill_is size old new (same ∙ sym size_is)
 
 -- ---- how many answers there are
 
@@ -110,63 +117,61 @@ module _ (plan : Plan) (contexts : List (Option ContextView)) (schedule : List �
         let most = of.within in
         omega arith
 
-    ended_at : (l : ℕ) (lane : Lane) → slice_get lanes l ≡ Some lane → IsEnded lane
-    ended_at l lane at =
+    -- all its calls are done
+    pub all_done : AreDone plan contexts last lanes
+    all_done l lane at =
         let of = t.each l lane at in
         let call = at_end l lane at in
-        let none : drop lane.call (lane_calls plan l) ≡ [] =
-        drop_all lane.call (lane_calls plan l) (omega arith) in
-        let room = room_ended plan (export_limits contexts) lane.progress
-        (subst (λ cs. Rattle.lane_replies.specs.Answered.HasRoomFor plan (export_limits contexts) cs
-        lane.progress) none of.room) in
-        record { replies = room.0; guesses = room.1 }
+        record {
+          notes = of.notes;
+          settled = (let room = of.tools.steps_room in omega arith);
+          progress = of.progress;
+          each = λ k here is.
+              let low = slice_get_within (lane_calls plan l) k here is in
+              subst (λ gs. IsDone plan contexts last l gs k here lane.steps.items lane.settled
+              (slice_index_or lane.done.items k stages.Fresh))
+              (sym (guesses_are plan contexts last l _ of.at))
+              (of.done k here (omega arith) is);
+        }
 
-    pub ended : All IsEnded lanes
-    ended k d low = ended_at k (get_or lanes k d) (slice_get-get_or lanes k d low)
+    -- ---- the lines of the lanes, when they are answered
 
-    -- ---- the lines of the lanes
+    module _ (after : List Lane) (same : length after ≡ length lanes)
+        (answered : AreAnswered plan contexts last after) where
+      at_last : (l : ℕ) (lane : Lane) → slice_get after l ≡ Some lane
+          → (lane.progress.left ≡ 0) × (lane.progress.batches_left ≡ 0)
+          × (answered_lines (lane_calls plan l) (answers_of lane.progress)
+          ≡ lane_call_lines (rehearsed plan contexts schedule) l (lane_calls plan l))
+      at_last l lane at =
+          keeps_up_ended (run_of plan contexts last) l lane.progress (answered l lane at)
 
-    lane_lines : (l : ℕ) (lane : Lane) → slice_get lanes l ≡ Some lane
-        → answered_lines (lane_calls plan l) (answers_of lane.progress)
-        ≡ lane_call_lines (rehearsed plan contexts schedule) l (lane_calls plan l)
-    lane_lines l lane at =
-        let of = t.each l lane at in
-        let e = of.answered in
-        let calls = lane_calls plan l in
-        let all : take lane.call calls ≡ calls =
-        (let call = at_end l lane at in take_all lane.call calls (omega arith)) in
-        let guesses = guesses_are plan contexts last l _ of.at in
-        let stay = done_lines_stay l lane.call (run_of plan contexts e.earlier)
-        (run_of plan contexts last) within
-        (grows plan contexts e.earlier last e.more l of.guesses [] e.grown e.kept
-        (guesses ∙ sym (Rattle.legal_journals.proofs.Lists.append-nil of.guesses)))
-        e.served e.done in
-        ap (λ cs. answered_lines cs (answers_of lane.progress)) (sym all)
-        ∙ e.lines.lines_are ∙ stay
-        ∙ ap (lane_call_lines (run_of plan contexts last) l) all
+      pub ended : All IsEnded after
+      ended k d low =
+          let e = at_last k (get_or after k d) (slice_get-get_or after k d low) in
+          record { replies = e.0; guesses = e.1 }
 
-    pub lines_are : (answers : List LaneAnswers) → length answers ≡ length lanes
-        → ((l : ℕ) (lane : Lane) (given : LaneAnswers) → l < length lanes
-        → get_or answers l given ≡ answers_of (get_or lanes l lane).progress)
-        → lanes_lines plan.lanes answers
-        ≡ numbered (lane_call_lines (rehearsed plan contexts schedule)) 0 plan.lanes
-    lines_are answers count given =
-        lanes_lines-numbered (lane_call_lines (rehearsed plan contexts schedule)) 0 plan.lanes answers
-        (count ∙ t.count)
-        (λ i calls one h.
-        let x = got lanes i (let a = t.count in let b = h.one_of_lanes in omega arith) in
-        let low : i < length lanes = (let a = t.count in let b = h.one_of_lanes in omega arith) in
-        let lane_is : get_or lanes i x.0 ≡ x.0 = get_or_from_slice_get lanes i x.0 x.0 x.1 in
-        let answers_are : one ≡ answers_of x.0.progress = h.lane_is ∙ given i x.0 one low
-        ∙ ap (λ (y : Lane). answers_of y.progress) lane_is in
-        let calls_are : calls ≡ lane_calls plan i = sym (get_or_from_slice_get plan.lanes i calls []
-        (slice_get-get_or plan.lanes i calls h.one_of_lanes ∙ ap Some (sym h.calls_are))) in
-        let start : i ≡ 0 + i = omega arith in
-        ap (λ cs. answered_lines cs one) calls_are
-        ∙ ap (answered_lines (lane_calls plan i)) answers_are
-        ∙ lane_lines i x.0 x.1
-        ∙ ap (lane_call_lines (rehearsed plan contexts schedule) i) (sym calls_are)
-        ∙ ap (λ n. lane_call_lines (rehearsed plan contexts schedule) n calls) start)
+      pub lines_are : (answers : List LaneAnswers) → length answers ≡ length after
+          → ((l : ℕ) (lane : Lane) (given : LaneAnswers) → l < length after
+          → get_or answers l given ≡ answers_of (get_or after l lane).progress)
+          → lanes_lines plan.lanes answers
+          ≡ numbered (lane_call_lines (rehearsed plan contexts schedule)) 0 plan.lanes
+      lines_are answers count given =
+          lanes_lines-numbered (lane_call_lines (rehearsed plan contexts schedule)) 0 plan.lanes
+          answers (count ∙ same ∙ t.count)
+          (λ i calls one h.
+          let low : i < length after = (let a = t.count in let b = h.one_of_lanes in omega arith) in
+          let x = got after i low in
+          let lane_is : get_or after i x.0 ≡ x.0 = get_or_from_slice_get after i x.0 x.0 x.1 in
+          let answers_are : one ≡ answers_of x.0.progress = h.lane_is ∙ given i x.0 one low
+          ∙ ap (λ (y : Lane). answers_of y.progress) lane_is in
+          let calls_are : calls ≡ lane_calls plan i = sym (get_or_from_slice_get plan.lanes i calls []
+          (slice_get-get_or plan.lanes i calls h.one_of_lanes ∙ ap Some (sym h.calls_are))) in
+          let start : i ≡ 0 + i = omega arith in
+          ap (λ cs. answered_lines cs one) calls_are
+          ∙ ap (answered_lines (lane_calls plan i)) answers_are
+          ∙ (at_last i x.0 x.1).2
+          ∙ ap (lane_call_lines (rehearsed plan contexts schedule) i) (sym calls_are)
+          ∙ ap (λ n. lane_call_lines (rehearsed plan contexts schedule) n calls) start)
 
     -- ---- journals
 

@@ -1,11 +1,48 @@
--- Lanes before their first steps, one lane more.
-use Rattle.std.proofs.Common.{◌≡◌, ◌<◌, ℕ, zero, suc, ◌+◌, List, [], ◌∷◌, ◌++◌, length, get_or, sym, refl, ap, ◌∙◌, subst, arith, inl, inr}
+-- Lanes before their first steps, one lane more, and how many steps there may be.
+use Rattle.std.proofs.Common.{◌≡◌, ◌<◌, ◌≤◌, ℕ, zero, suc, ◌+◌, List, [], ◌∷◌, ◌++◌, length, get_or, sym, refl, ap, ◌∙◌, subst, arith, inl, inr}
 use Rattle.std.proofs.Math.Seq.{get_or-append_seam}
+use Rattle.std.specs.Prelude.{sum_by}
 use Rattle.std.proofs.lemmas.Bool.{cases_lt}
+use Rattle.std.proofs.lemmas.List.Sums.{sum_by-cons, get_or-le-sum_by}
 use Rattle.std.proofs.lemmas.List.{get_or_append_left}
+use Rattle.batch_plans.specs.declared.plan.Plan.{Plan}
 use Rattle.batch_plans.specs.declared.plan.CallLine.{CallLine}
+use Rattle.batch_plans.specs.declared.plan.CallLine.TheVariants as calls
+use Rattle.batch_plans.specs.Limits.{items_of, IsWithinLimits}
 use Rattle.context_core.specs.declared.lanes.Lane.{Lane}
+use Rattle.context_core.specs.Following.{opened_count}
 use Rattle.context_core.specs.Preparing.{IsFresh}
+
+opened-le : (call : CallLine) → opened_count call ≤ items_of call
+opened-le (calls.Seal context item) = omega arith
+opened-le (calls.Unseal context item) = omega arith
+opened-le (calls.UnsealAll context first count) = omega arith
+opened-le (calls.Export context exporter size) = omega arith
+opened-le (calls.Add name) = omega arith
+opened-le (calls.Retire name) = omega arith
+
+all_opened-le : (lane : List CallLine) → sum_by opened_count lane ≤ sum_by items_of lane
+all_opened-le [] = omega arith
+all_opened-le (call ∷ lane) =
+    omega (
+      arith,
+      sum_by-cons opened_count call lane,
+      sum_by-cons items_of call lane,
+      opened-le call,
+      all_opened-le lane,
+    )
+
+-- a lane opens no more messages than there are items
+pub opened_few : (plan : Plan) (l : ℕ) (d : List CallLine) → IsWithinLimits plan
+    → l < length plan.lanes → sum_by opened_count (get_or plan.lanes l d) ≤ 65536
+opened_few plan l d within there =
+    let sums = λ (lane : List CallLine). sum_by items_of lane in
+    omega (
+      arith,
+      within.items,
+      get_or-le-sum_by sums plan.lanes l d there,
+      all_opened-le (get_or plan.lanes l d),
+    )
 
 pub fresh_more : (all : List (List CallLine)) (lanes : List Lane) (i : ℕ) (lane : Lane)
     (here : List CallLine) → length lanes ≡ i → i < length all → IsFresh here lane

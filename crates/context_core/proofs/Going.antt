@@ -1,6 +1,9 @@
 -- A lane that goes on with the core, and the others meanwhile.
-use Rattle.std.proofs.Common.{◌≡◌, ◌<◌, ◌≤◌, ℕ, ◌+◌, List, [], ◌∷◌, ◌++◌, length, take, drop, sym, refl, ap, ◌∙◌, subst, arith, Option, Some, None, append_assoc}
-use Rattle.std.specs.Prelude.{slice_get, slice_set}
+use Rattle.std.proofs.Common.{◌≡◌, ◌<◌, ◌≤◌, ℕ, ◌+◌, List, [], ◌++◌, length, take, drop, sym, refl, ap, ◌∙◌, subst, arith, Option, Some, None, inl, inr}
+use Rattle.std.specs.Prelude.{slice_get, slice_set, slice_index_or, sum_by}
+use Rattle.std.specs.List.{All}
+use Rattle.std.proofs.lemmas.Bool.{cases_lt}
+use Rattle.std.proofs.lemmas.List.{length-set}
 use Rattle.std.proofs.lemmas.Option.{slice_get_within}
 use Rattle.hpke_context.specs.Answers.{Cipher}
 use Rattle.hpke_context.specs.Contexts.{ContextView, cipher_of}
@@ -8,34 +11,31 @@ use Rattle.legal_journals.specs.Batches.{Batch, Ask, Spot, asked, all_asked, lan
 use Rattle.legal_journals.specs.Guesses.{guess_of, guess_count}
 use Rattle.legal_journals.specs.Histories.{own_spots}
 use Rattle.legal_journals.proofs.Lists.{own_spots-append, append-nil}
-use Rattle.legal_journals.proofs.OneLane.{taken_more}
 use Rattle.core_schedules.specs.Core as core
 use Rattle.core_schedules.specs.Core.{Core, Moved, step, due_in, with_moved, happens_at, happens}
-use Rattle.core_schedules.proofs.Lists.{slice_get-set_same}
+use Rattle.core_schedules.proofs.Lists.{one_value, slice_get-set_same}
 use Rattle.core_schedules.proofs.Steps as core_steps
 use Rattle.core_schedules.proofs.Steps.{placed}
 use Rattle.core_schedules.proofs.Matching.{lane_at, moved_to}
 use Rattle.batch_plans.specs.declared.plan.Plan.{Plan}
 use Rattle.batch_plans.specs.declared.plan.CallLine.{CallLine}
-use Rattle.batch_plans.specs.Limits.{IsWithinLimits}
-use Rattle.batch_plans.specs.Progress.{Progress}
-use Rattle.due_replies.specs.Standing.{standing_at, export_limits, AreOfLines}
+use Rattle.batch_plans.specs.Limits.{items_of, IsWithinLimits}
+use Rattle.speculative_open.specs.Tables.{TableView}
+use Rattle.due_replies.specs.Standing.{standing_at, AreOfLines}
 use Rattle.due_replies.specs.Asks.{asked_by, ask_of, batch_of, cipher_at}
-use Rattle.due_replies.specs.Runs.{call_lines, guesses_of}
 use Rattle.due_replies.proofs.Growing.{AllServed}
 use Rattle.due_replies.proofs.Placed.{fitting_places_are_served}
-use Rattle.due_replies.specs.Lanes.{done_lines}
-use Rattle.due_replies.proofs.Done.{done_lines_stay, done_lines_more, ask_at}
-use Rattle.lane_replies.specs.Answered.{HasAnswered, HasRoomFor}
+use Rattle.due_replies.proofs.Done.{ask_at}
 use Rattle.lane_replies.proofs.Guesses.{guesses_more}
 use Rattle.context_core.specs.declared.books.Books.{Books}
 use Rattle.context_core.specs.declared.lanes.Lane.{Lane}
 use Rattle.context_core.specs.declared.lanes.Stage.{Stage}
 use Rattle.context_core.specs.declared.lanes.Stage.TheVariants.{Fresh, Drawn, Guessed, Tested, Settled}
 use Rattle.lane_replies.specs.LaneCalls.{lane_calls}
-use Rattle.context_core.specs.Following.{run_of, core_stage, AreBooks, IsBookOf, Answered, IsAt, HasTools, IsLane}
+use Rattle.context_core.specs.Following.{run_of, core_stage, opened_count, unsettled, Finishes, AreBooks, IsBookOf, IsAt, IsDone, IsLane}
 use Rattle.context_core.proofs.Histories.{places_are}
-use Rattle.context_core.proofs.Runs.{guesses_are, grows, stands_stay, has_done, all_served}
+use Rattle.context_core.proofs.Runs.{stands_stay}
+use Rattle.context_core.proofs.Notes.{settled_stays, done_stays, fewer_to_settle, noted_before, noted_now}
 use Rattle.context_core.proofs.Adding.{all_asked_more, nothing_placed}
 
 module _ (plan : Plan) (contexts : List (Option ContextView)) where
@@ -76,30 +76,11 @@ module _ (plan : Plan) (contexts : List (Option ContextView)) where
   }
   at_stays w later more k lane call guess (Guessed g) is t = t
   at_stays w later more k lane call guess Tested is t = t
-  at_stays w later more k lane call guess (Settled first missed) is t = record {
-    opens = t.opens;
-    guess_is = t.guess_is;
-    front = t.front;
-    stands = stands_stay plan contexts w later more k lane.call (asked_by plan call) t.front is
-        t.stands;
-    due = t.due;
-    steps = t.steps;
-    missed_is = t.missed_is;
-  }
-
-  pub still_answered : (w later : Core) (more : List Spot) (k call : ℕ) (guesses : List ℕ)
-      (progress : Progress) → later.history ≡ w.history ++ more
-      → Answered plan contexts w k call guesses progress
-      → Answered plan contexts later k call guesses progress
-  still_answered w later more k call guesses progress is t = record {
-    earlier = t.earlier;
-    more = t.more ++ more;
-    grown = is ∙ ap (λ ss. ss ++ more) t.grown ∙ append_assoc t.earlier.history t.more more;
-    done = t.done;
-    served = t.served;
-    kept = t.kept;
-    lines = t.lines;
-  }
+  at_stays w later more k lane call guess (Settled g first missed start) is t = (
+    settled_stays plan contexts w later more k lane.call call lane.steps.items lane.steps.items
+        lane.settled lane.settled g first missed start is refl (omega arith) t.0,
+    t.1,
+  )
 
   pub lane_stays : (w later : Core) (more : List Spot) (k : ℕ) (lane : Lane)
       → later.history ≡ w.history ++ more → own_spots k more ≡ []
@@ -112,21 +93,19 @@ module _ (plan : Plan) (contexts : List (Option ContextView)) where
     own = ap (own_spots k) is ∙ own_spots-append k w.history more
         ∙ (λ i. t.own i ++ none i) ∙ append-nil _;
     count = t.count;
-    answered = still_answered w later more k lane.call t.guesses lane.progress is t.answered;
-    room = t.room;
     within = t.within;
+    progress = t.progress;
     tools = t.tools;
     stage = λ call at. at_stays w later more k lane call t.guess lane.stage is (t.stage call at);
+    notes = t.notes;
+    done = λ j call low at. subst (λ gs. IsDone plan contexts later k gs j call lane.steps.items
+        lane.settled (slice_index_or lane.done.items j Fresh)) (append-nil t.guesses)
+        (done_stays plan contexts w later more k j call t.guesses [] lane.steps.items lane.steps.items
+        lane.settled lane.settled (slice_index_or lane.done.items j Fresh) is refl (omega arith)
+        (t.done j call low at));
   }
 
   -- ---- journals of books
-
-  -- a context that stands in the plan's lines or doesn't: no places on one that doesn't stand
-  pub few_on : (h : List Spot) (books : Books) → AreBooks plan contexts h books
-      → length contexts ≡ length plan.contexts
-      → (c : ℕ) → length plan.contexts ≤ c → on c h ≡ []
-  few_on h books t same c high =
-      t.absent c (Rattle.std.proofs.lemmas.List.get_or_past contexts c None (omega arith))
 
   pub served_on : (h : List Spot) (books : Books) → AreBooks plan contexts h books
       → (c : ℕ) → AllServed batch c (on c h)
@@ -170,75 +149,78 @@ module _ (plan : Plan) (contexts : List (Option ContextView)) where
         (lane_at asks (lane.call + 1) core_steps.Fresh t.guess (t.guesses ++ guess_of a t.guess))
     lane_after = slice_get-set_same w.lanes l _ _ t.at
 
-    guesses_after : guesses_of (run_of plan contexts after) l ≡ t.guesses ++ guess_of a t.guess
-    guesses_after = guesses_are plan contexts after l _ lane_after
-
-    -- the lines of the calls before are still what they were, and the call's are behind them
-    pub lines_after : done_lines (run_of plan contexts after) l (lane.call + 1)
-        ≡ done_lines (run_of plan contexts t.answered.earlier) l lane.call
-        ++ call_lines (run_of plan contexts after) l lane.call call
-    lines_after =
-        let e = t.answered in
-        done_lines_more (run_of plan contexts after) l lane.call call call_is
-        ∙ ap (λ ls. ls ++ call_lines (run_of plan contexts after) l lane.call call)
-        (sym (done_lines_stay l lane.call (run_of plan contexts e.earlier)
-        (run_of plan contexts after) within
-        (grows plan contexts e.earlier after (e.more ++ []) l t.guesses (guess_of a t.guess)
-        (ap (λ ss. ss ++ []) e.grown ∙ append_assoc e.earlier.history e.more []) e.kept
-        guesses_after) e.served e.done))
-
-    pub finished : (new : Lane) → new.call ≡ lane.call + 1 → new.stage ≡ Fresh
-        → new.table.room ≡ lane.table.room → length new.steps.items ≡ length lane.steps.items
+    pub finished : (new : Lane) → Finishes lane new
         → own_spots l w.history ≡ all_asked l 0 (take lane.call asks) ++ asked l lane.call a
-        → HasAnswered (take lane.call (lane_calls plan l) ++ call ∷ [])
-        (done_lines (run_of plan contexts t.answered.earlier) l lane.call
-        ++ call_lines (run_of plan contexts after) l lane.call call) new.progress
-        → HasRoomFor plan (export_limits contexts) (drop (lane.call + 1) (lane_calls plan l))
-        new.progress
+        → IsDone plan contexts w l (t.guesses ++ guess_of a t.guess) lane.call call lane.steps.items
+        lane.settled lane.stage
         → IsLane plan contexts after l new
-    finished new call_next fresh rows steps own answered room =
+    finished new f own done_now =
         let next = lane.call + 1 in
-        let low : lane.call < length (lane_calls plan l) =
-        slice_get_within (lane_calls plan l) lane.call call call_is in
+        let calls = lane_calls plan l in
+        let low : lane.call < length calls = slice_get_within calls lane.call call call_is in
         let history : w.history ++ [] ≡ w.history = append-nil w.history in
         let own_all : own_spots l (w.history ++ []) ≡ all_asked l 0 (take next asks) =
         ap (own_spots l) history ∙ own ∙ sym (all_asked_more l lane.call asks a asks_at) in
         let size = guesses_more asks lane.call a t.guesses t.guess asks_at t.count in
-        let books_after = books_same w.history books follows in
-        let done = has_done plan contexts after l next (t.guesses ++ guess_of a t.guess)
-        (few_on after.history books books_after standing.count) own_all guesses_after size in
+        let gs : List ℕ = t.guesses ++ guess_of a t.guess in
+        let one_done = λ (k : ℕ) (other : CallLine) (stage : Stage).
+        IsDone plan contexts after l gs k other lane.steps.items lane.settled stage in
+        let before : (k : ℕ) (other : CallLine) → k < lane.call → slice_get calls k ≡ Some other
+        → one_done k other (slice_index_or new.done.items k Fresh) = λ k other low at.
+        subst (one_done k other) (sym (ap (λ ss. slice_index_or ss k Fresh) f.done
+        ∙ noted_before lane.done.items lane.call k lane.stage low))
+        (done_stays plan contexts w after [] l k other t.guesses (guess_of a t.guess) lane.steps.items
+        lane.steps.items lane.settled lane.settled (slice_index_or lane.done.items k Fresh) refl refl
+        (omega arith) (t.done k other low at)) in
+        let here : (k : ℕ) (other : CallLine) → k ≡ lane.call → slice_get calls k ≡ Some other
+        → one_done k other (slice_index_or new.done.items k Fresh) = λ k other same at.
+        let call_same : call ≡ other = one_value call other
+        (sym call_is ∙ ap (slice_get calls) (sym same) ∙ at) in
+        subst (one_done k other) (sym (ap (λ ss. slice_index_or ss k Fresh) f.done
+        ∙ ap (λ n. slice_index_or (slice_set lane.done.items lane.call lane.stage) n Fresh) same
+        ∙ noted_now lane.done.items lane.call lane.stage (let n = t.notes in omega arith)))
+        (subst (λ n. one_done n other lane.stage) (sym same)
+        (subst (λ (x : CallLine). one_done lane.call x lane.stage) call_same
+        (subst (λ xs. IsDone plan contexts after l xs lane.call call lane.steps.items lane.settled
+        lane.stage) (append-nil gs)
+        (done_stays plan contexts w after [] l lane.call call gs [] lane.steps.items lane.steps.items
+        lane.settled lane.settled lane.stage refl refl (omega arith) done_now)))) in
         record {
           guess = t.guess;
-          guesses = t.guesses ++ guess_of a t.guess;
-          at = lane_after ∙ (λ i. Some (lane_at asks (sym call_next i) (core_stage (sym fresh i)) t.guess
-              (t.guesses ++ guess_of a t.guess)));
+          guesses = gs;
+          at = lane_after ∙ (λ i. Some (lane_at asks (sym f.call i) (core_stage (sym f.stage i))
+              t.guess gs));
           own = own_all ∙ sym (append-nil (all_asked l 0 (take next asks)))
               ∙ (λ i. all_asked l 0 (take next asks)
               ++ sym (nothing_placed l next (drop next asks)) i)
-              ∙ (λ i. all_asked l 0 (take (sym call_next i) asks)
-              ++ placed (core_stage (sym fresh i)) l (sym call_next i) (drop (sym call_next i) asks));
-          count = size ∙ ap (λ n. guess_count (take n asks)) (sym call_next);
-          answered = subst (λ n. Answered plan contexts after l n (t.guesses ++ guess_of a t.guess)
-              new.progress) (sym call_next) (record {
-                earlier = after;
-                more = [];
-                grown = sym (append-nil after.history);
-                done = done;
-                served = all_served plan contexts after
-                    (λ c few. served_on after.history books books_after c);
-                kept = guesses_after;
-                lines = subst (λ ls. HasAnswered (take next (lane_calls plan l)) ls new.progress)
-                    (sym lines_after)
-                    (subst (λ cs. HasAnswered cs
-                    (done_lines (run_of plan contexts t.answered.earlier) l lane.call
-                    ++ call_lines (run_of plan contexts after) l lane.call call) new.progress)
-                    (sym (taken_more (lane_calls plan l) lane.call call call_is)) answered);
-              });
-          room = subst (λ n. HasRoomFor plan (export_limits contexts) (drop n (lane_calls plan l))
-              new.progress) (sym call_next) room;
-          within = omega arith;
-          tools = subst (λ n. HasTools plan contexts (lane_calls plan l) n
-              (length new.steps.items)) (sym rows)
-              (subst (HasTools plan contexts (lane_calls plan l) lane.table.room) (sym steps) t.tools);
-          stage = λ other at. subst (IsAt plan contexts after l new other t.guess) (sym fresh) tt;
+              ∙ (λ i. all_asked l 0 (take (sym f.call i) asks)
+              ++ placed (core_stage (sym f.stage i)) l (sym f.call i) (drop (sym f.call i) asks));
+          count = size ∙ ap (λ n. guess_count (take n asks)) (sym f.call);
+          within = (let c = f.call in omega arith);
+          progress = f.progress ∙ t.progress;
+          tools = record {
+            rows = subst (λ (v : TableView). All (λ c. items_of c ≤ v.room) calls) (sym f.table)
+                t.tools.rows;
+            steps_room =
+                let room = t.tools.steps_room in
+                let fewer = fewer_to_settle calls lane.call call lane.stage call_is in
+                let left : sum_by opened_count (unsettled new.stage (drop new.call calls))
+                ≡ sum_by opened_count (drop next calls) =
+                (λ i. sum_by opened_count (unsettled (f.stage i) (drop (f.call i) calls))) in
+                let size_is = ap length f.steps in
+                let settled_is = f.settled in
+                omega arith;
+          };
+          stage = λ other at. subst (IsAt plan contexts after l new other t.guess) (sym f.stage) tt;
+          notes = ap length f.done ∙ length-set lane.done.items lane.call lane.stage ∙ t.notes;
+          done = λ k other less at.
+              subst (λ n. IsDone plan contexts after l gs k other new.steps.items n
+              (slice_index_or new.done.items k Fresh)) (sym f.settled)
+              (subst (λ xs. IsDone plan contexts after l gs k other xs lane.settled
+              (slice_index_or new.done.items k Fresh)) (sym f.steps)
+              (elim (cases_lt k lane.call) [
+                | inl low ↦ before k other low at
+                | inr high ↦ here k other (let c = f.call in let e : k ≡ lane.call = omega arith in e)
+                    at
+              ]));
         }

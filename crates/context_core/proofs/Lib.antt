@@ -2,6 +2,7 @@ pub mod Histories
 pub mod Runs
 pub mod Allowed
 pub mod Adding
+pub mod Notes
 pub mod Going
 pub mod Served
 pub mod Counting
@@ -9,3 +10,4 @@ pub mod Events
 pub mod Fresh
 pub mod Begun
 pub mod Ended
+pub mod Answering

@@ -1,26 +1,19 @@
 -- The run of a state of the core: its journals, its guesses, and later states.
-use Rattle.std.proofs.Common.{◌≡◌, ◌<◌, ◌≤◌, ℕ, zero, suc, List, [], ◌∷◌, ◌++◌, length, map, take, sym, refl, ap, ◌∙◌, subst, arith, Option, Some, None, inl, inr, append_assoc}
+use Rattle.std.proofs.Common.{◌≡◌, ◌<◌, ◌≤◌, ℕ, zero, suc, List, [], ◌∷◌, ◌++◌, length, map, sym, ap, ◌∙◌, arith, Option, Some, None, inl, inr, append_assoc}
 use Rattle.std.specs.Prelude.{slice_get, slice_index_or}
 use Rattle.std.proofs.lemmas.Bool.{cases_lt}
 use Rattle.std.proofs.lemmas.List.{get_or_past}
 use Rattle.std.proofs.lemmas.List.FromFn.{get_or-map-range_with_len, length-map-range_with_len}
 use Rattle.call_places.specs.declared.entries.Place.{Place}
 use Rattle.hpke_context.specs.Contexts.{ContextView}
-use Rattle.legal_journals.specs.Batches.{Ask, Spot, block, items_in, context_in, all_asked, lane_of, lane_places, on, own_places}
-use Rattle.legal_journals.specs.Guesses.{guess_count}
-use Rattle.legal_journals.specs.Histories.{places, marks_at, journals_of, stamped_on, own_spots}
-use Rattle.legal_journals.proofs.Members.{In, contains_in, in_contains}
-use Rattle.legal_journals.proofs.Places.{own_in}
-use Rattle.legal_journals.proofs.Lists.{on-append, own_places-on}
+use Rattle.legal_journals.specs.Batches.{Ask, Spot, block, items_in, context_in, on}
+use Rattle.legal_journals.specs.Histories.{places, marks_at, journals_of, stamped_on}
+use Rattle.legal_journals.proofs.Lists.{on-append}
 use Rattle.legal_journals.proofs.HistoryJournals.{places-stamped_on}
 use Rattle.core_schedules.specs.Core.{Core}
 use Rattle.core_schedules.specs.Core as core
 use Rattle.batch_plans.specs.declared.plan.Plan.{Plan}
-use Rattle.due_replies.specs.Asks.{batch_of}
 use Rattle.due_replies.specs.Runs.{journal_of, guesses_of}
-use Rattle.due_replies.proofs.Growing.{AllServed}
-use Rattle.due_replies.proofs.Staying.{Grows, JournalsAreServed}
-use Rattle.due_replies.specs.Lanes.{HasDone}
 use Rattle.due_replies.proofs.CallLines.{StandsBehind}
 use Rattle.context_core.specs.Following.{run_of}
 
@@ -75,19 +68,6 @@ module _ (plan : Plan) (contexts : List (Option ContextView)) where
           (let f : Some x ≡ Some s = at in let g : x ≡ s = cc in g)
       from (x ∷ lanes) (suc l) at = from lanes l at
 
-  -- a later state is a later run, as far as a lane goes whose guesses are more
-  pub grows : (w later : Core) (more : List Spot) (l : ℕ) (guesses rest : List ℕ)
-      → later.history ≡ w.history ++ more
-      → guesses_of (run_of plan contexts w) l ≡ guesses
-      → guesses_of (run_of plan contexts later) l ≡ guesses ++ rest
-      → Grows l (run_of plan contexts w) (run_of plan contexts later)
-  grows w later more l guesses rest is old new = record {
-    plan = refl;
-    contexts = refl;
-    journals = λ c. let t = journal_more w later more is c in (t.0, sym t.1);
-    guesses = (rest, ap (λ gs. gs ++ rest) old ∙ sym new);
-  }
-
   -- the places of a call stay where they stand
   pub stands_stay : (w later : Core) (more : List Spot) (l number : ℕ) (ask : Ask)
       (front : List Place) → later.history ≡ w.history ++ more
@@ -103,34 +83,3 @@ module _ (plan : Plan) (contexts : List (Option ContextView)) where
         served = t.served;
         fresh = t.fresh;
       }
-
-  -- what a lane has done, by its own places
-  pub has_done : (w : Core) (l call : ℕ) (guesses : List ℕ)
-      → ((c : ℕ) → length plan.contexts ≤ c → on c w.history ≡ [])
-      → own_spots l w.history ≡ all_asked l 0 (take call (lane_of (batch_of plan contexts) l))
-      → guesses_of (run_of plan contexts w) l ≡ guesses
-      → length guesses ≡ guess_count (take call (lane_of (batch_of plan contexts) l))
-      → HasDone (run_of plan contexts w) l call
-  has_done w l call guesses few own kept count = record {
-    places = λ c p has. contains_in (journal_of (run_of plan contexts w) c) p
-        (own_in l p (journal_of (run_of plan contexts w) c) (subst (In p)
-        (sym (ap (own_places l) (is c) ∙ own_places-on l c w.history ∙ ap (on c) own))
-        (in_contains (lane_places c l (take call (lane_of (batch_of plan contexts) l))) p has)));
-    guesses = ap length kept ∙ count;
-  }
-    where
-      is : (c : ℕ) → journal_of (run_of plan contexts w) c ≡ on c w.history
-      is c = elim (cases_lt c (length plan.contexts)) [
-        | inl low ↦ journal_there w c low
-        | inr high ↦ journal_past w c high ∙ sym (few c high)
-      ]
-
-  pub all_served : (w : Core)
-      → ((c : ℕ) → c < length plan.contexts → AllServed (batch_of plan contexts) c (on c w.history))
-      → JournalsAreServed (run_of plan contexts w)
-  all_served w served c = elim (cases_lt c (length plan.contexts)) [
-    | inl low ↦ subst (AllServed (batch_of plan contexts) c) (sym (journal_there w c low))
-        (served c low)
-    | inr high ↦ subst (AllServed (batch_of plan contexts) c) (sym (journal_past w c high))
-        (λ p has. absurd has)
-  ]

@@ -1,14 +1,15 @@
 -- ---- for the proofs: how the state of the program follows that of the core.
-use Rattle.std.specs.Prelude.{ℕ, ◌≡◌, ◌+◌, ◌*◌, ◌<◌, ◌≤◌, ◌++◌, List, [], ◌∷◌, length, take, drop, map, replicate, slice_get, slice_index, Option, Some, None}
+use Rattle.std.specs.Prelude.{ℕ, ◌≡◌, ◌+◌, ◌*◌, ◌<◌, ◌≤◌, ◌++◌, List, [], ◌∷◌, length, take, drop, map, replicate, sum_by, slice_get, slice_set, slice_index, slice_index_or, Option, Some, None}
 use Rattle.std.specs.List.{All}
 use Rattle.call_places.specs.declared.entries.Place.{Place}
+use Rattle.call_places.specs.declared.entries.Step.{Step}
 use Rattle.call_places.specs.Entries.{mark_of}
 use Rattle.hpke_context.specs.Answers.{Cipher}
 use Rattle.hpke_context.specs.Contexts.{ContextView, cipher_of}
-use Rattle.legal_journals.specs.Batches.{Batch, Spot, all_asked, lane_of, lane_places, on}
+use Rattle.legal_journals.specs.Batches.{Batch, Nothing, Spot, all_asked, lane_of, lane_places, on}
 use Rattle.legal_journals.specs.Legal.{due_after}
 use Rattle.legal_journals.specs.Guesses as guesses
-use Rattle.legal_journals.specs.Guesses.{guess_count}
+use Rattle.legal_journals.specs.Guesses.{guess_count, guess_of}
 use Rattle.legal_journals.specs.Histories.{journals_of, stamped_on, own_spots}
 use Rattle.legal_journals.specs.Entries.{steps_from, numbers_from, Fits}
 use Rattle.core_schedules.specs.Core as core
@@ -26,17 +27,16 @@ use Rattle.batch_plans.specs.declared.plan.CallLine.TheVariants as calls
 use Rattle.batch_plans.specs.Limits.{items_of, IsWithinLimits}
 use Rattle.batch_plans.specs.Calls.{context_of}
 use Rattle.batch_plans.specs.declared.replies.Batch.{Batch as Guess}
-use Rattle.batch_plans.specs.Progress.{Progress, with_batch}
+use Rattle.batch_plans.specs.Room.{lane_room}
+use Rattle.batch_plans.specs.Progress.{Progress, begun, with_batch}
 use Rattle.due_replies.specs.Standing.{standing_at, call_refusal, export_limits, AreOfLines}
-use Rattle.due_replies.specs.Asks.{asked_by, batch_of, cipher_at}
+use Rattle.due_replies.specs.Asks.{asked_by, ask_of, batch_of, cipher_at}
 use Rattle.due_replies.specs.Runs.{Run}
-use Rattle.due_replies.proofs.Staying.{JournalsAreServed}
-use Rattle.due_replies.specs.Lanes.{HasDone, done_lines}
 use Rattle.due_replies.proofs.CallLines.{StandsBehind}
 use Rattle.due_replies.specs.Runs.{guesses_of}
 use Rattle.lane_replies.specs.LaneCalls.{lane_calls, opening_items, IsOpening}
 use Rattle.lane_replies.specs.Writing.{due_at}
-use Rattle.lane_replies.specs.Answered.{HasAnswered, HasRoomFor}
+use Rattle.lane_replies.specs.Answered.{KeepsUp}
 use Rattle.context_core.specs.declared.books.Books.{Books}
 use Rattle.context_core.specs.declared.lanes.Lane.{Lane}
 use Rattle.context_core.specs.declared.lanes.Stage.{Stage}
@@ -67,6 +67,15 @@ with_guess p (calls.Export context exporter size) guess = p
 with_guess p (calls.Add name) guess = p
 with_guess p (calls.Retire name) guess = p
 
+-- how many items an opening names
+abbrev pub opened_count : CallLine → ℕ
+opened_count (calls.Seal context item) = 0
+opened_count (calls.Unseal context item) = 1
+opened_count (calls.UnsealAll context first count) = count
+opened_count (calls.Export context exporter size) = 0
+opened_count (calls.Add name) = 0
+opened_count (calls.Retire name) = 0
+
 -- ---- the run of a state of the core
 
 abbrev pub run_of : Plan → List (Option ContextView) → Core → Run
@@ -83,7 +92,26 @@ core_stage Fresh = core_steps.Fresh
 core_stage (Drawn drawn) = core_steps.HasPlaces
 core_stage (Guessed guess) = core_steps.HasGuess
 core_stage Tested = core_steps.HasTests
-core_stage (Settled first missed) = core_steps.HasPlaces
+core_stage (Settled guess first missed start) = core_steps.HasPlaces
+
+-- the steps of a call's items, which begin here in the lane's list
+abbrev pub steps_at : Plan → CallLine → List Step → ℕ → List Step
+steps_at plan call steps start = take (length (opening_items plan call)) (drop start steps)
+
+-- the calls whose items aren't settled yet
+abbrev pub unsettled : Stage → List CallLine → List CallLine
+unsettled (Settled guess first missed start) calls = drop 1 calls
+unsettled stage calls = calls
+
+-- the call is done, and the lane goes on with the next one
+pub record Finishes (old new : Lane) : Type 0 where
+  pub call : new.call ≡ old.call + 1
+  pub stage : new.stage ≡ Fresh
+  pub done : new.done.items ≡ slice_set old.done.items old.call old.stage
+  pub table : new.table ≡ old.table
+  pub steps : new.steps.items ≡ old.steps.items
+  pub settled : new.settled ≡ old.settled
+  pub progress : new.progress ≡ old.progress
 
 module _ (plan : Plan) (contexts : List (Option ContextView)) where
   abbrev pub batch : Batch
@@ -115,18 +143,6 @@ module _ (plan : Plan) (contexts : List (Option ContextView)) where
 
   -- ---- lanes
 
-  -- the calls before this one are answered, as they were at an earlier state
-  pub record Answered (w : Core) (l call : ℕ) (guesses : List ℕ) (progress : Progress)
-      : Type 0 where
-    pub earlier : Core
-    pub more : List Spot
-    pub grown : w.history ≡ earlier.history ++ more
-    pub done : HasDone (run_of plan contexts earlier) l call
-    pub served : JournalsAreServed (run_of plan contexts earlier)
-    pub kept : guesses_of (run_of plan contexts earlier) l ≡ guesses
-    pub lines : HasAnswered (take call (lane_calls plan l))
-        (done_lines (run_of plan contexts earlier) l call) progress
-
   -- a seal has its place, and what was drawn for it
   pub record HasDrawn (w : Core) (l number : ℕ) (call : CallLine) (drawn : Draw) : Type 0 where
     pub seal : IsSeal call
@@ -149,30 +165,58 @@ module _ (plan : Plan) (contexts : List (Option ContextView)) where
     pub table : (view : ContextView) → standing_at contexts (context_of call) ≡ Some view
         → IsTableFor view plan.pool (opening_items plan call) lane.table
 
-  -- an opening has its places, and its steps are settled
-  pub record HasSettled (w : Core) (l : ℕ) (lane : Lane) (call : CallLine)
+  -- an opening has its places, and these are the steps of its items
+  pub record HasSettled (w : Core) (l number : ℕ) (call : CallLine) (settled : List Step)
       (guess first missed : ℕ) : Type 0 where
     pub opens : Opens call
-    pub guess_is : lane.table.guess ≡ guess
     pub front : List Place
-    pub stands : StandsBehind (run_of plan contexts w) l lane.call (asked_by plan call) front
+    pub stands : StandsBehind (run_of plan contexts w) l number (asked_by plan call) front
     pub due : due_after batch (ciphers (context_of call)) front ≡ first
-    pub steps : take (length (opening_items plan call)) lane.steps.items
+    pub steps : settled
         ≡ steps_from (ciphers (context_of call)) first (unseals plan.pool (opening_items plan call))
     pub missed_is : missed ≡ guesses.missed guess 0
         (numbers_from (ciphers (context_of call)) first (unseals plan.pool (opening_items plan call)))
+
+  -- its steps lie among those that are settled
+  pub record IsSettled (w : Core) (l number : ℕ) (call : CallLine) (steps : List Step)
+      (settled guess first missed start : ℕ) : Type 0 where
+    pub has : HasSettled w l number call (steps_at plan call steps start) guess first missed
+    pub low : start + length (opening_items plan call) ≤ settled
 
   abbrev pub IsAt : Core → ℕ → Lane → CallLine → ℕ → Stage → Type 0
   IsAt w l lane call guess Fresh = Unit {0}
   IsAt w l lane call guess (Drawn drawn) = HasDrawn w l lane.call call drawn
   IsAt w l lane call guess (Guessed g) = Opens call × (g ≡ guess)
   IsAt w l lane call guess Tested = HasTested lane call guess
-  IsAt w l lane call guess (Settled first missed) = HasSettled w l lane call guess first missed
+  IsAt w l lane call guess (Settled g first missed start) =
+      IsSettled w l lane.call call lane.steps.items lane.settled g first missed start × (g ≡ guess)
 
-  -- there is room for the items of each call
-  pub record HasTools (calls : List CallLine) (room : ℕ) (steps : ℕ) : Type 0 where
-    pub rows : All (λ call. items_of call ≤ room) calls
-    pub steps_room : All (λ call. items_of call ≤ steps) calls
+  -- ---- calls that are done
+
+  -- the guess of a call stands in its place among those that its lane keeps
+  pub record KeepsGuess (l number : ℕ) (call : CallLine) (guesses : List ℕ) (guess : ℕ)
+      : Type 0 where
+    pub before : List ℕ
+    pub behind : List ℕ
+    pub stands : guesses ≡ before ++ (guess_of (ask_of plan contexts call) guess ++ behind)
+    pub count : length before ≡ guess_count (take number (lane_of batch l))
+
+  -- the last stage of a call that is done
+  abbrev pub IsDone : Core → ℕ → List ℕ → ℕ → CallLine → List Step → ℕ → Stage → Type 0
+  IsDone w l guesses number call steps settled Fresh = ask_of plan contexts call ≡ Nothing
+  IsDone w l guesses number call steps settled (Drawn drawn) = HasDrawn w l number call drawn
+  IsDone w l guesses number call steps settled (Guessed g) = ⊥
+  IsDone w l guesses number call steps settled Tested = ⊥
+  IsDone w l guesses number call steps settled (Settled g first missed start) =
+      IsSettled w l number call steps settled g first missed start
+      × KeepsGuess l number call guesses g
+
+  -- there is room for the items of each call, and for the steps of those that are to come
+  pub record HasTools (calls : List CallLine) (lane : Lane) : Type 0 where
+    pub rows : All (λ call. items_of call ≤ lane.table.room) calls
+    pub steps_room : lane.settled
+        + sum_by opened_count (unsettled lane.stage (drop lane.call calls))
+        ≤ length lane.steps.items
 
   pub record IsLane (w : Core) (l : ℕ) (lane : Lane) : Type 0 where
     pub guess : ℕ
@@ -182,13 +226,17 @@ module _ (plan : Plan) (contexts : List (Option ContextView)) where
     pub own : own_spots l w.history ≡ all_asked l 0 (take lane.call (lane_of batch l))
         ++ placed (core_stage lane.stage) l lane.call (drop lane.call (lane_of batch l))
     pub count : length guesses ≡ guess_count (take lane.call (lane_of batch l))
-    pub answered : Answered w l lane.call guesses lane.progress
-    pub room : HasRoomFor plan (export_limits contexts) (drop lane.call (lane_calls plan l))
-        lane.progress
     pub within : lane.call ≤ length (lane_calls plan l)
-    pub tools : HasTools (lane_calls plan l) lane.table.room (length lane.steps.items)
+    pub progress : lane.progress
+        ≡ begun (lane_room plan (export_limits contexts) (lane_calls plan l))
+    pub tools : HasTools (lane_calls plan l) lane
     pub stage : (call : CallLine) → slice_get (lane_calls plan l) lane.call ≡ Some call
         → IsAt w l lane call guess lane.stage
+    pub notes : length lane.done.items ≡ length (lane_calls plan l)
+    pub done : (k : ℕ) (call : CallLine) → k < lane.call
+        → slice_get (lane_calls plan l) k ≡ Some call
+        → IsDone w l guesses k call lane.steps.items lane.settled
+        (slice_index_or lane.done.items k Fresh)
 
   -- a lane and the books follow the core
   pub record Follows (w : Core) (l : ℕ) (lane : Lane) (books : Books) : Type 0 where
@@ -219,3 +267,43 @@ module _ (plan : Plan) (contexts : List (Option ContextView)) where
     pub core_count : length w.lanes ≡ length plan.lanes
     pub each : (l : ℕ) (lane : Lane) → slice_get lanes l ≡ Some lane → IsLane w l lane
     pub others : (l : ℕ) → length plan.lanes ≤ l → own_spots l w.history ≡ []
+
+  -- ---- replies
+
+  -- all calls of a lane are done, and none is answered yet
+  pub record AllDone (w : Core) (l : ℕ) (lane : Lane) : Type 0 where
+    pub notes : length lane.done.items ≡ length (lane_calls plan l)
+    pub settled : lane.settled ≤ length lane.steps.items
+    pub progress : lane.progress
+        ≡ begun (lane_room plan (export_limits contexts) (lane_calls plan l))
+    pub each : (k : ℕ) (call : CallLine) → slice_get (lane_calls plan l) k ≡ Some call
+        → IsDone w l (guesses_of (run_of plan contexts w) l) k call lane.steps.items lane.settled
+        (slice_index_or lane.done.items k Fresh)
+
+  abbrev pub AreDone : Core → List Lane → Type 0
+  AreDone w lanes = (l : ℕ) (lane : Lane) → slice_get lanes l ≡ Some lane → AllDone w l lane
+
+  -- each call of a lane is answered
+  abbrev pub LaneIsAnswered : Core → ℕ → Progress → Type 0
+  LaneIsAnswered w l p = KeepsUp (run_of plan contexts w) l (length (lane_calls plan l)) p
+
+  abbrev pub AreAnswered : Core → List Lane → Type 0
+  AreAnswered w lanes = (l : ℕ) (lane : Lane) → slice_get lanes l ≡ Some lane
+      → LaneIsAnswered w l lane.progress
+
+  -- what the replies to a call that is done ask for, of which this is the last stage
+  pub record MayReply (w : Core) (l number : ℕ) (call : CallLine) (steps : List Step)
+      (settled : ℕ) (stage : Stage) (p : Progress) : Type 0 where
+    pub within : IsWithinLimits plan
+    pub standing : AreOfLines plan.contexts contexts
+    pub there : l < length plan.lanes
+    pub call_is : slice_get (lane_calls plan l) number ≡ Some call
+    pub done : IsDone w l (guesses_of (run_of plan contexts w) l) number call steps settled stage
+    pub settled_low : settled ≤ length steps
+    pub keeps_up : KeepsUp (run_of plan contexts w) l number p
+
+  -- the replies to the call are put
+  abbrev pub Replies : CallLine → List Step → Stage → Progress → Progress → Type 0
+  Replies call steps stage old new =
+      (w : Core) (l number settled : ℕ) → MayReply w l number call steps settled stage old
+      → KeepsUp (run_of plan contexts w) l (number + 1) new

@@ -1,5 +1,5 @@
 -- ---- for the proofs: what stands before the first step, and what is handed out and taken back.
-use Rattle.std.specs.Prelude.{ℕ, ◌≡◌, ◌<◌, ◌≤◌, List, [], length, map, Option, Some, None, get_or}
+use Rattle.std.specs.Prelude.{ℕ, ◌≡◌, ◌<◌, ◌≤◌, List, [], length, map, sum_by, Option, Some, None, get_or}
 use Rattle.std.specs.List.{All}
 use Rattle.hpke_context.specs.Contexts.{ContextView}
 use Rattle.context_books.specs.Books.{BookView}
@@ -12,6 +12,7 @@ use Rattle.due_replies.specs.Standing.{standing_at}
 use Rattle.lane_quotas.specs.Quotas.{lane_quota}
 use Rattle.context_core.specs.declared.lanes.Lane.{Lane}
 use Rattle.context_core.specs.declared.lanes.Stage.TheVariants.{Fresh}
+use Rattle.context_core.specs.Following.{opened_count}
 
 -- the book of a context that stands, before the first step
 abbrev pub fresh_in : Plan → List (Option ContextView) → ℕ → Option ContextView → Option BookView
@@ -26,12 +27,15 @@ fresh_in plan contexts number (Some view) =
 abbrev pub fresh_at : Plan → List (Option ContextView) → ℕ → Option BookView
 fresh_at plan contexts number = fresh_in plan contexts number (standing_at contexts number)
 
--- a lane before its first step, with room for the items of each of its calls
+-- a lane before its first step, with room for a note of each of its calls, for the items of each,
+-- and for the steps of all
 pub record IsFresh (calls : List CallLine) (lane : Lane) : Type 0 where
   pub call : lane.call ≡ 0
   pub stage : lane.stage ≡ Fresh
+  pub notes : length lane.done.items ≡ length calls
   pub rows : All (λ call. items_of call ≤ lane.table.room) calls
-  pub steps : All (λ call. items_of call ≤ length lane.steps.items) calls
+  pub settled : lane.settled ≡ 0
+  pub steps : sum_by opened_count calls ≤ length lane.steps.items
 
 abbrev pub AreFresh : List (List CallLine) → List Lane → Type 0
 AreFresh lanes fresh =

@@ -1,29 +1,23 @@
 //! A lane on its way: its next step.
 
-ghost use Rattle.std.specs.Prelude.{ℕ, ◌≡◌, ◌<◌, ◌≤◌, ◌^◌, Some, None, slice_get, length};
-ghost use Rattle.hpke_context.specs.Contexts.{ContextView};
-ghost use Rattle.batch_plans.specs.Limits.{IsWithinLimits};
-ghost use Rattle.batch_plans.specs.Room.{served_batches};
-ghost use Rattle.due_replies.specs.Standing.{AreOfLines};
-ghost use Rattle.due_replies.specs.Asks.{batch_of, cipher_at};
-ghost use Rattle.core_schedules.specs.Core.{Core, happens};
+ghost use Rattle.std.specs.Prelude.{ℕ, ◌≡◌, ◌<◌, length};
 ghost use Rattle.context_core.specs.declared.books.Books.{Books};
-ghost use Rattle.lane_replies.specs.LaneCalls.{lane_calls, opening_items};
-ghost use Rattle.context_core.specs.Following.{with_guess, MayStep, Steps};
+ghost use Rattle.context_core.specs.Following.{Finishes, MayStep, Steps};
 
 use crate::books::{Books, draw, due, settle};
-use batch_plans::{Batch, CallLine, LaneProgress, Plan, context_of};
+use batch_plans::{CallLine, LaneProgress, Plan, context_of};
 use call_places::{Place, Step};
 use context_books::Draw;
 use due_replies::{refusal_of, standing};
 use hpke_context::Context;
-use lane_replies::{export, finish_opening, finish_seal, items_of_opening, refuse};
+use lane_replies::items_of_opening;
 use speculative_open::{Crew, GuessTable};
 
-/// How far a lane is with its next call.
+/// How far a lane is with a call. The last stage of a call that is done tells what it is answered
+/// with.
 #[derive(Clone, Copy)]
 pub(crate) enum Stage {
-    /// No step of it is done.
+    /// It has no place. A call that is refused and an export have no other stage.
     Fresh,
     /// A seal has its place, and its number where there was one.
     Drawn(Draw),
@@ -31,9 +25,14 @@ pub(crate) enum Stage {
     Guessed(u64),
     /// The lane's table tells of the tags around the guess.
     Tested,
-    /// The items of an opening have their places; this number was due before them, and the guess
-    /// missed so many of theirs.
-    Settled { first: u64, missed: u32 },
+    /// The items of an opening have their places; the number `first` was due before them, and the
+    /// guess missed so many of theirs. Their steps begin at `start` in the list of the lane.
+    Settled {
+        guess: u64,
+        first: u64,
+        missed: u32,
+        start: usize,
+    },
 }
 
 /// A lane of a plan while its calls are served.
@@ -42,20 +41,14 @@ pub(crate) struct Lane {
     /// The number of the next call.
     pub(crate) call: usize,
     pub(crate) stage: Stage,
+    /// The last stage of each call before it, and room for those of the others.
+    pub(crate) done: Vec<Stage>,
     pub(crate) table: GuessTable,
-    /// Room for the steps of the items of any opening of the lane.
+    /// The steps of the items of all openings, of which so many are settled.
     pub(crate) steps: Vec<Step>,
+    pub(crate) settled: usize,
+    /// The answers, of which none is put before all calls are done.
     pub(crate) progress: LaneProgress,
-}
-
-// An opening of several messages keeps its guess.
-fn keep_guess(progress: &mut LaneProgress, call: &CallLine, batch: Batch)
-    requires { served_batches call.now ≤ progress.old.batches_left }
-    ensures { progress.new ≡ with_guess progress.old call.now batch }
-{
-    if let CallLine::UnsealAll { .. } = call {
-        progress.put_batch(batch);
-    }
 }
 
 impl Lane {
@@ -76,12 +69,9 @@ impl Lane {
     {
         match self.stage {
             Stage::Fresh => self.begin(plan, contexts, books, lane, call),
-            Stage::Drawn(drawn) => self.finish_seal(plan, contexts, call, drawn),
             Stage::Guessed(guess) => self.test(crew, plan, contexts, call, guess),
             Stage::Tested => self.commit(plan, contexts, books, lane, call),
-            Stage::Settled { first, missed } => {
-                self.finish_opening(plan, contexts, call, first, missed);
-            }
+            Stage::Drawn(_) | Stage::Settled { .. } => self.finish(),
         }
     }
 
@@ -99,9 +89,8 @@ impl Lane {
         ensures { Steps plan.now contexts.now lane call.now self.old self.new books.old
             books.new }
     {
-        if let Some(refusal) = refusal_of(contexts, call) {
-            refuse(&mut self.progress, refusal);
-            self.call += 1;
+        if refusal_of(contexts, call).is_some() {
+            self.finish();
             return;
         }
         match *call {
@@ -116,45 +105,17 @@ impl Lane {
             CallLine::Unseal { context, .. } | CallLine::UnsealAll { context, .. } => {
                 self.stage = Stage::Guessed(due(books, context));
             }
-            CallLine::Export {
-                context,
-                exporter,
-                size,
-            } => {
-                let Some(context) = standing(contexts, context) else {
-                    unreachable!()
-                };
-                let exporter_context = exporter.of(plan.pool.as_slice());
-                export(&mut self.progress, context, exporter_context, size);
-                self.call += 1;
-            }
+            CallLine::Export { .. } => self.finish(),
             CallLine::Add { .. } | CallLine::Retire { .. } => unreachable!(),
         }
     }
 
-    // Finish of a seal.
-    fn finish_seal(
-        &mut self,
-        plan: &Plan,
-        contexts: &[Option<Context>],
-        call: &CallLine,
-        drawn: Draw,
-    )
-        requires stage { self.old.stage ≡ Stage.Drawn drawn }
-        requires may { (lane : ℕ) × (books : Books)
-            × MayStep plan.now contexts.now lane self.old books call.now }
-        ensures { (lane : ℕ) (books : Books)
-            → Steps plan.now contexts.now lane call.now self.old self.new books books }
+    // Finish: the call is done. Its replies are put when all calls are.
+    fn finish(&mut self)
+        requires { self.old.call < length self.old.done.items }
+        ensures { Finishes self.old self.new }
     {
-        let CallLine::Seal { context, item } = call else {
-            unreachable!()
-        };
-        let Some(context) = standing(contexts, *context) else {
-            unreachable!()
-        };
-        let pool = plan.pool.as_slice();
-        let (aad, text) = (item.aad.of(pool), item.text.of(pool));
-        finish_seal(&mut self.progress, context, drawn, aad, text);
+        self.done[self.call] = self.stage;
         self.call += 1;
         self.stage = Stage::Fresh;
     }
@@ -208,7 +169,8 @@ impl Lane {
             unreachable!()
         };
         let pool = plan.pool.as_slice();
-        let steps = self.steps.as_mut_slice();
+        let start = self.settled;
+        let steps = &mut self.steps[start..];
         let call = self.call as u32;
         let (first, missed) = settle(
             books,
@@ -221,40 +183,12 @@ impl Lane {
             &self.table,
             steps,
         );
-        self.stage = Stage::Settled { first, missed };
-    }
-
-    // Finish of an opening.
-    fn finish_opening(
-        &mut self,
-        plan: &Plan,
-        contexts: &[Option<Context>],
-        call: &CallLine,
-        first: u64,
-        missed: u32,
-    )
-        requires stage { self.old.stage ≡ Stage.Settled first missed }
-        requires may { (lane : ℕ) × (books : Books)
-            × MayStep plan.now contexts.now lane self.old books call.now }
-        ensures { (lane : ℕ) (books : Books)
-            → Steps plan.now contexts.now lane call.now self.old self.new books books }
-    {
-        let items = items_of_opening(plan, call);
-        let Some(context) = standing(contexts, context_of(call)) else {
-            unreachable!()
-        };
-        let steps = &self.steps[..items.len()];
-        finish_opening(
-            &mut self.progress,
-            context,
-            plan.pool.as_slice(),
-            items,
+        self.settled = start + items.len();
+        self.stage = Stage::Settled {
+            guess: self.table.guess(),
             first,
-            steps,
-        );
-        let guess = self.table.guess();
-        keep_guess(&mut self.progress, call, Batch { guess, missed });
-        self.call += 1;
-        self.stage = Stage::Fresh;
+            missed,
+            start,
+        };
     }
 }

@@ -1,9 +1,10 @@
 //! What a rehearsal needs beside the answers, all of it taken before the first step.
 
-ghost use Rattle.std.specs.Prelude.{◌≡◌, ◌≤◌, [], All, IfOk, length, map};
+ghost use Rattle.std.specs.Prelude.{◌≡◌, ◌≤◌, [], All, IfOk, length, map, sum_by};
 ghost use Rattle.std.specs.List.{range_with_len};
 ghost use Rattle.batch_plans.specs.Limits.{IsWithinLimits, items_of};
 ghost use Rattle.due_replies.specs.Standing.{AreOfLines};
+ghost use Rattle.context_core.specs.Following.{opened_count};
 ghost use Rattle.context_core.specs.Preparing.{fresh_at, IsFresh, AreFresh};
 
 use crate::lanes::{Lane, Stage};
@@ -52,6 +53,32 @@ pub(crate) fn books(
     Ok(books)
 }
 
+// How many items an opening names; another call has none.
+fn count_opened(call: &CallLine) -> u32
+    ensures { result ≡ opened_count call.now }
+{
+    match *call {
+        CallLine::Unseal { .. } => 1,
+        CallLine::UnsealAll { count, .. } => count,
+        CallLine::Seal { .. }
+        | CallLine::Export { .. }
+        | CallLine::Add { .. }
+        | CallLine::Retire { .. } => 0,
+    }
+}
+
+// The items of all openings of a lane.
+fn all_opened(calls: &[CallLine]) -> usize
+    requires { sum_by opened_count calls.now ≤ 65536 }
+    ensures { result ≡ sum_by opened_count calls.now }
+{
+    let mut all = 0;
+    'calls: for call in calls {
+        all += count_opened(call) as usize;
+    }
+    all
+}
+
 // The most items of one call.
 fn most_items(calls: &[CallLine]) -> usize
     ensures { All (λ call. items_of call ≤ result) calls.now }
@@ -78,22 +105,26 @@ pub(crate) fn no_answers(alloc: Global) -> LaneAnswers
 
 // A lane before its first step, which has no answers yet.
 fn lane(alloc: Global, calls: &[CallLine]) -> Result<Lane, AllocError>
+    requires { sum_by opened_count calls.now ≤ 65536 }
     ensures { IfOk result (λ lane. IsFresh calls.now lane) }
 {
-    let most = most_items(calls);
-    let table = GuessTable::with_room(alloc, most)?;
-    let steps = vec![in alloc; Step::Failed; most]?;
+    let done = vec![in alloc; Stage::Fresh; calls.len()]?;
+    let table = GuessTable::with_room(alloc, most_items(calls))?;
+    let steps = vec![in alloc; Step::Failed; all_opened(calls)]?;
     Ok(Lane {
         call: 0,
         stage: Stage::Fresh,
+        done,
         table,
         steps,
+        settled: 0,
         progress: LaneProgress::new(no_answers(alloc)),
     })
 }
 
 /// The lanes of a plan before their first steps. They have no answers yet.
 pub(crate) fn lanes(alloc: Global, plan: &Plan) -> Result<Vec<Lane>, AllocError>
+    requires { IsWithinLimits plan.now }
     ensures count { IfOk result (λ lanes. length lanes.items ≡ length plan.now.lanes) }
     ensures fresh { IfOk result (λ lanes. AreFresh plan.now.lanes lanes.items) }
 {

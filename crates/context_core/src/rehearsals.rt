@@ -13,6 +13,7 @@ ghost use Rattle.lane_replies.specs.LaneCalls.{lane_calls};
 ghost use Rattle.context_core.specs.Following.{long_ends, IsRehearsal};
 ghost use Rattle.context_core.specs.Preparing.{with_answers, answers_of, IsEnded};
 
+use crate::answerers::{Answerer, ByCaller, ByThreads};
 use crate::books::Books;
 use crate::lanes::Lane;
 use crate::preparing::{books, lanes, no_answers};
@@ -202,13 +203,51 @@ fn take_back(alloc: Global, lanes: &mut [Lane], answers: &mut [LaneAnswers])
     }
 }
 
+// The steps of all lanes by the schedule, and then their answers.
+fn rehearse_with<C: Crew, A: Answerer>(
+    crew: &C,
+    answerer: &A,
+    alloc: Global,
+    plan: &Plan,
+    contexts: &[Option<Context>],
+    schedule: &[u8],
+    answers: &mut Answers,
+) -> Result<(), AllocError>
+    requires crew { C.ready crew.now }
+    requires answerer { A.ready answerer.now }
+    requires within { IsWithinLimits plan.now }
+    requires standing { AreOfLines plan.now.contexts contexts.now }
+    requires room { answers.old ≡ room_for plan.now answers.old.keys answers.old.contexts
+        (export_limits contexts.now) }
+    requires replies { (length answers.old.keys ≡ length plan.now.keys)
+        × (length answers.old.contexts ≡ length plan.now.contexts) }
+    ensures answered { OnOk result (AreAnswersOf (rehearsed plan.now contexts.now schedule.now)
+        answers.new) }
+    ensures set_up { OnOk result ((answers.new.keys ≡ answers.old.keys)
+        × (answers.new.contexts ≡ answers.old.contexts)) }
+    ensures printable { OnOk result (IsAnswered plan.now answers.new) }
+    ensures kept { OnErr result (answers.new ≡ answers.old) }
+{
+    let mut rehearsal = begun(crew, alloc, plan, contexts, &mut answers.lanes)?;
+    rehearsal.run(crew, plan, contexts, schedule);
+    answerer.answer_lanes(plan, contexts, rehearsal.lanes.as_mut_slice());
+    take_back(
+        alloc,
+        rehearsal.lanes.as_mut_slice(),
+        answers.lanes.as_mut_slice(),
+    );
+    write_journals(&rehearsal.books.books, answers.journals.as_mut_slice());
+    Ok(())
+}
+
 /// Serves the lanes of a plan on one thread but for the tests of tags, which are the crew's, and fills
 /// the answers that were made for the plan and these contexts.
 ///
 /// Each number of the schedule is that of a lane, which does its next step; one at its end, or that
 /// isn't there, does nothing. Then lane 0 goes on to its end, then lane 1, and so on. The steps of a
 /// call are those of core_schedules: Finish for a call that is refused and for an export; Draw and
-/// Finish for a seal; Guess, Check, Commit and Finish for an opening.
+/// Finish for a seal; Guess, Check, Commit and Finish for an opening. A Finish encrypts and decrypts
+/// nothing: the lanes are answered when all calls are done, one after another.
 ///
 /// All memory is taken before the first step.
 pub fn rehearse_by<C: Crew>(
@@ -233,19 +272,12 @@ pub fn rehearse_by<C: Crew>(
     ensures printable { OnOk result (IsAnswered plan.now answers.new) }
     ensures kept { OnErr result (answers.new ≡ answers.old) }
 {
-    let mut rehearsal = begun(crew, alloc, plan, contexts, &mut answers.lanes)?;
-    rehearsal.run(crew, plan, contexts, schedule);
-    take_back(
-        alloc,
-        rehearsal.lanes.as_mut_slice(),
-        answers.lanes.as_mut_slice(),
-    );
-    write_journals(&rehearsal.books.books, answers.journals.as_mut_slice());
-    Ok(())
+    rehearse_with(crew, &ByCaller, alloc, plan, contexts, schedule, answers)
 }
 
 /// Serves the lanes of a plan as [`rehearse_by`] does. The tags of a large opening are tested ahead by
-/// several threads, which are joined in the same step.
+/// several threads, which are joined in the same step. Up to four threads answer the lanes, each some
+/// of them, where there is much to write.
 pub fn rehearse<R: Threads + Sync>(
     rt: &R,
     alloc: Global,
@@ -267,8 +299,10 @@ pub fn rehearse<R: Threads + Sync>(
     ensures printable { OnOk result (IsAnswered plan.now answers.new) }
     ensures kept { OnErr result (answers.new ≡ answers.old) }
 {
-    rehearse_by(
+    let answerer = ByThreads::new(rt, answers.lanes.as_slice());
+    rehearse_with(
         &OnThreads::new(rt),
+        &answerer,
         alloc,
         plan,
         contexts,

@@ -5,12 +5,13 @@ mod rows;
 mod wants;
 
 use plans::{
-    A0, A1, C0, C1, CHANGED_TAG_AT, FIVE_CHANGED_TAGS_AT, P, REPLAY_AT, STALE_GUESS_AT,
-    TWO_CONTEXTS_AT, X1, rehearsed, seal, unseal, unseal_all,
+    A0, A1, C0, C1, CHANGED_TAG_AT, FIVE_CHANGED_TAGS_AT, NONE, P, REPLAY_AT, STALE_GUESS_AT,
+    TWO_CONTEXTS_AT, X1, export, rehearsed, seal, seal_by_recipient, unseal, unseal_all,
+    unseal_by_sender,
 };
 use rows::{
-    CHANGED_TAG, FIVE_CHANGED_TAGS, LANE_1_FIRST, LANES_NOT_THERE, LIMIT_1, REPLAY, STALE_GUESS,
-    TWO_CONTEXTS,
+    ALL_KINDS, CHANGED_TAG, FIVE_CHANGED_TAGS, LANE_1_FIRST, LANES_NOT_THERE, LIMIT_1, REPLAY,
+    STALE_GUESS, TWO_CONTEXTS,
 };
 use std::alloc::Global;
 use std::process::Abort;
@@ -106,4 +107,30 @@ fn limit_1<R: Threads + Sync + Abort>(rt: &R, alloc: Global) {
 fn stamps_and_limits_are_those_of_all_contexts(rt: HostRuntime) {
     two_contexts(&rt, rt.alloc());
     limit_1(&rt, rt.alloc());
+}
+
+// By tools/reference/hpkebatch.py of the same batch, `rehearse 0,1,1,1,0,1,0,1,1,0,1`. Both openings
+// of lane 0 have steps of their own, and its calls end while lane 1 is in the midst of one.
+#[test]
+fn each_call_is_answered_with_its_own_number_and_steps(rt: HostRuntime) {
+    let answers = rehearsed(
+        &rt,
+        rt.alloc(),
+        9,
+        &[
+            seal(A1, P),
+            unseal_all(CHANGED_TAG_AT, 3),
+            export(0, NONE),
+            seal_by_recipient(A0, P),
+            unseal_all(STALE_GUESS_AT, 1),
+        ],
+        &[
+            unseal_by_sender(A0, C0),
+            seal(A0, P),
+            unseal(A0, C0),
+            export(1, A1),
+        ],
+        &[0, 1, 1, 1, 0, 1, 0, 1, 1, 0, 1],
+    );
+    expect(&rt, rt.alloc(), &answers, &ALL_KINDS);
 }

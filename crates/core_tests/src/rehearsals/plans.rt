@@ -47,7 +47,7 @@ pub(crate) const X1: Span = Span {
     len: 45,
 };
 
-const NONE: Span = Span { start: 0, len: 0 };
+pub(crate) const NONE: Span = Span { start: 0, len: 0 };
 
 // Where the items of each opening of several messages begin.
 pub(crate) const CHANGED_TAG_AT: u32 = 0;
@@ -108,6 +108,36 @@ pub(crate) fn unseal_all(first: u32, count: u32) -> CallLine
         context: 1,
         first,
         count,
+    }
+}
+
+/// A recipient's context doesn't seal.
+pub(crate) fn seal_by_recipient(aad: Span, text: Span) -> CallLine
+    ensures { result ≡ CallLine.Seal 1 (record { aad = aad; text = text }) }
+{
+    CallLine::Seal {
+        context: 1,
+        item: Item { aad, text },
+    }
+}
+
+/// A sender's context doesn't open.
+pub(crate) fn unseal_by_sender(aad: Span, text: Span) -> CallLine
+    ensures { result ≡ CallLine.Unseal 0 (record { aad = aad; text = text }) }
+{
+    CallLine::Unseal {
+        context: 0,
+        item: Item { aad, text },
+    }
+}
+
+pub(crate) fn export(context: u32, exporter: Span) -> CallLine
+    ensures { result ≡ CallLine.Export context exporter 32 }
+{
+    CallLine::Export {
+        context,
+        exporter,
+        size: 32,
     }
 }
 

@@ -1,7 +1,8 @@
-//! The rows of the rehearsals: what lanes are answered with, and journals. They are own, by hand.
+//! The rows of the rehearsals: what lanes are answered with, and journals. They are own, by hand, but
+//! for the last one.
 
 use crate::rehearsals::wants::{LaneWant, Want};
-use batch_plans::{Batch, Reply};
+use batch_plans::{Batch, CallRefusal, Reply};
 use call_places::Span;
 
 // RFC 9180, A.1.1.1: pt, and the ciphertexts of the sequence numbers 0 and 1.
@@ -250,5 +251,89 @@ pub(crate) const LIMIT_1: Want = Want {
     journals: [
         &[(0, 0, 0, 0), (0, 1, 0, 1)],
         &[(1, 0, 0, 2), (1, 1, 0, 3), (1, 2, 0, 4)],
+    ],
+};
+
+// By tools/reference/hpkebatch.py, with the room for what failed.
+pub(crate) const ALL_KINDS: Want = Want {
+    name: "all kinds of calls",
+    lanes: [
+        LaneWant {
+            pool: &[
+                "f938558b5d72f1a23810b4be2ab4f84331acc02fc97babc53a52ae8218\
+                cedaeec0560dc421ed0683c829888eae",
+                NO_TEXT,
+                NO_TEXT,
+                TEXT,
+                "3853fe2b4035195a573ffc53856e77058e15d9ea064de3e59f4961d0095250ee",
+                NO_TEXT,
+            ],
+            replies: &[
+                Reply::Sealed {
+                    number: 0,
+                    text: Span { start: 0, len: 45 },
+                },
+                Reply::Failed { number: 1 },
+                Reply::Failed { number: 1 },
+                Reply::Opened {
+                    number: 1,
+                    text: Span {
+                        start: 103,
+                        len: 29,
+                    },
+                },
+                Reply::Exported {
+                    text: Span {
+                        start: 132,
+                        len: 32,
+                    },
+                },
+                Reply::Refused(CallRefusal::Role),
+                Reply::Failed { number: 2 },
+            ],
+            batches: &[
+                Batch {
+                    guess: 0,
+                    missed: 1,
+                },
+                Batch {
+                    guess: 2,
+                    missed: 0,
+                },
+            ],
+        },
+        LaneWant {
+            pool: &[
+                "af2d7e9ac9ae7e270f46ba1f975be53c09f8d875bdc8535458c2494e8a\
+                032462b1d2adaa886bc5a30d0ab2e400",
+                TEXT,
+                "c64c2b1762c6f6ad6869ed74054443eedfb338d4773e4bcbf1defb823847a422",
+            ],
+            replies: &[
+                Reply::Refused(CallRefusal::Role),
+                Reply::Sealed {
+                    number: 1,
+                    text: Span { start: 0, len: 45 },
+                },
+                Reply::Opened {
+                    number: 0,
+                    text: Span { start: 45, len: 29 },
+                },
+                Reply::Exported {
+                    text: Span { start: 74, len: 32 },
+                },
+            ],
+            batches: &[],
+        },
+    ],
+    journals: [
+        &[(0, 0, 0, 0), (1, 1, 0, 1)],
+        &[
+            (1, 2, 0, 2),
+            (0, 1, 0, 3),
+            (0, 1, 1, 4),
+            (0, 1, 2, 5),
+            (0, 4, 0, 6),
+        ],
     ],
 };

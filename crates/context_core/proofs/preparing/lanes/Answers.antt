@@ -1,9 +1,22 @@
-use Rattle.std.proofs.Common.{◌<◌, ℕ, ◌+◌, List, length, get_or, sym, ap, subst, arith}
+use Rattle.std.proofs.Common.{◌<◌, ◌≤◌, ℕ, ◌+◌, List, length, get_or, sym, ap, ◌∙◌, subst, arith}
+use Rattle.std.specs.Prelude.{sum_by}
 use Rattle.batch_plans.specs.declared.plan.CallLine.{CallLine}
 use Rattle.context_core.specs.declared.lanes.Lane.{Lane}
 use Rattle.context_core.specs.Preparing.{IsFresh}
-use Rattle.context_core.proofs.Fresh.{fresh_more}
+use Rattle.context_core.specs.Following.{opened_count}
+use Rattle.context_core.proofs.Fresh.{fresh_more, opened_few}
 use Rattle.context_core.proofs.preparing.lanes.Goals as goal
+
+pub lane-requires : goal.lane-requires
+lane-requires c =
+    let i = c.lanes.calls-index in
+    let items = c.as_slice-calls-items.ensures.items in
+    let low = c.lanes-test.true in
+    let few = opened_few c.args.plan.now i c.calls-item.result c.requires
+    (omega (arith, low, ap length items)) in
+    let is = c.as_slice.ensures.items ∙ c.calls-item.is
+    ∙ ap (λ lanes. get_or lanes i c.calls-item.result) items in
+    subst (λ calls. sum_by opened_count calls ≤ 65536) (sym is) few
 
 pub lanes-preserved : goal.lanes-preserved
 lanes-preserved c =

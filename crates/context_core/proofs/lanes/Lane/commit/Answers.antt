@@ -1,17 +1,16 @@
-use Rattle.std.proofs.Common.{◌≡◌, ◌≤◌, ◌++◌, length, take, drop, List, refl, sym, ap, ◌∙◌, subst, arith}
+use Rattle.std.proofs.Common.{◌≡◌, ◌≤◌, ◌+◌, ◌-◌, length, take, drop, List, refl, sym, ap, ◌∙◌, subst, arith}
 use Rattle.std.specs.List.{All}
-use Rattle.std.specs.Vec.{with_items}
-use Rattle.std.proofs.lemmas.List.{take-append-le, take_all}
+use Rattle.std.proofs.lemmas.List.{take_rest, length-drop}
 use Rattle.call_places.specs.declared.spans.Item.{Item}
 use Rattle.call_places.specs.Spans.{ItemIsInPool}
-use Rattle.batch_plans.specs.Limits.{items_of}
 use Rattle.batch_plans.specs.Calls.{context_of}
 use Rattle.due_replies.specs.Standing.{standing_at}
 use Rattle.context_core.specs.Books.{book_at, MayAdd, Settles}
 use Rattle.context_core.specs.declared.lanes.Stage.TheVariants.{Settled}
-use Rattle.lane_replies.specs.LaneCalls.{opening_items, lane_calls}
-use Rattle.lane_replies.proofs.Within.{call_low, line_within, opening_spans, opening_count, of_call}
-use Rattle.context_core.proofs.Served.{may_settle, settled_follows, tested_opens}
+use Rattle.lane_replies.specs.LaneCalls.{opening_items}
+use Rattle.lane_replies.proofs.Within.{call_low, line_within, opening_spans}
+use Rattle.context_core.proofs.Notes.{written_front, written_size, written_back}
+use Rattle.context_core.proofs.Served.{may_settle, settled_follows, tested_opens, steps_left}
 use Rattle.context_core.proofs.lanes.Lane.commit.Goals as goal
 
 pub items_of_opening-items-requires : goal.items_of_opening-items-requires
@@ -45,18 +44,18 @@ settle-first-requires-clause-steps c =
     let plan = c.args.plan.now in
     let lane = c.args.self.now in
     let call = c.args.call.now in
-    let fits = line_within plan c.args.lane lane.call call m.within m.there m.call_is in
+    let old = c.deref_mut.result.now in
     let opens = tested_opens plan c.args.contexts.now m.within m.standing c.args.lane lane
     c.args.books.now call m.call_is m.there m.core m.follows c.requires.stage in
-    let count = opening_count plan call opens.opening fits in
-    let most = of_call (λ x. items_of x ≤ length lane.steps.items) (lane_calls plan c.args.lane)
-    lane.call call m.follows.lane_follows.tools.steps_room m.call_is in
+    let left = steps_left plan c.args.contexts.now m.within m.standing c.args.lane lane
+    c.args.books.now call m.call_is m.there m.core m.follows opens.opening c.requires.stage in
     omega (
       arith,
       ap length c.items_of_opening-items.ensures,
-      count,
-      most,
-      ap length c.as_mut_slice-steps.ensures.value,
+      left,
+      ap length c.deref_mut.ensures.value,
+      ap length (take_rest old lane.settled),
+      length-drop lane.settled old,
     )
 
 pub settle-first-requires-clause-room : goal.settle-first-requires-clause-room
@@ -93,13 +92,15 @@ returns c = λ w at there t.
     ∙ c.in-Some.ensures in
     let first = c.settle-first.result.0 in
     let misses = c.settle-first.result.1 in
-    let steps = c.settle-first.new.steps in
-    let size : length steps ≡ length lane.steps.items = c.settle-first.auto.steps
-    ∙ ap length c.as_mut_slice-steps.ensures.value in
-    let len : lane.steps.len ≡ length lane.steps.items = lane.steps.ok.0 in
-    let all : take lane.steps.len (steps ++ drop (length steps) lane.steps.items) ≡ steps =
-    take-append-le lane.steps.len steps (drop (length steps) lane.steps.items) (omega arith)
-    ∙ take_all lane.steps.len steps (omega arith) in
+    let old = c.deref_mut.result.now in
+    let old_is : old ≡ lane.steps.items = c.deref_mut.ensures.value in
+    let new = c.settle-first.new.steps in
+    let size : length old ≡ lane.steps.len = c.deref_mut.ensures.len in
+    let left = steps_left plan contexts m.within m.standing c.args.lane lane books call at there w t
+    opens.opening c.requires.stage in
+    let low : lane.settled ≤ lane.steps.len = (let e = ap length old_is in omega arith) in
+    let same : length new ≡ length (take (length old - lane.settled) (drop lane.settled old)) =
+    c.settle-first.auto.steps in
     let items_are = c.items_of_opening-items.ensures in
     let number_is = c.context_of-number.ensures in
     let pool_is = c.as_slice-pool.ensures.items in
@@ -107,17 +108,28 @@ returns c = λ w at there t.
     let guess = lane.table.guess in
     settled_follows plan contexts m.within m.standing c.args.lane lane books call at there w t
     opens.opening opens.free view stands
-    (record lane { stage = Settled first misses; steps = with_items lane.steps steps })
-    c.settle-first.new.books first misses c.requires.stage refl refl refl refl
-    (ap length all ∙ size)
-    (take (length (opening_items plan call)) steps)
-    (ap (take (length (opening_items plan call))) all)
+    _ c.settle-first.new.books first misses c.requires.stage
+    (record {
+      same = refl;
+      stage = ap (λ g. Settled g first misses lane.settled) c.guess.ensures;
+      progress = refl;
+      notes = refl;
+      table = refl;
+      kept = written_front old new _ _ lane.settled lane.steps.len size low same
+          ∙ ap (take lane.settled) old_is;
+      size = written_size old new _ _ lane.settled lane.steps.len size low same
+          ∙ ap length old_is;
+      settled = ap (λ (xs : List Item). lane.settled + length xs) items_are;
+    })
+    (take (length (opening_items plan call)) new)
+    (ap (take (length (opening_items plan call)))
+    (written_back old new _ _ lane.settled lane.steps.len size low same))
     (λ book is.
     let s = c.settle-first.ensures book (ap (book_at books) number_is ∙ is) in
     let s_number = subst (λ n. Settles books c.settle-first.new.books n book view
     c.as_slice-pool.result.now items c.args.lane lane.call guess first misses
-    (take (length items) steps)) number_is s in
+    (take (length items) new)) number_is s in
     let s_pool = subst (λ pool. Settles books c.settle-first.new.books (context_of call) book view pool items
-    c.args.lane lane.call guess first misses (take (length items) steps)) pool_is s_number in
+    c.args.lane lane.call guess first misses (take (length items) new)) pool_is s_number in
     subst (λ (xs : List Item). Settles books c.settle-first.new.books (context_of call) book view plan.pool xs
-    c.args.lane lane.call guess first misses (take (length xs) steps)) items_are s_pool)
+    c.args.lane lane.call guess first misses (take (length xs) new)) items_are s_pool)

@@ -1,10 +1,22 @@
+use Rattle.std.proofs.Common.{inl, inr}
+use Rattle.context_core.proofs.Served.{done_drawn, done_settled}
 use Rattle.context_core.proofs.lanes.Lane.step.Goals as goal
-
-pub returns-in-Drawn : goal.returns-in-Drawn
-returns-in-Drawn g c = c.finish_seal.ensures c.args.lane c.args.books.now
 
 pub returns-in-Guessed : goal.returns-in-Guessed
 returns-in-Guessed g c = c.test.ensures c.args.lane c.args.books.now
 
-pub returns-in-Settled : goal.returns-in-Settled
-returns-in-Settled g c = c.finish_opening.ensures c.args.lane c.args.books.now
+pub returns-in-Drawn : goal.returns-in-Drawn
+returns-in-Drawn g c = λ w at there t.
+    let m = c.requires.may in
+    let plan = c.args.plan.now in
+    let contexts = c.args.contexts.now in
+    let lane = c.args.self.now in
+    let books = c.args.books.now in
+    let call = c.args.call.now in
+    let new = c.finish.new.self in
+    elim c.in-Drawn.is [
+      | inl e ↦ done_drawn plan contexts m.within m.standing c.args.lane lane books call at there w t
+          new e.0 e.1 c.finish.ensures
+      | inr e ↦ done_settled plan contexts m.within m.standing c.args.lane lane books call at there
+          w t new e.0 e.1 e.2 e.3 e.4 c.finish.ensures
+    ]

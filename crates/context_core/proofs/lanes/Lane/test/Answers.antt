@@ -71,6 +71,15 @@ returns g c = λ l books w at there t.
     (sealed_messages plan.pool (opening_items plan call))) c.in-Some-Some.ensures'.nonce fits_key in
     tested_follows plan contexts m.within m.standing l lane books call at there w t opens.opening
     opens.free view (ap (λ n. standing_at contexts n) (sym c.context_of.ensures) ∙ c.in-Some.ensures)
-    (record lane { stage = Tested; table = table }) c.args.guess c.requires.stage refl refl refl
-    c.fill.ensures.room refl c.fill.ensures.guess
+    (record lane { stage = Tested; table = table }) c.args.guess c.requires.stage
+    (record {
+      same = refl;
+      stage = refl;
+      progress = refl;
+      notes = refl;
+      rows = c.fill.ensures.room;
+      steps = refl;
+      settled = refl;
+    })
+    c.fill.ensures.guess
     (record { limit = c.fill.ensures.limit ∙ c.limit-limit.ensures.limit; fits = fits })
