@@ -17,7 +17,7 @@ use batch_io::{Gate, Sink};
 use batch_plans::{Answers, Plan};
 use batch_words::Mult;
 use live_frames::read_live;
-use live_runs::run_live;
+use shared_runs::run_live;
 use std::alloc::{AllocError, Global};
 use std::sync::Wait;
 use std::thread::Threads;

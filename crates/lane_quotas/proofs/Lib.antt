@@ -1,3 +1,4 @@
 pub mod Sums
 pub mod Counts
+pub mod Columns
 pub mod Places

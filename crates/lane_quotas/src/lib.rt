@@ -2,9 +2,9 @@
 //!
 //! A batch and its contexts alone decide which calls may be served, so how many entries a lane adds
 //! at most is known before the first call. If no lane adds contexts, it adds exactly that many.
-//! [`quotas`] counts them for one context: a seal or an opening adds one for each of its items (RFC
+//! [`all_quotas`] counts them for all contexts: a seal or an opening adds one for each of its items (RFC
 //! 9180, 5.2) to the book of the context that serves it; an export and a refused call add none.
-//! `lane_quota` of `specs/Quotas.antt` says so.
+//! `lane_quota` of `specs/Quotas.antt` says so. [`quotas`] counts them for one context.
 //!
 //! Once the lanes are served, [`write_journals`] writes the marks of each book over the room that
 //! was made for the journal of its context.
@@ -17,5 +17,5 @@
 mod counting;
 mod journals;
 
-pub use counting::{quotas, quotas_of};
+pub use counting::{all_quotas, quotas};
 pub use journals::write_journals;

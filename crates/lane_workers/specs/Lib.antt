@@ -10,3 +10,4 @@ pub mod LiveGathered
 pub mod LiveLanes
 pub mod LiveReturned
 pub mod Handing
+pub mod Services

@@ -5,7 +5,7 @@ ghost use Rattle.batch_plans.specs.Limits.{IsWithinLimits};
 ghost use Rattle.batch_plans.specs.Names.{line_count};
 ghost use Rattle.due_replies.specs.Live.{Noting, noting};
 ghost use Rattle.lane_replies.specs.LaneCalls.{lane_calls};
-ghost use Rattle.lane_workers.specs.LiveLanes.{lives, standing, add_refusal, finds, IsOnContext, AreSharedLive, MayAnswerLive, IsNotedLive, IsToldLive, IsOneOnLive};
+ghost use Rattle.lane_workers.specs.LiveLanes.{standing, add_refusal, finds, IsOnContext, AreSharedLive, MayAnswerLive, IsNotedLive, IsToldLive, IsOneOnLive};
 ghost use Rattle.lane_workers.specs.LiveReturned.{IsFreshLive, IsServedLive};
 
 use crate::calls::Service;
@@ -44,16 +44,15 @@ fn psk_refusal(plan: &Plan, name: u32) -> Option<CallRefusal>
 }
 
 impl<R: Threads + Wait + Sync, G: Gate> LiveService<'_, R, G> {
+    ghost use Rattle.lane_workers.specs.Services.{live_view};
+
     // Notes what a call does to a name, and tells whether the name was live.
     fn note(&self, lane: &mut LiveLane, call: u32, name: u32, act: Act) -> bool
         requires { (line : CallLine)
-            × MayAnswerLive (lives self.now.service.plan.now self.now.service.contexts.now
-            self.now.table.now self.now.service.counter) call line lane.old
-            × (noting self.now.service.plan.now (standing (lives self.now.service.plan.now
-            self.now.service.contexts.now self.now.table.now self.now.service.counter)) line
+            × MayAnswerLive (live_view self.now) call line lane.old
+            × (noting self.now.service.plan.now (standing (live_view self.now)) line
             ≡ Some (record { act = act; name = name })) }
-        ensures { IsToldLive (lives self.now.service.plan.now self.now.service.contexts.now
-            self.now.table.now self.now.service.counter) call result lane.old lane.new }
+        ensures { IsToldLive (live_view self.now) call result lane.old lane.new }
     {
         let counter = self.service.counter.unwrap();
         let pass = lane.pass.take().unwrap();
@@ -68,10 +67,8 @@ impl<R: Threads + Wait + Sync, G: Gate> LiveService<'_, R, G> {
 
     // Adds a context, unless its psk inputs are at fault.
     fn add(&self, lane: &mut LiveLane, call: u32, name: u32)
-        requires may { MayAnswerLive (lives self.now.service.plan.now self.now.service.contexts.now
-            self.now.table.now self.now.service.counter) call (CallLine.Add name) lane.old }
-        ensures { IsOneOnLive (lives self.now.service.plan.now self.now.service.contexts.now
-            self.now.table.now self.now.service.counter) call lane.old lane.new }
+        requires may { MayAnswerLive (live_view self.now) call (CallLine.Add name) lane.old }
+        ensures { IsOneOnLive (live_view self.now) call lane.old lane.new }
     {
         if let Some(refusal) = psk_refusal(self.service.plan, name) {
             refuse(&mut lane.work.progress, refusal);
@@ -83,10 +80,8 @@ impl<R: Threads + Wait + Sync, G: Gate> LiveService<'_, R, G> {
 
     // Retires a name, where it is live.
     fn retire(&self, lane: &mut LiveLane, call: u32, name: u32)
-        requires may { MayAnswerLive (lives self.now.service.plan.now self.now.service.contexts.now
-            self.now.table.now self.now.service.counter) call (CallLine.Retire name) lane.old }
-        ensures { IsOneOnLive (lives self.now.service.plan.now self.now.service.contexts.now
-            self.now.table.now self.now.service.counter) call lane.old lane.new }
+        requires may { MayAnswerLive (live_view self.now) call (CallLine.Retire name) lane.old }
+        ensures { IsOneOnLive (live_view self.now) call lane.old lane.new }
     {
         if name < self.service.plan.added && self.note(lane, call, name, Act::Retire) {
             lane.work.progress.put(Reply::Retired);
@@ -98,11 +93,9 @@ impl<R: Threads + Wait + Sync, G: Gate> LiveService<'_, R, G> {
     // Whether a call finds its context: one of a context line always may, another one where its name
     // is live.
     fn finds(&self, lane: &mut LiveLane, call: u32, line: &CallLine) -> bool
-        requires may { MayAnswerLive (lives self.now.service.plan.now self.now.service.contexts.now
-            self.now.table.now self.now.service.counter) call line.now lane.old }
+        requires may { MayAnswerLive (live_view self.now) call line.now lane.old }
         requires call { IsOnContext line.now }
-        ensures { (noted : IsNotedLive (lives self.now.service.plan.now
-            self.now.service.contexts.now self.now.table.now self.now.service.counter) call lane.old
+        ensures { (noted : IsNotedLive (live_view self.now) call lane.old
             lane.new) × (finds noted.is_at.pass.seen lane.old.work.lane call line.now ≡ result) }
     {
         let number = context_of(line);
@@ -115,11 +108,9 @@ impl<R: Threads + Wait + Sync, G: Gate> LiveService<'_, R, G> {
 
     // A call on a context, which it may not find.
     fn call(&self, lane: &mut LiveLane, call: u32, line: &CallLine)
-        requires may { MayAnswerLive (lives self.now.service.plan.now self.now.service.contexts.now
-            self.now.table.now self.now.service.counter) call line.now lane.old }
+        requires may { MayAnswerLive (live_view self.now) call line.now lane.old }
         requires call { IsOnContext line.now }
-        ensures { IsOneOnLive (lives self.now.service.plan.now self.now.service.contexts.now
-            self.now.table.now self.now.service.counter) call lane.old lane.new }
+        ensures { IsOneOnLive (live_view self.now) call lane.old lane.new }
     {
         if self.finds(lane, call, line) {
             let placed = self.service.plan.at_position(line);
@@ -130,10 +121,8 @@ impl<R: Threads + Wait + Sync, G: Gate> LiveService<'_, R, G> {
     }
 
     fn answer(&self, lane: &mut LiveLane, call: u32, line: &CallLine)
-        requires may { MayAnswerLive (lives self.now.service.plan.now self.now.service.contexts.now
-            self.now.table.now self.now.service.counter) call line.now lane.old }
-        ensures { IsOneOnLive (lives self.now.service.plan.now self.now.service.contexts.now
-            self.now.table.now self.now.service.counter) call lane.old lane.new }
+        requires may { MayAnswerLive (live_view self.now) call line.now lane.old }
+        ensures { IsOneOnLive (live_view self.now) call lane.old lane.new }
     {
         match *line {
             CallLine::Add { name } => self.add(lane, call, name),
@@ -150,12 +139,9 @@ impl<R: Threads + Wait + Sync, G: Gate> LiveService<'_, R, G> {
 
     /// Serves the calls of a lane in their order.
     pub(crate) fn serve_lane(&self, lane: &mut LiveLane)
-        requires shared { AreSharedLive (lives self.now.service.plan.now
-            self.now.service.contexts.now self.now.table.now self.now.service.counter) }
-        requires fresh { IsFreshLive (lives self.now.service.plan.now
-            self.now.service.contexts.now self.now.table.now self.now.service.counter) lane.old }
-        ensures { IsServedLive (lives self.now.service.plan.now self.now.service.contexts.now
-            self.now.table.now self.now.service.counter) lane.old lane.new }
+        requires shared { AreSharedLive (live_view self.now) }
+        requires fresh { IsFreshLive (live_view self.now) lane.old }
+        ensures { IsServedLive (live_view self.now) lane.old lane.new }
     {
         let lines = self.service.plan.lanes.as_slice()[lane.work.lane as usize].as_slice();
         'calls: for (call, line) in lines.iter().enumerate() {

@@ -8,7 +8,7 @@ ghost use Rattle.lane_workers.specs.LiveReturned.{IsFreshLive, IsServedLive, All
 use crate::calls::Service;
 use crate::live_calls::LiveService;
 use crate::live_lane::LiveLane;
-use crate::serving::{ServesLanes, serve_by};
+use crate::serving::{ServesLanes, is_busy, serve_by};
 use crate::works::SharedList;
 use batch_io::Gate;
 use batch_plans::Plan;
@@ -18,16 +18,18 @@ use std::sync::Wait;
 use std::thread::Threads;
 
 impl<R: Threads + Wait + Sync, G: Gate + Sync> ServesLanes<LiveLane> for LiveService<'_, R, G> {
-    ghost may = { λ s l. IsSync R.row
-        × AreSharedLive (lives s.service.plan.now s.service.contexts.now s.table.now s.service.counter)
-        × IsFreshLive (lives s.service.plan.now s.service.contexts.now s.table.now s.service.counter)
-        l };
+    ghost use Rattle.lane_workers.specs.Services.{live_view};
 
-    ghost served = { λ s l m. IsServedLive
-        (lives s.service.plan.now s.service.contexts.now s.table.now s.service.counter) l m };
+    ghost may = { λ s l. IsSync R.row × AreSharedLive (live_view s) × IsFreshLive (live_view s) l };
+
+    ghost served = { λ s l m. IsServedLive (live_view s) l m };
 
     fn serve_one(&self, lane: &mut LiveLane) {
         self.serve_lane(lane);
+    }
+
+    fn has_calls(&self, lane: &LiveLane) -> bool {
+        is_busy(self.service.plan, lane.work.lane)
     }
 }
 

@@ -1,6 +1,6 @@
 //! Lanes by threads.
 
-ghost use Rattle.std.specs.Prelude.{◌<◌, ◌≤◌};
+ghost use Rattle.std.specs.Prelude.{◌<◌, ◌≤◌, length};
 ghost use Rattle.std.specs.Thread.{IsSync};
 ghost use Rattle.lane_workers.specs.Lanes.{AreShared};
 ghost use Rattle.lane_workers.specs.Groups.{IsFresh, IsServed, AllFresh, AllServed, Each, EachServed};
@@ -25,6 +25,17 @@ pub(crate) trait ServesLanes<L> {
     fn serve_one(&self, lane: &mut L)
         requires { may self.now lane.old }
         ensures { served self.now lane.old lane.new };
+
+    /// Whether the lane has calls. A worker is started for such a lane alone.
+    fn has_calls(&self, lane: &L) -> bool;
+}
+
+// Whether the lane of this number has calls.
+pub(crate) fn is_busy(plan: &Plan, lane: u32) -> bool {
+    match plan.lanes.as_slice().get(lane as usize) {
+        Some(calls) => !calls.as_slice().is_empty(),
+        None => false,
+    }
 }
 
 impl<R: Threads + Wait + Sync, G: Gate + Sync> ServesLanes<LaneWork> for Service<'_, R, G> {
@@ -35,6 +46,10 @@ impl<R: Threads + Wait + Sync, G: Gate + Sync> ServesLanes<LaneWork> for Service
 
     fn serve_one(&self, lane: &mut LaneWork) {
         self.serve_lane(lane);
+    }
+
+    fn has_calls(&self, lane: &LaneWork) -> bool {
+        is_busy(self.plan, lane.lane)
     }
 }
 
@@ -50,8 +65,38 @@ fn serve_group<L, S: ServesLanes<L>>(service: &S, lanes: &mut [L])
     serve_group(service, rest);
 }
 
-// Serves the lanes by so many workers, each of which has a group of lanes that stand side by side.
-// The sizes of the groups differ by one at most.
+// How many lanes have calls.
+fn busy_count<L, S: ServesLanes<L>>(service: &S, lanes: &[L]) -> usize
+    ensures { result ≤ length lanes.now }
+{
+    let mut busy = 0;
+    'lanes: for lane in lanes {
+        if service.has_calls(lane) {
+            busy += 1;
+        }
+    }
+    busy
+}
+
+// How many lanes stand before the one with calls that comes after so many others with calls.
+fn group_size<L, S: ServesLanes<L>>(service: &S, lanes: &[L], most: usize) -> usize
+    ensures { result ≤ length lanes.now }
+{
+    let mut left = most;
+    'lanes: for (i, lane) in lanes.iter().enumerate() {
+        if service.has_calls(lane) {
+            if left == 0 {
+                return i;
+            }
+            left -= 1;
+        }
+    }
+    lanes.len()
+}
+
+// Serves the lanes by so many workers at most, each of which has a group of lanes that stand side by
+// side. How many lanes with calls the groups have differs by one at most, and no group has none,
+// unless it is the only one: a worker that has nothing to do isn't started.
 #[cycle(serving)]
 pub(crate) fn serve_by<R: Threads + Sync, L: Send, S: ServesLanes<L> + Sync>(
     rt: &R,
@@ -63,11 +108,12 @@ pub(crate) fn serve_by<R: Threads + Sync, L: Send, S: ServesLanes<L> + Sync>(
     requires may { Each (S.may service.now) lanes.old }
     ensures { EachServed (S.served service.now) lanes.old lanes.new }
 {
-    if workers == 1 {
+    let busy = busy_count(service, lanes);
+    if workers == 1 || busy <= 1 {
         serve_group(service, lanes);
         return;
     }
-    let size = lanes.len().div_ceil(workers as usize).min(lanes.len());
+    let size = group_size(service, lanes, busy.div_ceil(workers as usize));
     let (group, others) = lanes.split_at_mut(size);
     serve_beside(rt, service, group, others, workers - 1);
 }
@@ -103,8 +149,8 @@ fn serve_beside<R: Threads + Sync, L: Send, S: ServesLanes<L> + Sync>(
 
 /// Serves the lanes of a plan by so many workers, from 1 to 16.
 ///
-/// The lanes are divided among the workers in groups that stand side by side, whose sizes differ by
-/// one at most. `gate` is told after each draw, after each guess, and when a call's replies stand.
+/// The lanes are divided among the workers in groups that stand side by side, which have as many lanes
+/// with calls, or one less. No more workers are started than there are such lanes. `gate` is told after each draw, after each guess, and when a call's replies stand.
 /// Takes no memory. It may wait for turns at the contexts' locks.
 pub fn serve<R: Threads + Wait + Sync, G: Gate + Sync>(
     rt: &R,

@@ -11,11 +11,11 @@ use Rattle.shared_context.specs.Calls.{SharedView}
 use Rattle.batch_plans.specs.declared.plan.Plan.{Plan}
 use Rattle.batch_plans.specs.Limits.{IsWithinLimits}
 use Rattle.due_replies.specs.Standing.{standing_at}
-use Rattle.lane_quotas.specs.Quotas.{lane_quota}
+use Rattle.lane_quotas.specs.Quotas.{lane_quota, quotas_on, all_quotas}
 use Rattle.lane_quotas.proofs.Counts.{all_quotas_few}
 use Rattle.lane_workers.specs.Handing.{list_at}
 use Rattle.lane_workers.specs.Turns.{shared_at, view_in, views}
-use Rattle.shared_runs.specs.Sharing.{quotas_on, all_quotas, IsSharedBy, Shares, SharesEach}
+use Rattle.shared_runs.specs.Sharing.{IsSharedBy, Shares, SharesEach}
 use Rattle.shared_runs.specs.Tables.{AreLeft}
 
 -- ---- quotas

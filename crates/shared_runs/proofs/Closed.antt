@@ -20,7 +20,7 @@ use Rattle.gathered_lanes.specs.Lanes.{Closes}
 use Rattle.batch_plans.specs.declared.plan.Plan.{Plan}
 use Rattle.batch_plans.specs.Calls.{context_of, items_on}
 use Rattle.due_replies.specs.Standing.{AreOfLines, standing_at, refusal_on, export_limits}
-use Rattle.lane_quotas.specs.Quotas.{lane_quota}
+use Rattle.lane_quotas.specs.Quotas.{lane_quota, quotas_on}
 use Rattle.lane_quotas.proofs.Counts.{refused_call, other_context}
 use Rattle.lane_workers.specs.Handing.{list_at}
 use Rattle.lane_workers.specs.Served.{seen_of}
@@ -28,9 +28,9 @@ use Rattle.lane_workers.specs.Turns.{shared_at, view_in, views}
 use Rattle.lane_workers.proofs.Answering.{standing_view}
 use Rattle.lane_workers.proofs.Handing.{closes_over}
 use Rattle.shared_runs.specs.declared.tables.Table.{Table}
-use Rattle.shared_runs.specs.Sharing.{quotas_on}
+use Rattle.shared_runs.specs.declared.tables.Left.{Left}
 use Rattle.shared_runs.specs.Tables.{planned, IsTable, HasStamps}
-use Rattle.shared_runs.specs.Collected.{IsListOf, AreBack, passes_of}
+use Rattle.shared_runs.specs.Collected.{IsListOf, ArePut, passes_of}
 use Rattle.shared_runs.specs.Closing.{entries_of, MayClose, ClosesBy, HasClosed, HasClosedAll}
 
 -- ---- quotas
@@ -152,15 +152,15 @@ pub record IsClosed (list : PassListView) (entries : List Entry) : Type 0 where
   pub rise : StampsRise entries
 
 -- the contexts below this number are closed: these are their books, and their seats were taken in
-pub record ClosedSoFar (t : Table) (number : ℕ) (books : List (Option BookView)) (seat : SeatView)
+pub record ClosedSoFar (t : Table) (l : Left) (number : ℕ) (books : List (Option BookView)) (seat : SeatView)
     : Type 0 where
   pub count : length books ≡ number
   pub counter : seat.counter ≡ t.counter.id
   pub none : (k : ℕ) → shared_at t.contexts k ≡ None → book_at books k ≡ None
   pub some : (k : ℕ) (s : SharedView) (list : PassListView) → k < number
-      → shared_at t.contexts k ≡ Some s → list_at t.passes.items k ≡ Some list
+      → shared_at t.contexts k ≡ Some s → list_at l.passes.items k ≡ Some list
       → IsClosed list (entries_of (book_at books k))
-  pub drawn : seat.drawn ≡ t.seat.drawn ++ flat_map stamps_of (map entries_of books)
+  pub drawn : seat.drawn ≡ l.seat.drawn ++ flat_map stamps_of (map entries_of books)
   pub few : (k : ℕ) → length (entries_of (book_at books k))
       ≤ sum (quotas_on (planned t) (views t.contexts) k)
   -- what the others will have
@@ -171,10 +171,10 @@ pub record ClosedSoFar (t : Table) (number : ℕ) (books : List (Option BookView
       (range_with_len number to_come)))
       ≡ t.counter.all
 
-module _ (t : Table) (table : IsTable t) where
+module _ (t : Table) (l : Left) (table : IsTable t) (of_counter : l.seat.counter ≡ t.counter.id) where
   -- none is closed
-  pub none_closed : HasStamps (length t.seat.drawn + t.seat.left) t
-      → (books : List (Option BookView)) → books ≡ [] → ClosedSoFar t 0 books t.seat
+  pub none_closed : HasStamps (length l.seat.drawn + l.seat.left) t
+      → (books : List (Option BookView)) → books ≡ [] → ClosedSoFar t l 0 books l.seat
   none_closed has books none =
       let count : length (views t.contexts) ≡ length t.contexts = length-map t.contexts view_in in
       let q = quotas_on (planned t) (views t.contexts) in
@@ -183,11 +183,11 @@ module _ (t : Table) (table : IsTable t) where
       ap (λ n. sum (map sum (map q (range_with_len 0 n)))) count in
       record {
         count = ap length none;
-        counter = table.seat;
+        counter = of_counter;
         none = λ k absent. ap (λ bs. book_at bs k) none;
         some = λ k s list low is back. absurd (omega arith);
-        drawn = sym (append-nil t.seat.drawn)
-            ∙ ap (λ bs. t.seat.drawn ++ flat_map stamps_of (map entries_of bs)) (sym none);
+        drawn = sym (append-nil l.seat.drawn)
+            ∙ ap (λ bs. l.seat.drawn ++ flat_map stamps_of (map entries_of bs)) (sym none);
         few = λ k. omega (arith, ap (λ bs. length (entries_of (book_at bs k))) none);
         to_come = length t.contexts;
         rest = omega arith;
@@ -197,10 +197,10 @@ module _ (t : Table) (table : IsTable t) where
   -- one more is closed
   pub closed_more : (number : ℕ) (books : List (Option BookView)) (seat new : SeatView)
       (context : Option SharedView) (list : Option PassListView) (book : Option BookView)
-      → ClosedSoFar t number books seat → number < length t.contexts
-      → shared_at t.contexts number ≡ context → list_at t.passes.items number ≡ list
+      → ClosedSoFar t l number books seat → number < length t.contexts
+      → shared_at t.contexts number ≡ context → list_at l.passes.items number ≡ list
       → MayClose t.counter.id context list → HasClosed context list seat new book
-      → ClosedSoFar t (number + 1) (books ++ book ∷ []) new
+      → ClosedSoFar t l (number + 1) (books ++ book ∷ []) new
   closed_more number books seat new context list book so_far low is back may has =
       with_rest so_far.to_come refl
     where
@@ -214,20 +214,20 @@ module _ (t : Table) (table : IsTable t) where
           (λ s some. ap (λ (x : Terms). sum x.quotas)
           (table.shared number s (is ∙ some)).terms)
 
-      its : (k : ℕ) (s : SharedView) (l : PassListView) → k ≡ number
-          → shared_at t.contexts k ≡ Some s → list_at t.passes.items k ≡ Some l
-          → IsClosed l (entries_of (book_at (books ++ book ∷ []) k))
-      its k s l same is_s is_l =
-          let h = has.some s l (sym is ∙ ap (shared_at t.contexts) (sym same) ∙ is_s)
-          (sym back ∙ ap (list_at t.passes.items) (sym same) ∙ is_l) in
+      its : (k : ℕ) (s : SharedView) (of : PassListView) → k ≡ number
+          → shared_at t.contexts k ≡ Some s → list_at l.passes.items k ≡ Some of
+          → IsClosed of (entries_of (book_at (books ++ book ∷ []) k))
+      its k s of same is_s is_l =
+          let h = has.some s of (sym is ∙ ap (shared_at t.contexts) (sym same) ∙ is_s)
+          (sym back ∙ ap (list_at l.passes.items) (sym same) ∙ is_l) in
           let last : k ≡ length books = same ∙ sym so_far.count in
           let found : book_at (books ++ book ∷ []) k ≡ Some h.0 =
           ap (book_at (books ++ book ∷ [])) last ∙ get_or-append_seam books book [] None ∙ h.1 in
-          subst (IsClosed l) (ap entries_of (sym found))
+          subst (IsClosed of) (ap entries_of (sym found))
           (record { shown = h.2.shown; others = h.2.others; rise = h.2.rise })
 
       with_rest : (n : ℕ) → so_far.to_come ≡ n
-          → ClosedSoFar t (number + 1) (books ++ book ∷ []) new
+          → ClosedSoFar t l (number + 1) (books ++ book ∷ []) new
       with_rest zero e = absurd (omega (arith, so_far.rest))
       with_rest (suc n) e =
           let left : length seat.drawn + seat.left
@@ -240,18 +240,18 @@ module _ (t : Table) (table : IsTable t) where
             none = λ k absent. none_more books book k (so_far.none k absent)
                 (λ last. (has.none (sym is ∙ ap (shared_at t.contexts)
                 (sym (last ∙ so_far.count)) ∙ absent)).0);
-            some = λ k s l below is_s is_l. elim (cases_lt k number) [
+            some = λ k s of below is_s is_l. elim (cases_lt k number) [
               | inl earlier ↦
                   (let there : k < length books = omega (arith, so_far.count) in
-                  subst (λ b. IsClosed l (entries_of b))
+                  subst (λ b. IsClosed of (entries_of b))
                   (sym (get_or_append_left books (book ∷ []) None k there))
-                  (so_far.some k s l earlier is_s is_l))
-              | inr later ↦ its k s l (omega arith) is_s is_l
+                  (so_far.some k s of earlier is_s is_l))
+              | inr later ↦ its k s of (omega arith) is_s is_l
             ];
             drawn = taken.drawn ∙ ap (λ ds. ds ++ stamps_of (entries_of book)) so_far.drawn
-                ∙ append_assoc t.seat.drawn (flat_map stamps_of (map entries_of books))
+                ∙ append_assoc l.seat.drawn (flat_map stamps_of (map entries_of books))
                 (stamps_of (entries_of book))
-                ∙ ap (λ ds. t.seat.drawn ++ ds) (drawn_more books book);
+                ∙ ap (λ ds. l.seat.drawn ++ ds) (drawn_more books book);
             few = few_more books book (λ k. sum (q k)) so_far.few
                 (subst (λ k. length (entries_of book) ≤ sum (q k)) (sym so_far.count) taken.few);
             to_come = n;
@@ -260,10 +260,10 @@ module _ (t : Table) (table : IsTable t) where
           }
 
   -- a context whose passes are back may be closed
-  pub may_close : (passes : List (List (Option PassView))) (back : AreBack t passes)
+  pub may_close : (passes : List (List (Option PassView))) (back : ArePut t l passes)
       → length passes ≡ length t.lanes.now → (number : ℕ) (context : Option SharedView)
       (list : Option PassListView) → shared_at t.contexts number ≡ context
-      → list_at t.passes.items number ≡ list → MayClose t.counter.id context list
+      → list_at l.passes.items number ≡ list → MayClose t.counter.id context list
   may_close passes back count number context list is at =
       record {
         none = λ none. sym at ∙ back.none number (is ∙ none);
@@ -285,7 +285,7 @@ module _ (t : Table) (table : IsTable t) where
 
   -- the seat has all that was drawn and all that is left
   pub all_taken : (number : ℕ) (books : List (Option BookView)) (seat : SeatView)
-      → ClosedSoFar t number books seat → length t.contexts ≤ number
+      → ClosedSoFar t l number books seat → length t.contexts ≤ number
       → length seat.drawn + seat.left ≡ t.counter.all
   all_taken number books seat so_far high =
       let none : so_far.to_come ≡ 0 = omega (arith, so_far.rest) in
@@ -296,8 +296,8 @@ module _ (t : Table) (table : IsTable t) where
       omega arith
 
   module _ (books : List (Option BookView)) (seat : SeatView)
-      (so_far : ClosedSoFar t (length t.contexts) books seat)
-      (passes : List (List (Option PassView))) (back : AreBack t passes)
+      (so_far : ClosedSoFar t l (length t.contexts) books seat)
+      (passes : List (List (Option PassView))) (back : ArePut t l passes)
       (count : length passes ≡ length t.lanes.now) where
     abbrev lanes : ℕ
     lanes = length t.lanes.now
@@ -330,7 +330,7 @@ module _ (t : Table) (table : IsTable t) where
         (omega (arith, e.2, by.count, count)))
 
     pub all_closed : (stamps : ℕ) → IsPermutation seat.drawn (range_with_len 0 stamps)
-        → HasClosedAll t passes (map entries_of books)
+        → HasClosedAll t l.seat.drawn passes (map entries_of books)
     all_closed stamps given = record {
       count = length-map books entries_of ∙ so_far.count
           ∙ sym (length-map t.contexts view_in) ∙ table.of_lines.count;

@@ -4,6 +4,7 @@ use Rattle.std.specs.Prelude.{◌⊎◌, slice_get}
 use Rattle.std.proofs.lemmas.Bool.Decides.{nat_tests}
 use Rattle.std.proofs.lemmas.List.{length-map, get_or-map, nil_from_length}
 use Rattle.legal_journals.proofs.Lists.{is_cases}
+use Rattle.shared_runs.specs.Serving.{InOrder}
 
 pub at_front : {X : Type 0} (xs ys : List X) (d : X) (k : ℕ) → k < length xs
     → get_or (xs ++ ys) k d ≡ get_or xs k d
@@ -40,6 +41,12 @@ pushed_at (x ∷ xs) y w (suc k) e = elim (pushed_at xs y w k e) [
   | inr here ↦ inr (ap suc here.0, here.1)
 ]
 
+-- what stands behind so many others
+pub got_here : {X : Type 0} (front rest : List X) (x : X)
+    → slice_get (front ++ x ∷ rest) (length front) ≡ Some x
+got_here [] rest x = refl
+got_here (y ∷ front) rest x = got_here front rest x
+
 -- an element of a list that is made of another, behind so many others
 module _ {X Y : Type 0} (f : Y → X) (ys : List Y) (all front rest : List X) (x : X)
     (is : all ≡ front ++ x ∷ rest) (of : all ≡ map f ys) where
@@ -75,3 +82,33 @@ no_elements xs e =
 
 pub some_elements : {X : Type 0} (xs : List X) → false ≡ (length xs == 0) → 0 < length xs
 some_elements xs e = grind (arith, nat_tests)
+
+-- ---- lanes in their order
+
+module _ {L : Type 0} (P : ℕ → L → Type 0) where
+  pub none_in_order : InOrder P 0 []
+  none_in_order = record { count_is = refl; each = λ lane l at. absurd (none_some l at) }
+    where
+      none_some : (l : L) → None ≡ Some l → ⊥
+      none_some l e = cc
+
+  pub one_in_order : (n : ℕ) (lanes : List L) (l : L) → InOrder P n lanes → P n l
+      → InOrder P (n + 1) (lanes ++ l ∷ [])
+  one_in_order n lanes l before here = record {
+    count_is = length-append lanes (l ∷ []) ∙ ap (λ k. k + 1) before.count_is;
+    each = λ lane x at. elim (pushed_at lanes l x lane at) [
+      | inl there ↦ before.each lane x there
+      | inr last ↦ subst (P lane) last.1
+          (subst (λ k. P k l) (sym (last.0 ∙ before.count_is)) here)
+    ];
+  }
+
+  -- the next one, behind so many others
+  module _ (n : ℕ) (lanes front rest : List L) (l : L) (all : InOrder P n lanes)
+      (is : lanes ≡ front ++ l ∷ rest) where
+    pub in_order_here : P (length front) l
+    in_order_here =
+        all.each (length front) l (ap (λ ls. slice_get ls (length front)) is ∙ got_here front rest l)
+
+    pub in_order_below : length front < n
+    in_order_below = omega (arith, ap length is, length-append front (l ∷ rest), all.count_is)

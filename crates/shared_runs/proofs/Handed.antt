@@ -16,9 +16,8 @@ use Rattle.lane_workers.specs.Handing.{list_at, TakesEach}
 use Rattle.lane_workers.specs.Returned.{IsGiven}
 use Rattle.lane_workers.specs.Served.{seen_of, seen_by}
 use Rattle.lane_workers.specs.Turns.{shared_at, pass_at, views}
-use Rattle.lane_workers.specs.declared.works.LaneWork.{LaneWork}
 use Rattle.shared_runs.specs.declared.tables.Table.{Table}
-use Rattle.shared_runs.specs.Tables.{planned, IsTable, AreLeft, IsHanded, IsReady}
+use Rattle.shared_runs.specs.Tables.{planned, IsTable, AreLeft, IsHanded}
 
 pub IfOk-both : {X E : Type 0} (r : Result X E) (P Q R : X → Type 0)
     → ((x : X) → P x → Q x → R x) → IfOk r P → IfOk r Q → IfOk r R
@@ -136,10 +135,3 @@ room_is_small t table lane low answers room =
     (lane_within plan table.within lane [] low)).room in
     let size = length-replicate {A = ℕ} (sum_by (call_room plan limits) calls) 0 in
     omega (arith, ap (λ (a : LaneAnswers). length a.pool) room, small, size)
-
--- a lane is ready by its table, whichever passes are left there
-pub ready_same : (t u : Table) (lane : ℕ) (w : LaneWork) → u ≡ record t { passes = u.passes }
-    → IsReady u lane w → IsReady t lane w
-ready_same t u lane w same ready =
-    let r = subst (λ (x : Table). IsReady x lane w) same ready in
-    record { number = r.number; fresh = r.fresh }

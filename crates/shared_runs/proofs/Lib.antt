@@ -5,4 +5,11 @@ pub mod Handed
 pub mod Served
 pub mod Returning
 pub mod Closed
+pub mod Written
 pub mod Ending
+pub mod Noted
+pub mod LiveShared
+pub mod LiveHanded
+pub mod LiveReturning
+pub mod LiveClosed
+pub mod LiveEnding

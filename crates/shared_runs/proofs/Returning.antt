@@ -12,10 +12,12 @@ use Rattle.lane_workers.specs.Handing.{list_at, CanPutEach, PutsEach}
 use Rattle.lane_workers.specs.Returned.{IsReturned}
 use Rattle.lane_workers.specs.Served.{seen_of, LaneIsServed}
 use Rattle.lane_workers.specs.Turns.{shared_at, pass_at, views}
+use Rattle.shared_context.specs.Stamped.{IsNote}
 use Rattle.shared_runs.specs.declared.tables.Table.{Table}
+use Rattle.shared_runs.specs.declared.tables.Left.{Left}
 use Rattle.shared_runs.specs.Tables.{HasGiven}
-use Rattle.shared_runs.specs.Collected.{passes_of, ArePassesOf, IsListOf, AreBack, Collected}
-use Rattle.shared_runs.proofs.Ends.{at_end, at_front, one_more}
+use Rattle.shared_runs.specs.Collected.{passes_of, ArePassesOf, IsListOf, ArePut, AreBack, Collected}
+use Rattle.shared_runs.proofs.Ends.{at_end, at_front, one_more, got_here}
 use Rattle.shared_runs.proofs.Handed.{within_shared}
 
 none_some : {X : Type 0} (x : X) → None ≡ Some x → ⊥
@@ -29,12 +31,6 @@ got_front [] ys k x e = absurd (none_some x e)
 got_front (y ∷ xs) ys zero x e = e
 got_front (y ∷ xs) ys (suc k) x e = got_front xs ys k x e
 
--- what stands behind so many others
-pub got_here : {X : Type 0} (front rest : List X) (x : X)
-    → slice_get (front ++ x ∷ rest) (length front) ≡ Some x
-got_here [] rest x = refl
-got_here (y ∷ front) rest x = got_here front rest x
-
 pub all_push : {X : Type 0} (P : X → Type 0) (xs : List X) (y : X) → All P xs → P y
     → All P (xs ++ y ∷ [])
 all_push P xs y all here k d low =
@@ -45,34 +41,37 @@ all_push P xs y all here k d low =
 
 -- ---- before the first lane
 
-pub none_back : (t : Table) → HasGiven (length t.lanes.now) t → AreBack t []
-none_back t given =
+pub none_back : (t : Table) (l : Left) → HasGiven t (length t.lanes.now) l → AreBack t l []
+none_back t l given =
     let n = length t.lanes.now in
     let left : n - n ≡ 0 = omega arith in
     record {
-      absent = λ lane number low is. absurd (omega arith);
-      count = given.count;
-      none = given.none;
-      each = λ number s is. (
-        record { passes = []; made = n },
-        given.some number s is
-            ∙ ap (λ k. Some (record { passes = fresh_from s.lock n k; made = n })) left,
-        record {
-          of_lock = λ k d low. absurd (omega arith);
-          count = refl;
-          made = refl;
-          each = λ lane low. absurd (omega arith);
-        },
-      );
+      put = record {
+        absent = λ lane number low is. absurd (omega arith);
+        count = given.passes.count;
+        none = given.passes.none;
+        each = λ number s is. (
+          record { passes = []; made = n },
+          given.passes.some number s is
+              ∙ ap (λ k. Some (record { passes = fresh_from s.lock n k; made = n })) left,
+          record {
+            of_lock = λ k d low. absurd (omega arith);
+            count = refl;
+            made = refl;
+            each = λ lane low. absurd (omega arith);
+          },
+        );
+      };
+      seat = given.seat;
     }
 
 -- ---- a lane more
 
 -- while a lane is out there is room for its passes
-pub may_put : (t : Table) (given : List (List (Option PassView))) → AreBack t given
+pub may_put : (t : Table) (l : Left) (given : List (List (Option PassView))) → ArePut t l given
     → length given < length t.lanes.now → (passes : List (Option PassView))
-    → ArePassesOf t (length given) passes → CanPutEach t.passes.items passes
-may_put t given back few passes are = record {
+    → ArePassesOf t (length given) passes → CanPutEach l.passes.items passes
+may_put t l given back few passes are = record {
   count = are.count ∙ sym back.count;
   each = λ number low. record {
     room = λ list at. by_case number list at (shared_at t.contexts number) refl;
@@ -82,7 +81,7 @@ may_put t given back few passes are = record {
     one_list : (x y : PassListView) → Some x ≡ Some y → x ≡ y
     one_list x y e = cc
 
-    by_case : (number : ℕ) (list : PassListView) → list_at t.passes.items number ≡ Some list
+    by_case : (number : ℕ) (list : PassListView) → list_at l.passes.items number ≡ Some list
         → (o : Option SharedView) → shared_at t.contexts number ≡ o
         → (p : PassView) × (pass_at passes number ≡ Some p) × (length list.passes < list.made)
     by_case number list at None is = absurd (none_some list (sym (back.none number is) ∙ at))
@@ -97,10 +96,13 @@ may_put t given back few passes are = record {
           subst (λ (l : PassListView). length l.passes < l.made) same (omega arith),
         )
 
-module _ (old new : Table) (same : new ≡ record old { passes = new.passes })
-    (given : List (List (Option PassView))) (back : AreBack old given)
-    (passes : List (Option PassView)) (are : ArePassesOf old (length given) passes)
+module _ (t : Table) (old new : Left) (same : new.seat ≡ old.seat)
+    (given : List (List (Option PassView))) (was : AreBack t old given)
+    (passes : List (Option PassView)) (are : ArePassesOf t (length given) passes)
     (puts : PutsEach old.passes.items new.passes.items passes) where
+  abbrev back : ArePut t old given
+  back = was.put
+
   abbrev all : List (List (Option PassView))
   all = given ++ passes ∷ []
 
@@ -113,15 +115,15 @@ module _ (old new : Table) (same : new ≡ record old { passes = new.passes })
   all_count : length all ≡ length given + 1
   all_count = length-append given (passes ∷ [])
 
-  each_more : (number : ℕ) (s : SharedView) → shared_at old.contexts number ≡ Some s
+  each_more : (number : ℕ) (s : SharedView) → shared_at t.contexts number ≡ Some s
       → (list : PassListView) × (list_at new.passes.items number ≡ Some list)
-      × IsListOf s number (length old.lanes.now) all list
+      × IsListOf s number (length t.lanes.now) all list
   each_more number s is =
       let b = back.each number s is in
       let list = b.0 in
       let p = are.each number s is in
       let low : number < length old.passes.items =
-      (let there = within_shared old.contexts number s is in let count = back.count in omega arith) in
+      (let there = within_shared t.contexts number s is in let count = back.count in omega arith) in
       let size : length list.passes ≡ length given = b.2.count in (
         record { passes = list.passes ++ p.0 ∷ []; made = list.made },
         (puts.each number low).last list p.0 b.1 p.1,
@@ -148,7 +150,7 @@ module _ (old new : Table) (same : new ≡ record old { passes = new.passes })
         },
       )
 
-  none_more : (number : ℕ) → shared_at old.contexts number ≡ None
+  none_more : (number : ℕ) → shared_at t.contexts number ≡ None
       → list_at new.passes.items number ≡ None
   none_more number is = elim (cases_lt number (length old.passes.items)) [
     | inl low ↦ (puts.each number low).none (back.none number is)
@@ -156,17 +158,20 @@ module _ (old new : Table) (same : new ≡ record old { passes = new.passes })
         (let size = puts.lists_count in omega arith)
   ]
 
-  pub one_back : AreBack new all
-  one_back = subst (λ (t : Table). AreBack t all) (sym same) (record {
-    absent = λ lane number low is. one_more (λ l. seen_of (passes_of all l) number ≡ [])
-        (length given)
-        (λ l less. ap (λ ps. seen_of ps number) (before l less) ∙ back.absent l number less is)
-        (ap (λ ps. seen_of ps number) here ∙ are.absent number is)
-        lane (let x = all_count in omega arith);
-    count = puts.lists_count ∙ back.count;
-    none = none_more;
-    each = each_more;
-  })
+  pub one_back : AreBack t new all
+  one_back = record {
+    put = record {
+      absent = λ lane number low is. one_more (λ l. seen_of (passes_of all l) number ≡ [])
+          (length given)
+          (λ l less. ap (λ ps. seen_of ps number) (before l less) ∙ back.absent l number less is)
+          (ap (λ ps. seen_of ps number) here ∙ are.absent number is)
+          lane (let x = all_count in omega arith);
+      count = puts.lists_count ∙ back.count;
+      none = none_more;
+      each = each_more;
+    };
+    seat = subst (IsNote t.counter.id) (sym same) was.seat;
+  }
 
 -- ---- a lane of the table's plan more
 
@@ -180,19 +185,18 @@ passes_of_lane t counter lane k is passes seat a r = record {
 }
 
 -- before the first one
-pub none_collected : (t : Table) → HasGiven (length t.lanes.now) t → Collected t []
-none_collected t given = record {
+pub none_collected : (t : Table) (l : Left) → HasGiven t (length t.lanes.now) l → Collected t l []
+none_collected t l given = record {
   passes = [];
   few = refl;
   served = λ lane low. absurd (omega arith);
-  back = none_back t given;
+  back = none_back t l given;
 }
 
-module _ (old new : Table) (same : new ≡ record old { passes = new.passes })
-    (answers : List LaneAnswers) (c : Collected old answers) (passes : List (Option PassView))
-    (a : LaneAnswers)
-    (served : LaneIsServed old.plan.now (views old.contexts) (length answers) passes a)
-    (back : AreBack new (c.passes ++ passes ∷ [])) where
+module _ (t : Table) (old new : Left) (answers : List LaneAnswers) (c : Collected t old answers)
+    (passes : List (Option PassView)) (a : LaneAnswers)
+    (served : LaneIsServed t.plan.now (views t.contexts) (length answers) passes a)
+    (back : AreBack t new (c.passes ++ passes ∷ [])) where
   abbrev collected : List (List (Option PassView))
   collected = c.passes ++ passes ∷ []
 
@@ -202,25 +206,23 @@ module _ (old new : Table) (same : new ≡ record old { passes = new.passes })
   collected_count : length collected ≡ length answers + 1
   collected_count = length-append c.passes (passes ∷ []) ∙ ap (λ k. k + 1) c.few
 
-  pub one_collected : Collected new both
+  pub one_collected : Collected t new both
   one_collected = record {
     passes = collected;
     few = collected_count ∙ sym (length-append answers (a ∷ []));
-    served = λ lane low. subst (λ (t : Table). LaneIsServed t.plan.now (views t.contexts) lane
-        (passes_of collected lane) (get_or both lane no_answers)) (sym same)
-        (one_more (λ l. LaneIsServed old.plan.now (views old.contexts) l
+    served = λ lane low. one_more (λ l. LaneIsServed t.plan.now (views t.contexts) l
         (passes_of collected l) (get_or both l no_answers)) (length answers)
-        (λ l less. subst (λ ps. LaneIsServed old.plan.now (views old.contexts) l ps
+        (λ l less. subst (λ ps. LaneIsServed t.plan.now (views t.contexts) l ps
         (get_or both l no_answers))
         (sym (at_front c.passes (passes ∷ []) [] l (let few = c.few in omega arith)))
-        (subst (LaneIsServed old.plan.now (views old.contexts) l (passes_of c.passes l))
+        (subst (LaneIsServed t.plan.now (views t.contexts) l (passes_of c.passes l))
         (sym (at_front answers (a ∷ []) no_answers l less))
         (c.served l (let x = c.few in omega arith))))
-        (subst (λ ps. LaneIsServed old.plan.now (views old.contexts) (length answers) ps
+        (subst (λ ps. LaneIsServed t.plan.now (views t.contexts) (length answers) ps
         (get_or both (length answers) no_answers))
         (sym (ap (passes_of collected) (sym c.few) ∙ at_end c.passes [] passes []))
-        (subst (LaneIsServed old.plan.now (views old.contexts) (length answers) passes)
+        (subst (LaneIsServed t.plan.now (views t.contexts) (length answers) passes)
         (sym (at_end answers [] a no_answers)) served))
-        lane (let x = collected_count in omega arith));
+        lane (let x = collected_count in omega arith);
     back = back;
   }

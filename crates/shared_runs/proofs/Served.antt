@@ -4,6 +4,7 @@ use Rattle.std.specs.Prelude.{slice_get, slice_index}
 use Rattle.std.proofs.lemmas.List.{get_or-map}
 use Rattle.call_places.specs.declared.listed.Terms.{Terms}
 use Rattle.stamp_counter.specs.Seats.{CounterView}
+use Rattle.batch_plans.specs.declared.plan.Plan.{Plan}
 use Rattle.batch_plans.specs.Limits.{IsWithinLimits}
 use Rattle.lane_quotas.specs.Quotas.{lane_quota}
 use Rattle.lane_quotas.proofs.Places.{quota_is}
@@ -12,8 +13,12 @@ use Rattle.lane_workers.specs.Groups.{IsServed, Each, EachServed, AllServed}
 use Rattle.lane_replies.specs.LaneCalls.{lane_calls}
 use Rattle.lane_workers.specs.Lanes.{AreShared, LaneIsAt}
 use Rattle.lane_workers.specs.Turns.{views}
+use Rattle.batch_plans.specs.declared.replies.Answers.{Answers}
+use Rattle.shared_runs.specs.declared.begun_run.BegunRun.{BegunRun}
 use Rattle.shared_runs.specs.declared.tables.Table.{Table}
-use Rattle.shared_runs.specs.Tables.{planned, IsTable, HasOwnLanes, AreReady, AreDone}
+use Rattle.shared_runs.specs.BegunRuns.{IsBegun}
+use Rattle.shared_runs.specs.Serving.{InOrder}
+use Rattle.shared_runs.specs.Tables.{planned, IsTable, HasStamps, HasOwnLanes, IsOwnTable, IsReady, IsDoneLane}
 use Rattle.shared_runs.proofs.Begun.{lanes_count}
 
 -- the contexts of a table are shared as its lanes need them
@@ -44,6 +49,14 @@ are_shared t stamps is same =
 
 pub own_planned : (t : Table) → HasOwnLanes t → planned t ≡ t.plan.now
 own_planned t own = ap (λ lanes. record t.plan.now { lanes = lanes }) own
+
+pub own_table : (t : Table) (plan : Plan) → t.plan.now ≡ plan → t.lanes.now ≡ plan.lanes → IsTable t
+    → HasStamps 0 t → IsOwnTable t
+own_table t plan same lanes table stamps = record {
+  table = table;
+  own = lanes ∙ ap (λ (p : Plan). p.lanes) (sym same);
+  stamps = stamps;
+}
 
 pub own_within : (t : Table) → HasOwnLanes t → IsTable t → IsWithinLimits t.plan.now
 own_within t own table = subst IsWithinLimits (own_planned t own) table.within
@@ -86,18 +99,34 @@ module _ {L : Type 0} where
     served_at (w ∷ ws) (x ∷ xs) all (suc k) v at = served_at ws xs all.1 k v at
 
 -- lanes that were ready and are served are done
-pub are_done : (t : Table) (counter : Option (Bor CounterView)) (olds news : List LaneWork)
-    → AreReady t olds → AllServed t.plan.now t.contexts counter olds news → AreDone t news
-are_done t counter olds news ready served =
+pub are_done : (t : Table) (counter : Option (Bor CounterView)) (n : ℕ) (olds news : List LaneWork)
+    → InOrder (IsReady t) n olds → AllServed t.plan.now t.contexts counter olds news
+    → InOrder (IsDoneLane t) n news
+are_done t counter n olds news ready served =
     let plan = t.plan.now in
     record {
-      counter = counter;
-      count = served_count (IsServed plan t.contexts counter) olds news served ∙ ready.count;
+      count_is = served_count (IsServed plan t.contexts counter) olds news served ∙ ready.count_is;
       each = λ lane v at.
           let s = served_at (IsServed plan t.contexts counter) olds news served lane v at in
-          let was = ready.each lane s.0 s.1 in (
-            s.2.lane ∙ was.number,
-            subst (λ l. LaneIsAt plan t.contexts counter l (length (lane_calls plan l)) v)
-                (sym s.2.lane) s.2.is_at,
-          );
+          record {
+            counter = counter;
+            number = s.2.lane ∙ (ready.each lane s.0 s.1).number;
+            done = subst (λ l. LaneIsAt plan t.contexts counter l (length (lane_calls plan l)) v)
+                (sym s.2.lane) s.2.is_at;
+          };
     }
+
+-- ---- a run that is begun
+
+-- whatever lanes it has
+pub still_begun : {L : Type 0} (answers : Answers) (old new : BegunRun L)
+    → new ≡ record old { lanes = new.lanes } → IsBegun answers old → IsBegun answers new
+still_begun answers old new same b = subst (IsBegun answers) (sym same) (record {
+  keys = b.keys;
+  contexts = b.contexts;
+  journals = b.journals;
+  no_answers = b.no_answers;
+  answers_room = b.answers_room;
+  no_books = b.no_books;
+  books_room = b.books_room;
+})

@@ -11,7 +11,7 @@ use Rattle.gathered_lanes.specs.Lanes.{Closes}
 use Rattle.lane_workers.specs.Served.{seen_of}
 use Rattle.lane_workers.specs.Turns.{views}
 use Rattle.shared_runs.specs.declared.tables.Table.{Table}
-use Rattle.shared_runs.specs.Sharing.{quotas_on}
+use Rattle.lane_quotas.specs.Quotas.{quotas_on}
 use Rattle.shared_runs.specs.Tables.{planned}
 use Rattle.shared_runs.specs.Collected.{passes_of}
 
@@ -46,13 +46,13 @@ pub record HasClosed (context : Option SharedView) (passes : Option PassListView
   pub counter : new.counter ≡ old.counter
 
 -- The contexts of a table are closed over these passes. The counter gave their stamps and those that
--- the table's seat took in, and no book has more entries than its lanes may add.
-pub record HasClosedAll (t : Table) (passes : List (List (Option PassView)))
+-- were drawn before, and no book has more entries than its lanes may add.
+pub record HasClosedAll (t : Table) (drawn : List ℕ) (passes : List (List (Option PassView)))
     (books : List (List Entry)) : Type 0 where
   pub count : length books ≡ length t.plan.now.contexts
   pub closes : (context : ℕ) → Closes (length t.lanes.now)
       (λ lane. seen_of (passes_of passes lane) context) (slice_index_or books context [])
   pub stamps : ℕ
-  pub given : IsPermutation (t.seat.drawn ++ flat_map stamps_of books) (range_with_len 0 stamps)
+  pub given : IsPermutation (drawn ++ flat_map stamps_of books) (range_with_len 0 stamps)
   pub few : (context : ℕ) → length (slice_index_or books context [])
       ≤ sum (quotas_on (planned t) (views t.contexts) context)

@@ -1,4 +1,9 @@
+pub mod Serving
+pub mod BegunRuns
 pub mod Sharing
 pub mod Tables
 pub mod Collected
 pub mod Closing
+pub mod Noting
+pub mod LiveContexts
+pub mod LiveCollected

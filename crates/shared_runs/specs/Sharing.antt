@@ -1,24 +1,14 @@
 -- The contexts of a plan, shared by its lanes.
 use Rattle.std.specs.Prelude.{ℕ, ◌≡◌, ◌<◌, ◌≤◌, ◌∷◌, [], List, length, map, sum, slice_index_or, Option, Some, None}
-use Rattle.std.specs.List.{range_with_len}
 use Rattle.turn_lock.specs.Passes.{PassListView, fresh_from}
 use Rattle.stamp_counter.specs.Seats.{SeatView}
 use Rattle.hpke_context.specs.Contexts.{ContextView}
 use Rattle.shared_context.specs.Calls.{SharedView}
-use Rattle.batch_plans.specs.declared.plan.Plan.{Plan}
 use Rattle.due_replies.specs.Standing.{standing_at}
-use Rattle.lane_quotas.specs.Quotas.{lane_quota}
 use Rattle.lane_workers.specs.Handing.{list_at}
 use Rattle.lane_workers.specs.Turns.{shared_at}
 
--- ---- how many entries there may be
-
--- by each lane, in a context
-abbrev pub quotas_on : Plan → List (Option ContextView) → ℕ → List ℕ
-quotas_on plan contexts number = map (lane_quota plan contexts number) plan.lanes
-
-abbrev pub all_quotas : Plan → List (Option ContextView) → List (List ℕ)
-all_quotas plan contexts = map (quotas_on plan contexts) (range_with_len 0 (length contexts))
+-- ---- stamps
 
 -- so many stamps each context may draw. A lane draws none of its own: the share from which lanes
 -- get their notes comes first, and is 0. So many others are drawn for other lists than those of

@@ -1,5 +1,5 @@
--- ---- for the proofs: shared contexts, and their passes that are with no lane.
-use Rattle.std.specs.Prelude.{ℕ, ◌≡◌, ◌+◌, ◌-◌, List, [], length, map, sum, slice_get, Option, Some, None}
+-- ---- for the proofs: shared contexts, and what of them is with no lane.
+use Rattle.std.specs.Prelude.{ℕ, ◌≡◌, ◌+◌, ◌-◌, List, [], length, map, sum, Option, Some, None}
 use Rattle.std.specs.List.{range_with_len}
 use Rattle.std.specs.Borrow.{Bor}
 use Rattle.call_places.specs.declared.entries.Mark.{Mark}
@@ -17,8 +17,10 @@ use Rattle.lane_workers.specs.Groups.{IsFresh, IsDone}
 use Rattle.lane_workers.specs.Handing.{list_at}
 use Rattle.lane_workers.specs.Served.{seen_of}
 use Rattle.lane_workers.specs.Turns.{shared_at, pass_at, views}
+use Rattle.lane_quotas.specs.Quotas.{quotas_on, all_quotas}
 use Rattle.shared_runs.specs.declared.tables.Table.{Table}
-use Rattle.shared_runs.specs.Sharing.{quotas_on, all_quotas, IsSharedBy}
+use Rattle.shared_runs.specs.declared.tables.Left.{Left}
+use Rattle.shared_runs.specs.Sharing.{IsSharedBy}
 
 -- the table's plan, with the lanes that share its contexts
 abbrev pub planned : Table → Plan
@@ -30,7 +32,6 @@ pub record IsTable (t : Table) : Type 0 where
   pub of_lines : AreOfLines t.plan.now.contexts (views t.contexts)
   pub shared : (number : ℕ) (s : SharedView) → shared_at t.contexts number ≡ Some s
       → IsSharedBy s.context (quotas_on (planned t) (views t.contexts) number) t.counter.id s
-  pub seat : t.seat.counter ≡ t.counter.id
 
 -- the counter has a stamp for each entry that there may be, and so many others
 abbrev pub HasStamps : ℕ → Table → Type 0
@@ -41,6 +42,12 @@ HasStamps others t =
 abbrev pub HasOwnLanes : Table → Type 0
 HasOwnLanes t = t.lanes.now ≡ t.plan.now.lanes
 
+-- and the counter has stamps for their entries alone
+pub record IsOwnTable (t : Table) : Type 0 where
+  pub table : IsTable t
+  pub own : HasOwnLanes t
+  pub stamps : HasStamps 0 t
+
 -- of each context that is shared so many fresh passes are left, from this lane's on
 pub record AreLeft (shared : List (Option SharedView)) (lane left made : ℕ)
     (lists : List (Option PassListView)) : Type 0 where
@@ -50,10 +57,10 @@ pub record AreLeft (shared : List (Option SharedView)) (lane left made : ℕ)
       → list_at lists number
       ≡ Some (record { passes = fresh_from s.lock lane left; made = made })
 
--- the lanes before this one have got their passes
-abbrev pub HasGiven : ℕ → Table → Type 0
-HasGiven lane t = AreLeft t.contexts lane (length t.lanes.now - lane) (length t.lanes.now)
-    t.passes.items
+-- the lanes before this one have got their passes, and the seat has drawn nothing
+pub record HasGiven (t : Table) (lane : ℕ) (l : Left) : Type 0 where
+  pub passes : AreLeft t.contexts lane (length t.lanes.now - lane) (length t.lanes.now) l.passes.items
+  pub seat : IsNote t.counter.id l.seat
 
 -- what the lane of this number has got: a fresh pass of each context that is shared, and a note
 pub record IsHanded (t : Table) (lane : ℕ) (passes : List (Option PassView)) (seat : SeatView)
@@ -77,14 +84,8 @@ pub record IsReady (t : Table) (lane : ℕ) (w : LaneWork) : Type 0 where
   pub fresh : (stamps : Bor CounterView) → stamps.now.id ≡ t.counter.id
       → IsFresh t.plan.now t.contexts (Some stamps) w
 
--- all lanes in their order, before their first calls
-pub record AreReady (t : Table) (works : List LaneWork) : Type 0 where
-  pub count : length works ≡ length t.plan.now.lanes
-  pub each : (lane : ℕ) (w : LaneWork) → slice_get works lane ≡ Some w → IsReady t lane w
-
--- after their last
-pub record AreDone (t : Table) (works : List LaneWork) : Type 0 where
+-- and after its last
+pub record IsDoneLane (t : Table) (lane : ℕ) (w : LaneWork) : Type 0 where
   pub counter : Option (Bor CounterView)
-  pub count : length works ≡ length t.plan.now.lanes
-  pub each : (lane : ℕ) (w : LaneWork) → slice_get works lane ≡ Some w
-      → (w.lane ≡ lane) × IsDone t.plan.now t.contexts counter w
+  pub number : w.lane ≡ lane
+  pub done : IsDone t.plan.now t.contexts counter w

@@ -3,10 +3,10 @@
 ghost use Rattle.std.specs.Prelude.{◌≡◌, ◌+◌, ◌≤◌, [], List, Option, length, map, vec_len, vec_capacity};
 ghost use Rattle.turn_lock.specs.Passes.{PassView};
 ghost use Rattle.shared_runs.specs.Tables.{IsTable, HasStamps};
-ghost use Rattle.shared_runs.specs.Collected.{AreBack};
+ghost use Rattle.shared_runs.specs.Collected.{ArePut};
 ghost use Rattle.shared_runs.specs.Closing.{entries_of, MayClose, HasClosed, HasClosedAll};
 
-use crate::tables::Table;
+use crate::tables::{Left, Table};
 use context_books::Book;
 use shared_context::SharedContext;
 use stamp_counter::{StampCounter, StampSeat};
@@ -35,25 +35,28 @@ fn close(
 
 impl Table<'_> {
     /// Closes the contexts and the counter, and gives the contexts' books. All passes are back.
-    pub fn close(self, books: &mut Vec<Option<Book>>)
+    pub(crate) fn close_contexts(self, left: Left, books: &mut Vec<Option<Book>>)
         requires table { IsTable self }
-        requires stamps { HasStamps (length self.seat.drawn + self.seat.left) self }
-        requires back { (passes : List (List (Option PassView))) × AreBack self passes
+        requires seat { left.seat.counter ≡ self.counter.id }
+        requires stamps { HasStamps (length left.seat.drawn + left.seat.left) self }
+        requires back { (passes : List (List (Option PassView))) × ArePut self left passes
             × (length passes ≡ length self.lanes.now) }
         requires none { books.old.items ≡ [] }
         requires room { length self.contexts ≤ vec_capacity books.old }
         ensures count { length books.new.items ≡ length self.entry.contexts }
-        ensures closed { (passes : List (List (Option PassView))) → AreBack self.entry passes
+        ensures closed { (passes : List (List (Option PassView))) → ArePut self.entry left passes
             → length passes ≡ length self.entry.lanes.now
-            → HasClosedAll self.entry passes (map entries_of books.new.items) }
+            → HasClosedAll self.entry left.seat.drawn passes (map entries_of books.new.items) }
     {
         let Table {
             mut contexts,
-            mut passes,
             counter,
-            mut seat,
             ..
         } = self;
+        let Left {
+            mut passes,
+            mut seat,
+        } = left;
         let contexts = contexts.as_mut_slice();
         'contexts: for number in 0..contexts.len() {
             let (context, list) = (contexts[number].take(), passes[number].take());

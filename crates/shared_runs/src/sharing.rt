@@ -1,40 +1,15 @@
 //! Contexts that are shared by the lanes of a plan.
 
-ghost use Rattle.std.specs.Prelude.{ℕ, ◌≡◌, ◌<◌, ◌≤◌, ◌^◌, List, All, IfOk, length, map, sum, sum_by};
+ghost use Rattle.std.specs.Prelude.{ℕ, ◌≡◌, ◌<◌, ◌≤◌, List, All, IfOk, length, map, sum};
 ghost use Rattle.stamp_counter.specs.Seats.{fresh_seats};
-ghost use Rattle.batch_plans.specs.declared.plan.ContextLine.{ContextLine};
-ghost use Rattle.batch_plans.specs.declared.plan.Plan.{Plan};
-ghost use Rattle.batch_plans.specs.Limits.{items_of};
-ghost use Rattle.due_replies.specs.Standing.{AreOfLines};
-ghost use Rattle.shared_runs.specs.Sharing.{all_quotas, shares, MayShare, Shares, SharesEach};
+ghost use Rattle.shared_runs.specs.Sharing.{shares, MayShare, Shares, SharesEach};
 
-use batch_plans::{LaneLines, PlainList};
+use batch_plans::PlainList;
 use hpke_context::Context;
-use lane_quotas::quotas_of;
 use shared_context::SharedContext;
 use stamp_counter::{SeatList, StampSeat};
 use std::alloc::{AllocError as OutOfMemory, Global};
 use turn_lock::PassList;
-
-/// How many entries each lane may add to each context.
-pub(crate) fn all_quotas(
-    alloc: Global,
-    lanes: &LaneLines,
-    contexts: &[Option<Context>],
-) -> Result<Vec<PlainList<u32>>, OutOfMemory>
-    requires few { All (λ calls. sum_by items_of calls < 2 ^ 32) lanes.now }
-    requires count { length contexts.now < 2 ^ 32 }
-    requires standing { (lines : List ContextLine) × AreOfLines lines contexts.now }
-    ensures { IfOk result (λ all. (plan : Plan) → AreOfLines plan.contexts contexts.now
-        → plan.lanes ≡ lanes.now → all.items ≡ all_quotas plan contexts.now) }
-{
-    let mut all = Vec::with_capacity(alloc, contexts.len())?;
-    'contexts: for number in 0..contexts.len() {
-        let quotas = quotas_of(alloc, lanes, contexts, number as u32)?;
-        all.push_reserved(PlainList::from_vec(quotas));
-    }
-    Ok(all)
-}
 
 // How many entries all lanes may add to a context.
 fn total(quotas: &[u32]) -> u32

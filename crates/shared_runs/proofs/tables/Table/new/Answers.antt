@@ -8,7 +8,8 @@ use Rattle.batch_plans.specs.declared.plan.Plan.{Plan}
 use Rattle.lane_quotas.proofs.Counts.{quotas_few, lanes_few}
 use Rattle.due_replies.specs.Standing.{AreOfLines}
 use Rattle.lane_workers.specs.Turns.{shared_at, views}
-use Rattle.shared_runs.specs.Sharing.{shares, quotas_on, all_quotas, IsSharedBy, SharesEach}
+use Rattle.shared_runs.specs.Sharing.{shares, IsSharedBy, SharesEach}
+use Rattle.lane_quotas.specs.Quotas.{quotas_on, all_quotas}
 use Rattle.shared_runs.specs.Tables.{AreLeft}
 use Rattle.shared_runs.proofs.Seats.{first_seats, some_first, some_next, sum_shares}
 use Rattle.shared_runs.proofs.Begun.{quotas_at, quotas_count, lanes_count, all_few, views_are, is_shared, all_left}
@@ -17,10 +18,6 @@ use Rattle.shared_runs.proofs.tables.Table.new.Goals as goal
 pub all_quotas-requires-clause-few : goal.all_quotas-requires-clause-few
 all_quotas-requires-clause-few c =
     lanes_few (record c.args.plan.now { lanes = c.args.lanes.now }) c.requires.within
-
-pub all_quotas-requires-clause-count : goal.all_quotas-requires-clause-count
-all_quotas-requires-clause-count c =
-    omega (arith, c.requires.standing.count, c.requires.within.contexts)
 
 pub shares-requires : goal.shares-requires
 shares-requires c =
@@ -194,7 +191,6 @@ returns-clause-table c =
           (sym same)
           (is_shared plan contexts id c.in_ok-shared.shared.items c.in_ok-shared.passes.items each
           number s (ap (λ (xs : List (Option SharedView)). shared_at xs number) (sym items) ∙ is));
-      seat = ap (λ (s : SeatView). s.counter) seats.0;
     }
 
 pub returns-clause-given : goal.returns-clause-given
@@ -216,26 +212,15 @@ returns-clause-given c =
     c.in_ok-shared.shared.items c.in_ok-shared.passes.items) quotas
     (c.in_ok-shared.ensures id
     (seats.2 ∙ ap (λ (xs : List (List ℕ)). fresh_seats id (map sum xs)) (sym quotas))) in
-    subst (λ (xs : List (Option SharedView)). AreLeft xs 0 (length plan.lanes - 0)
-    (length plan.lanes) c.in_ok-shared.passes.items) (sym c.from_vec.ensures.items)
-    (all_left plan contexts id c.in_ok-shared.shared.items c.in_ok-shared.passes.items each)
-
-pub returns-clause-note : goal.returns-clause-note
-returns-clause-note c =
-    let plan : Plan = record c.args.plan.now { lanes = c.args.lanes.now } in
-    let contexts = c.args.contexts.now in
-    let given = c.deref-2.ensures.value ∙ c.in_ok-shares.ensures
-    ∙ ap (λ (xs : List (List ℕ)). shares xs c.args.others)
-    (◌∙◌ {A = List (List ℕ)} c.deref.ensures.value
-    (c.in_ok-all.ensures plan c.requires.standing refl)) in
-    let seats = first_seats c.in_ok-counter.counter.id c.deref-2.result.now
-    (all_quotas plan contexts) c.args.others
-    c.in_ok-counter.seats c.take.new.self c.take-2.new.self c.in-Some.seat c.in-Some-take.other
-    c.in_ok-counter.ensures.seats given c.in-Some.ensures.taken c.in-Some-take.ensures.taken in
     record {
-      counter_is = ap (λ (s : SeatView). s.counter) seats.0;
-      drawn = ap (λ (s : SeatView). s.drawn) seats.0;
-      left = ap (λ (s : SeatView). s.left) seats.0;
+      passes = subst (λ (xs : List (Option SharedView)). AreLeft xs 0 (length plan.lanes - 0)
+          (length plan.lanes) c.in_ok-shared.passes.items) (sym c.from_vec.ensures.items)
+          (all_left plan contexts id c.in_ok-shared.shared.items c.in_ok-shared.passes.items each);
+      seat = record {
+        counter_is = ap (λ (s : SeatView). s.counter) seats.0;
+        drawn = ap (λ (s : SeatView). s.drawn) seats.0;
+        left = ap (λ (s : SeatView). s.left) seats.0;
+      };
     }
 
 pub returns-clause-seat : goal.returns-clause-seat

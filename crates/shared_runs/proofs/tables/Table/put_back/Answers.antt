@@ -7,17 +7,18 @@ use Rattle.shared_runs.proofs.tables.Table.put_back.Goals as goal
 
 pub put_passes-requires : goal.put_passes-requires
 put_passes-requires c =
-    let b = c.requires.back in
+    let b = c.requires in
     subst (λ (lists : List (Option PassListView)). CanPutEach lists c.args.passes)
-    (sym c.deref_mut.ensures.value) (may_put c.args.self.now b.0 b.1 b.2 c.args.passes b.3)
+    (sym c.deref_mut.ensures.value)
+    (may_put c.args.self.now c.args.left.now b.0 b.1.put b.2 c.args.passes b.3)
 
-pub returns-clause-back : goal.returns-clause-back
-returns-clause-back c = λ given back low are.
-    let table = c.args.self.now in
+pub returns : goal.returns
+returns c = λ given back low are.
+    let left = c.args.left.now in
     let puts = subst (λ (lists : List (Option PassListView)). PutsEach lists c.put_passes.new.lists
     c.args.passes) c.deref_mut.ensures.value c.put_passes.ensures in
-    let written = written_back table.passes.len table.passes.items c.put_passes.new.lists
-    table.passes.ok.0 puts.lists_count in
-    one_back table _ refl given back c.args.passes are
-    (subst (λ (lists : List (Option PassListView)). PutsEach table.passes.items lists c.args.passes)
+    let written = written_back left.passes.len left.passes.items c.put_passes.new.lists
+    left.passes.ok.0 puts.lists_count in
+    one_back c.args.self.now left _ refl given back c.args.passes are
+    (subst (λ (lists : List (Option PassListView)). PutsEach left.passes.items lists c.args.passes)
     (sym written) puts)

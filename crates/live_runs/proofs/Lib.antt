@@ -1,6 +1,0 @@
-pub mod Noted
-pub mod Shared
-pub mod Handed
-pub mod Returning
-pub mod Closed
-pub mod Ending

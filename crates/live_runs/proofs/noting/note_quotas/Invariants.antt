@@ -1,7 +1,0 @@
-use Rattle.std.proofs.Common.{◌≡◌, take, map}
-use Rattle.live_runs.specs.Noting.{note_quota}
-use Rattle.live_runs.proofs.noting.note_quotas.Given as goal
-
-abbrev pub invariant-lanes : goal.invariant-lanes
-invariant-lanes l =
-    l.quotas.items ≡ map (note_quota l.plan l.contexts) (take l.calls-index l.calls-items)

@@ -1,0 +1,39 @@
+use Rattle.std.proofs.Common.{◌≡◌, ◌<◌, ◌^◌, [], List, length, sym, ◌∙◌, ap, subst, arith, get_or}
+use Rattle.std.specs.List.{All}
+use Rattle.batch_plans.specs.declared.plan.CallLine.{CallLine}
+use Rattle.lane_workers.specs.LiveLanes.{AddsOneOf}
+use Rattle.lane_workers.proofs.Handing.{found_here}
+use Rattle.shared_runs.proofs.Noted.{lanes_short}
+use Rattle.shared_runs.proofs.noting.note_quotas.Goals as goal
+
+pub note_quota-requires-clause-contexts : goal.note_quota-requires-clause-contexts
+note_quota-requires-clause-contexts c = c.requires.within.contexts
+
+pub note_quota-requires-clause-added : goal.note_quota-requires-clause-added
+note_quota-requires-clause-added c = c.requires.within.added
+
+pub note_quota-requires-clause-named : goal.note_quota-requires-clause-named
+note_quota-requires-clause-named c =
+    let plan = c.args.plan.now in
+    let k = c.lanes.calls-index in
+    let items = c.as_slice-calls-items.result.now in
+    let size = ap length c.as_slice-calls-items.ensures.items in
+    let low : k < length items = (let test = c.lanes-test.true in omega arith) in
+    let here : c.as_slice.result.now ≡ get_or plan.lanes k [] =
+    c.as_slice.ensures.items ∙ found_here items k c.calls-item.result [] low c.calls-item.is
+    ∙ ap (λ ls. get_or ls k []) c.as_slice-calls-items.ensures.items in
+    subst (λ (calls : List CallLine). All (AddsOneOf plan.added) calls) (sym here)
+    (c.requires.named k [] (omega arith))
+
+pub note_quota-requires-clause-few : goal.note_quota-requires-clause-few
+note_quota-requires-clause-few c =
+    let plan = c.args.plan.now in
+    let k = c.lanes.calls-index in
+    let items = c.as_slice-calls-items.result.now in
+    let size = ap length c.as_slice-calls-items.ensures.items in
+    let low : k < length items = (let test = c.lanes-test.true in omega arith) in
+    let here : c.as_slice.result.now ≡ get_or plan.lanes k [] =
+    c.as_slice.ensures.items ∙ found_here items k c.calls-item.result [] low c.calls-item.is
+    ∙ ap (λ ls. get_or ls k []) c.as_slice-calls-items.ensures.items in
+    subst (λ (calls : List CallLine). length calls < 2 ^ 32) (sym here)
+    (lanes_short plan c.requires.within k [] (omega arith))
