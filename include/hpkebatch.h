@@ -1,7 +1,7 @@
 /* hpkebatch: HPKE (RFC 9180) over Streamlined NTRU Prime, for callers in C and C++.
  *
  * Each call answers a status. HPKEBATCH_DONE says that the work is done. Any other status says why not, and then
- * nothing that the call was lent has changed.
+ * nothing that the call was lent has changed, but for the texts and sizes that a call on a batch says.
  *
  * The caller owns all memory. Nothing is kept between two calls, and nothing has to be freed. Some calls take memory
  * by malloc and give it back by free before they return; where there is none they answer HPKEBATCH_NO_MEMORY.
@@ -46,6 +46,7 @@ extern "C" {
 #define HPKEBATCH_PSKPAIR 16    /* one of psk and psk_id is missing */
 #define HPKEBATCH_PSKEXTRA 17   /* mode base takes no psk */
 #define HPKEBATCH_PSKMISSING 18 /* mode psk needs a psk */
+#define HPKEBATCH_THREADS 19    /* threads alone serve the command: `live` and `demo` */
 
 /* ---- AES-128-GCM and AES-256-GCM (NIST SP 800-38D). A key has 16 or 32 bytes, a tag 16. Never seal two texts with
  * one key and nonce. */
@@ -190,6 +191,19 @@ uint32_t hpkebatch_read(const uint8_t *input, size_t input_len, uint8_t *out, si
 /* Reads a batch and a reply. HPKEBATCH_DONE: `run` may give this reply for the batch. HPKEBATCH_BROKEN: it may not.
  * HPKEBATCH_BAD_BATCH: the batch isn't one. HPKEBATCH_WRONG_USAGE: the reply has more than 67,108,864 bytes. */
 uint32_t hpkebatch_check(const uint8_t *batch, size_t batch_len, const uint8_t *reply, size_t reply_len);
+
+/* Does on the calling thread what the command does: reads words, those of its command line (`run`, `rehearse`, `check`
+ * or `capsules`, with their options), ASCII text with one space between each two, as "run --mult lanes", and its input,
+ * of any size. `run` has one of the replies that it may give, however many
+ * workers are asked for.
+ *
+ * HPKEBATCH_DONE: out has the text that the command writes, and written its size. HPKEBATCH_BAD_BATCH: out has the line
+ * `bad LINE REASON`. HPKEBATCH_BROKEN: `check` told what is wrong with the reply. HPKEBATCH_NO_ROOM: out has fewer bytes
+ * than the text, and written gets its size; so a call with no room asks for that. HPKEBATCH_WRONG_USAGE: the words are
+ * none of the command's. HPKEBATCH_THREADS: they ask for `live` or `demo`. The bytes of out behind a text stay as they
+ * were, and so do all of them where there is none. */
+uint32_t hpkebatch_serve(const uint8_t *words, size_t words_len, const uint8_t *input, size_t input_len, uint8_t *out,
+                         size_t out_room, size_t *written);
 
 /* The struct is laid out as the library has it. */
 #if defined(__cplusplus) && __cplusplus >= 201103L

@@ -38,16 +38,45 @@ void __wrap_free(void *block)
     __real_free(block);
 }
 
+/* A batch of examples/, and the reply to it. */
+static const char seal_batch[] =
+    "hpkebatch 1\n"
+    "share send 32 1 1 fe0e18c9f024ce43799ae393c7e8fe8fce9d218875e8227b0187c04e7d2ea1fc base 4f6465206f6e2061204772656369616e2055726e - - 2\n"
+    "lane\n"
+    "seal 0 436f756e742d30 4265617574792069732074727574682c20747275746820626561757479\n"
+    "seal 0 436f756e742d31 4265617574792069732074727574682c20747275746820626561757479\n"
+    "end\n";
+static const char seal_reply[] =
+    "hpkebatch 1\n"
+    "context 0 shared\n"
+    "lane 0\n"
+    "sealed 0 f938558b5d72f1a23810b4be2ab4f84331acc02fc97babc53a52ae8218a355a96d8770ac83d07bea87e13c512a\n"
+    "sealed 1 af2d7e9ac9ae7e270f46ba1f975be53c09f8d875bdc8535458c2494e8a6eab251c03d0c22a56b8ca42c2063b84\n"
+    "journal 0\n"
+    "0 0 0\n"
+    "0 1 0\n"
+    "end\n";
+
 /* All that is lent. */
 static const uint8_t seed[32] = {7};
 static struct {
     uint8_t pk[1322], sk[1999], enc[1184], session[32];
     hpkebatch_context context;
+    uint8_t out[1024];
+    size_t written;
 } lent, before, after;
+
+static uint32_t serve(const char *words, const char *input)
+{
+    return hpkebatch_serve((const uint8_t *)words, strlen(words), (const uint8_t *)input, strlen(input), lent.out,
+                           sizeof lent.out, &lent.written);
+}
 
 static uint32_t call(int which)
 {
     const uint8_t *none = (const uint8_t *)"";
+    static char judged[sizeof seal_batch + sizeof seal_reply];
+    strcat(strcpy(judged, seal_batch), seal_reply);
     switch (which) {
     case 0:
         return hpkebatch_sntrup761_keygen(seed, 0, lent.pk, lent.sk);
@@ -67,12 +96,16 @@ static uint32_t call(int which)
         return hpkebatch_sntrup857_decap(lent.enc, lent.sk, lent.session);
     case 8:
         return hpkebatch_sntrup857_sender(&lent.context, lent.enc, seed, 1, lent.pk, 0, 1, 1, 9, none, 0, none, 0, none, 0);
-    default:
+    case 9:
         return hpkebatch_sntrup857_recipient(&lent.context, lent.enc, lent.sk, 0, 1, 1, 9, none, 0, none, 0, none, 0);
+    case 10:
+        return serve("run", seal_batch);
+    default:
+        return serve("check", judged);
     }
 }
 
-#define CALLS 10
+#define CALLS 12
 
 /* Other bytes where the call will write. */
 static void spoil(int which)
@@ -85,6 +118,8 @@ static void spoil(int which)
         memset(lent.enc, 7, sizeof lent.enc);
     if (which % 5 == 1 || which % 5 == 2)
         memset(lent.session, 7, sizeof lent.session);
+    if (which >= 10)
+        memset(lent.out, 7, sizeof lent.out);
     if (which % 5 >= 3)
         memset(&lent.context, 7, sizeof lent.context);
 }

@@ -1,9 +1,3 @@
-pub mod Endings
-pub mod Ends
-pub mod Fronts
 pub mod Texts
-pub mod Rooms
-pub mod Replied
-pub mod Writing
 pub mod Serves
 pub mod LiveSetUp

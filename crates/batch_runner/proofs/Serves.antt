@@ -5,13 +5,13 @@ use Rattle.std.specs.Io.KnownBytes.{Appends, Consumes}
 use Rattle.batch_io.specs.Outside.{Rose}
 use Rattle.batch_words.specs.declared.commands.Command.{Command}
 use Rattle.batch_words.specs.declared.commands.Command.TheVariants.{Demo}
-use Rattle.batch_runner.specs.declared.outcomes.Outcome.{Outcome}
-use Rattle.batch_runner.specs.declared.outcomes.Outcome.TheVariants.{Usage, ReadFault, OutOfMemory}
-use Rattle.batch_runner.specs.Effects.{Serves, Writes}
-use Rattle.batch_runner.specs.Input.{IsInput, input_limit}
-use Rattle.batch_runner.specs.Text.{Demonstrates, IsReadBy, MayEnd, ReadsInput}
-use Rattle.batch_runner.proofs.Ends.{ends_as_told, of_input, read_by}
-use Rattle.batch_runner.proofs.Endings.{IsUsage, OfInput, faults_or_not}
+use Rattle.batch_serving.specs.declared.outcomes.Outcome.{Outcome}
+use Rattle.batch_serving.specs.declared.outcomes.Outcome.TheVariants.{Usage, ReadFault, OutOfMemory}
+use Rattle.batch_serving.specs.Effects.{Serves, Writes}
+use Rattle.batch_serving.specs.Input.{IsInput, input_limit}
+use Rattle.batch_serving.specs.Text.{Demonstrates, IsReadBy, MayEnd, ReadsInput}
+use Rattle.batch_serving.proofs.Ends.{ends_as_told, of_input, read_by}
+use Rattle.batch_serving.proofs.Endings.{IsUsage, OfInput, faults_or_not}
 
 module _ {K : Type 0} (written : K → Option (List ℕ)) (faults : K → ℕ) (sink sink_new : K)
     (command : Command) (input : List ℕ) (outcome : Outcome)

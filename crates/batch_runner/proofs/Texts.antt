@@ -1,5 +1,5 @@
--- Answers that are those of a rehearsal, or of lanes that threads served, have its text.
-use Rattle.std.proofs.Common.{◌≡◌, ℕ, List, Option}
+-- Answers of lanes that threads served have the text of a run.
+use Rattle.std.proofs.Common.{◌≡◌, List, Option}
 use Rattle.std.specs.List.{concat}
 use Rattle.hpke_context.specs.Contexts.{ContextView}
 use Rattle.batch_plans.specs.declared.plan.Plan.{Plan}
@@ -9,41 +9,10 @@ use Rattle.batch_plans.specs.declared.replies.Answers.{Answers}
 use Rattle.batch_plans.specs.Names.{line_count}
 use Rattle.reply_texts.specs.LiveText.{live_lines, live_text}
 use Rattle.reply_texts.specs.ReplyText.{reply_lines, answers_text}
-use Rattle.due_replies.specs.Standing.{AreOfLines}
-use Rattle.due_replies.specs.Runs.{run_text}
 use Rattle.context_table.specs.SetUp.{IsSetUp}
-use Rattle.context_core.specs.Rehearsals.{rehearsed, AreAnswersOf}
 use Rattle.lane_workers.specs.Gathered.{AreOfARun}
 use Rattle.lane_workers.specs.LiveGathered.{AreOfALiveRun}
 use Rattle.context_table.specs.ReplyTo.{IsReply, IsLiveReply}
-use Rattle.batch_runner.specs.Text.{IsRehearsal}
-
--- keys and contexts are answered as the set-up says, and the lanes as the rehearsal over its contexts
-pub record IsRehearsed (plan : Plan) (keys : List KeyReply) (contexts : List ContextReply)
-    (standing : List (Option ContextView)) (schedule : List ℕ) (answers : Answers) : Type 0 where
-  pub set_up : IsSetUp plan keys contexts standing
-  pub lines : AreOfLines plan.contexts standing
-  pub lanes : AreAnswersOf (rehearsed plan standing schedule) answers
-  pub keys_are : answers.keys ≡ keys
-  pub contexts_are : answers.contexts ≡ contexts
-
-module _ (plan : Plan) (keys : List KeyReply) (contexts : List ContextReply)
-    (standing : List (Option ContextView)) (schedule : List ℕ) (answers : Answers)
-    (t : IsRehearsed plan keys contexts standing schedule answers) where
-  text : answers_text plan answers ≡ run_text keys contexts (rehearsed plan standing schedule)
-  text = λ i. concat (reply_lines plan.version (t.keys_are i) (t.contexts_are i) (t.lanes.lanes i)
-      (t.lanes.journals i))
-
-  pub is_rehearsal : IsRehearsal plan schedule (answers_text plan answers)
-  is_rehearsal = record {
-    keys = keys;
-    contexts = contexts;
-    standing = standing;
-    set_up = t.set_up;
-    text_is = text;
-  }
-
--- ---- answers of lanes that threads served
 
 -- keys and contexts are answered as the set-up says, and the lanes as a run that is allowed
 pub record IsServed (plan : Plan) (keys : List KeyReply) (contexts : List ContextReply)

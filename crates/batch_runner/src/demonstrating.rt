@@ -1,12 +1,11 @@
 //! A large batch that is made from a number, sealed and opened again: `demo`.
 
 ghost use Rattle.std.specs.Prelude.{◌<◌, ◌≤◌};
-ghost use Rattle.batch_runner.specs.Effects.{Writes};
-ghost use Rattle.batch_runner.specs.Text.{Demonstrates};
+ghost use Rattle.batch_serving.specs.Effects.{Writes};
+ghost use Rattle.batch_serving.specs.Text.{Demonstrates};
 
-use crate::outcomes::Outcome;
-use crate::telling::tell_report;
 use batch_io::{Gate, Sink};
+use batch_serving::{Outcome, tell_report};
 use demo_runs::demo;
 use std::alloc::Global;
 use std::sync::Wait;

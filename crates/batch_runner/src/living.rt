@@ -7,14 +7,12 @@ ghost use Rattle.reply_texts.specs.LiveText.{live_text};
 ghost use Rattle.request_frames.specs.Added.{IsLive};
 ghost use Rattle.live_frames.specs.Live.{live};
 ghost use Rattle.context_table.specs.ReplyTo.{IsLiveReply};
-ghost use Rattle.batch_runner.specs.Effects.{Writes};
-ghost use Rattle.batch_runner.specs.Text.{AnswersBy, AnswersLive};
+ghost use Rattle.batch_serving.specs.Effects.{Writes};
+ghost use Rattle.batch_serving.specs.Text.{AnswersBy};
 
-use crate::outcomes::Outcome;
-use crate::setting_up::{Begun, begin};
-use crate::telling::{tell_fault, tell_live};
 use batch_io::{Gate, Sink};
 use batch_plans::{Answers, Plan};
+use batch_serving::{Begun, Outcome, begin, tell_fault, tell_live};
 use batch_words::Mult;
 use live_frames::read_live;
 use shared_runs::run_live;
@@ -80,7 +78,7 @@ pub(crate) fn answer_live<R: Threads + Wait + Sync, K: Sink, G: Gate + Sync>(
 ) -> Outcome
     requires workers { (0 < workers) × (workers ≤ 16) }
     ensures { Writes K.written K.faults sink.old sink.new
-        (AnswersLive (live input.now)) result }
+        (AnswersBy IsLiveReply (live input.now)) result }
 {
     match read_live(alloc, input) {
         Ok(plan) => {

@@ -10,23 +10,23 @@ ghost use Rattle.field_text.specs.Printing.{AppendsPrefix};
 ghost use Rattle.reply_texts.specs.ReplyText.{bad_text};
 ghost use Rattle.result_verdicts.specs.declared.verdicts.Verdict.{Verdict};
 ghost use Rattle.result_verdicts.specs.VerdictText.{verdict_text};
-ghost use Rattle.batch_runner.specs.declared.outcomes.Outcome.{Outcome as Outcome_};
-ghost use Rattle.batch_runner.specs.Effects.{Serves, Writes};
-ghost use Rattle.batch_runner.specs.Input.{IsInput, input_limit};
-ghost use Rattle.batch_runner.specs.Text.{IsBadFor, IsBroken, IsReadBy, MayEnd, ReadsInput};
+ghost use Rattle.batch_serving.specs.declared.outcomes.Outcome.{Outcome as Outcome_};
+ghost use Rattle.batch_serving.specs.Effects.{Serves, Writes};
+ghost use Rattle.batch_serving.specs.Input.{IsInput, input_limit};
+ghost use Rattle.batch_serving.specs.Text.{IsBadFor, IsBroken, IsReadBy, MayEnd, ReadsInput};
 ghost use Rattle.batch_words.specs.declared.commands.Command.{Command as Command_};
 ghost use Rattle.batch_words.specs.declared.commands.Mult.{Mult};
 ghost use Rattle.batch_words.specs.Words.{command_of, IsWithin};
 
-use crate::batches::answer_batch;
 use crate::demonstrating::demonstrate;
 use crate::exchanging::exchange;
-use crate::judging::judge;
 use crate::living::answer_live;
-use crate::outcomes::Outcome;
-use crate::reading::{ReadStop, read_input};
+use crate::running::run_batch;
+use aes_gcm::MayCheck;
 use batch_io::{Gate, PureSink, PureSource, Sink, Source};
+use batch_serving::{Outcome, ReadStop, judge, read_input, rehearse_batch};
 use batch_words::{Command, read_words};
+use speculative_open::OnThreads;
 use std::alloc::Global;
 use std::sync::Wait;
 use std::thread::Threads;
@@ -45,12 +45,16 @@ fn answer_input<R: Threads + Wait + Sync, K: Sink, G: Gate + Sync>(
     ensures { Writes K.written K.faults sink.old sink.new (MayEnd command.now input.now) result }
 {
     match command {
-        Command::Run { .. } => answer_batch(rt, alloc, input, command, sink, gate),
+        Command::Run { workers, mult } => {
+            run_batch(rt, alloc, input, *workers, *mult, sink, gate)
+        }
         Command::Live { workers, mult } => {
             answer_live(rt, alloc, input, *workers, *mult, sink, gate)
         }
-        Command::Rehearse { .. } => answer_batch(rt, alloc, input, command, sink, gate),
-        Command::Check { mult } => judge(rt, alloc, input, *mult, sink),
+        Command::Rehearse { schedule } => {
+            rehearse_batch(&OnThreads::new(rt), alloc, input, schedule.as_slice(), sink)
+        }
+        Command::Check { mult } => { judge(MayCheck::on_threads(rt), alloc, input, *mult, sink) }
         Command::Capsules { mult } => exchange(rt, alloc, input, *mult, sink),
         Command::Demo { .. } => unreachable!(),
     }
@@ -110,7 +114,7 @@ fn obey<R: Threads + Wait + Sync, S: Source, K: Sink, G: Gate + Sync>(
 /// `sink`, and tells how the run ended. `words` doesn't hold the program's name.
 ///
 /// The command grammar is `command_of` of batch_words, and what may come of an input is `MayEnd` of
-/// `specs/Text.antt`. For `run` a batch is answered by the replies along legal journals of its
+/// batch_serving. For `run` a batch is answered by the replies along legal journals of its
 /// contexts, which the text itself prints; for `live` along a legal table too, of the contexts that
 /// its lanes add, retire and look up; for `rehearse` by the replies along the journals of its
 /// schedule. `check` reads a batch and judges what stands behind it: it is done where that is a text

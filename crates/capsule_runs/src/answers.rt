@@ -1,4 +1,4 @@
-//! The answers of a plan, by several threads.
+//! The answers of a plan, by several threads or by the calling thread alone.
 
 ghost use Rattle.std.specs.Prelude.{◌≡◌, ◌≢◌, ◌≤◌, ◌<◌, ℕ, map, length, slice_get, Some, Ok, IfOk, IfSome, OnOk, All, option_copied};
 ghost use Rattle.context_table.specs.Slots.{HoldKeys};
@@ -11,10 +11,11 @@ ghost use Rattle.capsule_runs.specs.Orders.{IsJobWithin, jobs_from, given_for, A
 use crate::finding::{first, refusal_of, sent_by};
 use crate::jobs::{AnswerJob, jobs};
 use crate::results::{AnswerResult, AskResult, Given};
+use aes_gcm::MayCheck;
 use batch_plans::{EncField, Plan};
 use capsule_frames::{CapsulePlan, CapsuleRefusal};
 use context_table::{Key, KeyPair, KeyTable};
-use ohttp_capsule::answer;
+use ohttp_capsule::answer_by;
 use ring_core::Multiplier;
 use sntrup_kem::KemParams;
 use std::alloc::{AllocError as OutOfMemory, Global};
@@ -47,8 +48,8 @@ fn text_asked<'p>(asks: &[AskResult<'p>], request: EncField) -> &'p [u8] {
 }
 
 // The answer of a key to a request, where there is one. Its text may be one that is known.
-fn given_with<'p, R: Threads + Sync, S: KemParams, M: Multiplier>(
-    rt: &R,
+fn given_with<'p, S: KemParams, M: Multiplier>(
+    permission: MayCheck,
     alloc: Global,
     mult: &M,
     key: &KeyPair<S>,
@@ -69,7 +70,7 @@ fn given_with<'p, R: Threads + Sync, S: KemParams, M: Multiplier>(
     let Some(request) = request else {
         return Ok(Err(CapsuleRefusal::NoAsk));
     };
-    match answer(rt, alloc, mult, secret, id, request, nonce, text) {
+    match answer_by(permission, alloc, mult, secret, id, request, nonce, text) {
         Ok((question, response)) => {
             let (question, response) = (question.as_slice(), response.as_slice());
             let given = Given::copied(alloc, known, question, response, text)?;
@@ -91,9 +92,9 @@ struct Gateway<'a, 'p, M: Multiplier> {
 impl<'p, M: Multiplier> Gateway<'_, 'p, M> {
     // What becomes of an answer.
     #[tactic(auto, unfolding(crate::specs::Lines::given))]
-    fn given<R: Threads + Sync>(
+    fn given(
         &self,
-        rt: &R,
+        permission: MayCheck,
         alloc: Global,
         job: AnswerJob,
     ) -> Result<AnswerResult<'p>, OutOfMemory>
@@ -112,21 +113,21 @@ impl<'p, M: Multiplier> Gateway<'_, 'p, M> {
             None => Ok(Err(CapsuleRefusal::NoKey)),
             Some(Key::Of761(pair)) => {
                 given_with(
-                    rt, alloc, self.mult, pair, job.id, request, known, nonce, text,
+                    permission, alloc, self.mult, pair, job.id, request, known, nonce, text,
                 )
             }
             Some(Key::Of857(pair)) => {
                 given_with(
-                    rt, alloc, self.mult, pair, job.id, request, known, nonce, text,
+                    permission, alloc, self.mult, pair, job.id, request, known, nonce, text,
                 )
             }
         }
     }
 
     // What becomes of the answer at this index, in its slot.
-    fn fill_slot<R: Threads + Sync>(
+    fn fill_slot(
         &self,
-        rt: &R,
+        permission: MayCheck,
         alloc: Global,
         jobs: &[AnswerJob],
         i: usize,
@@ -140,12 +141,32 @@ impl<'p, M: Multiplier> Gateway<'_, 'p, M> {
             → IfOk slot.new (λ g. g ≡ given_for self.now.plan.now self.now.keys.now.replies
             self.now.asks.now job) }
     {
-        *slot = self.given(rt, alloc, jobs[i]);
+        *slot = self.given(permission, alloc, jobs[i]);
+    }
+
+    // What becomes of these answers, on the calling thread.
+    fn alone(
+        &self,
+        permission: MayCheck,
+        alloc: Global,
+        jobs: &[AnswerJob],
+    ) -> Result<Vec<AnswerResult<'p>>, OutOfMemory>
+        requires keys { HoldKeys self.now.plan.now self.now.keys.now.replies
+            self.now.keys.now.slots }
+        requires jobs { All (IsJobWithin (length self.now.plan.now.pool)) jobs.now }
+        ensures { IfOk result (λ v. v.items ≡ map (given_for self.now.plan.now
+            self.now.keys.now.replies self.now.asks.now) jobs.now) }
+    {
+        let mut answers = Vec::new(alloc);
+        'jobs: for job in jobs {
+            answers.push(self.given(permission, alloc, *job)?)?;
+        }
+        Ok(answers)
     }
 }
 
 impl<'p, M: Multiplier + Sync> Gateway<'_, 'p, M> {
-    // Each slot gets what becomes of its answer.
+    // Each slot gets what becomes of its answer, by several threads.
     fn fill<R: Threads + Sync>(
         &self,
         rt: &R,
@@ -160,6 +181,7 @@ impl<'p, M: Multiplier + Sync> Gateway<'_, 'p, M> {
         ensures { AreGiven (given_for self.now.plan.now self.now.keys.now.replies
             self.now.asks.now) jobs.now slots.new }
     {
+        let permission = MayCheck::on_threads(rt);
         for_each_mut(
             rt,
             slots,
@@ -169,7 +191,7 @@ impl<'p, M: Multiplier + Sync> Gateway<'_, 'p, M> {
                     self.now.keys.now.slots
                     × All (IsJobWithin (length self.now.plan.now.pool)) jobs.now
                     × (i < length jobs.now) }
-            { self.fill_slot(rt, alloc, jobs, i, slot) },
+            { self.fill_slot(permission, alloc, jobs, i, slot) },
         );
     }
 
@@ -190,6 +212,23 @@ impl<'p, M: Multiplier + Sync> Gateway<'_, 'p, M> {
         let mut slots = empty_slots(alloc, jobs.len())?;
         self.fill(rt, alloc, jobs, &mut slots);
         Ok(slots)
+    }
+
+    // What becomes of these answers, by several threads.
+    fn by_threads<R: Threads + Sync>(
+        &self,
+        rt: &R,
+        alloc: Global,
+        jobs: &[AnswerJob],
+    ) -> Result<Vec<AnswerResult<'p>>, OutOfMemory>
+        requires keys { HoldKeys self.now.plan.now self.now.keys.now.replies
+            self.now.keys.now.slots }
+        requires jobs { All (IsJobWithin (length self.now.plan.now.pool)) jobs.now }
+        ensures { IfOk result (λ v. v.items ≡ map (given_for self.now.plan.now
+            self.now.keys.now.replies self.now.asks.now) jobs.now) }
+    {
+        let slots = self.all(rt, alloc, jobs)?;
+        filled(alloc, slots)
     }
 }
 
@@ -244,6 +283,30 @@ pub(crate) fn all_answers<'p, R: Threads + Sync, M: Multiplier + Sync>(
         keys,
         asks,
     };
-    let slots = gateway.all(rt, alloc, &jobs)?;
-    filled(alloc, slots)
+    gateway.by_threads(rt, alloc, &jobs)
+}
+
+/// What becomes of the answers of a plan, in their order, on the calling thread.
+#[inline(never)]
+pub(crate) fn all_answers_alone<'p, M: Multiplier>(
+    permission: MayCheck,
+    alloc: Global,
+    plan: &'p CapsulePlan,
+    mult: &M,
+    keys: &KeyTable,
+    asks: &[AskResult<'p>],
+) -> Result<Vec<AnswerResult<'p>>, OutOfMemory>
+    requires within { IsWithin plan.now }
+    requires keys { HoldKeys plan.now.plan keys.now.replies keys.now.slots }
+    ensures { IfOk result (λ v. v.items ≡ map
+        (given_for plan.now.plan keys.now.replies asks.now) (jobs_from 0 plan.now.lines)) }
+{
+    let jobs = jobs(alloc, plan)?;
+    let gateway = Gateway {
+        plan: &plan.plan,
+        mult,
+        keys,
+        asks,
+    };
+    gateway.alone(permission, alloc, &jobs)
 }

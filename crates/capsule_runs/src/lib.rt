@@ -6,7 +6,7 @@
 //! `AreReplies` of `specs/Replies.antt`, for each line by `specs/Lines.antt`. So they are a
 //! function of the plan, whatever threads answer and with each
 //! [`Multiplier`](ring_core::Multiplier). [`laws`] says so, and says that after a whole exchange
-//! each side has the other's text.
+//! each side has the other's text. [`serve_capsules_alone`] gives them on the calling thread.
 //!
 //! Not here: reading a plan from text and printing the replies (`capsule_frames`), what a message
 //! is (`ohttp_capsule`), what a key is (`context_table`). Nothing is wiped.
@@ -24,4 +24,4 @@ mod results;
 mod serving;
 mod takes;
 
-pub use serving::{CapsuleAnswers, CapsuleReplies, serve_capsules};
+pub use serving::{CapsuleAnswers, CapsuleReplies, serve_capsules, serve_capsules_alone};

@@ -1,17 +1,20 @@
 //! A plan of capsules, served whole.
 
-ghost use Rattle.std.specs.Prelude.{◌≡◌, IfOk};
+ghost use Rattle.std.specs.Prelude.{◌≡◌, IfOk, map};
 ghost use Rattle.capsule_frames.specs.Within.{IsWithin};
-ghost use Rattle.context_table.specs.Slots.{HoldKeys};
-ghost use Rattle.capsule_runs.specs.Replies.{AreReplies, due_replies};
+ghost use Rattle.context_table.specs.SetUp.{IsKeySetUp};
+ghost use Rattle.capsule_runs.specs.Orders.{asks_from, given_for, jobs_from};
+ghost use Rattle.capsule_runs.specs.Replies.{AreReplies};
 
-use crate::answers::all_answers;
+use crate::answers::{all_answers, all_answers_alone};
 use crate::asks::all_asks;
 use crate::merging::merged;
+use crate::results::{AnswerResult, AskResult};
 use crate::takes::all_takes;
+use aes_gcm::MayCheck;
 use batch_plans::{KeyReplies, PlainList};
 use capsule_frames::{CapsulePlan, CapsuleReply};
-use context_table::{KeyTable, key_table};
+use context_table::key_table;
 use ring_core::Multiplier;
 use std::alloc::{AllocError as OutOfMemory, Global};
 use std::thread::Threads;
@@ -45,28 +48,48 @@ pub fn serve_capsules<'p, R: Threads + Sync, M: Multiplier + Sync>(
     ensures { IfOk result (λ a. AreReplies plan.now a.keys a.replies) }
 {
     let keys = key_table(alloc, &plan.plan, mult)?;
-    let replies = replies_with(rt, alloc, plan, mult, &keys)?;
-    Ok(CapsuleAnswers {
-        keys: keys.replies,
-        replies: PlainList::from_vec(replies),
-    })
+    let asks = all_asks(alloc, plan, mult, &keys)?;
+    let answers = all_answers(rt, alloc, plan, mult, &keys, &asks)?;
+    let permission = MayCheck::on_threads(rt);
+    served(permission, alloc, plan, keys.replies, asks, answers)
 }
 
-// The replies to the capsule lines of a plan, by its keys.
-fn replies_with<'p, R: Threads + Sync, M: Multiplier + Sync>(
-    rt: &R,
+/// Serves a plan of capsules as [`serve_capsules`] does, on the calling thread, for who may check tags.
+pub fn serve_capsules_alone<'p, M: Multiplier>(
+    permission: MayCheck,
     alloc: Global,
     plan: &'p CapsulePlan,
     mult: &M,
-    keys: &KeyTable,
-) -> Result<Vec<CapsuleReply<'p>>, OutOfMemory>
-    requires within { IsWithin plan.now }
-    requires keys { HoldKeys plan.now.plan keys.now.replies keys.now.slots }
-    ensures { IfOk result (λ v. v.items ≡ due_replies plan.now keys.now.replies) }
+) -> Result<CapsuleAnswers<'p>, OutOfMemory>
+    requires { IsWithin plan.now }
+    ensures { IfOk result (λ a. AreReplies plan.now a.keys a.replies) }
 {
-    let asks = all_asks(alloc, plan, mult, keys)?;
-    let answers = all_answers(rt, alloc, plan, mult, keys, &asks)?;
-    let takes = all_takes(rt, alloc, plan, &asks, &answers)?;
+    let keys = key_table(alloc, &plan.plan, mult)?;
+    let asks = all_asks(alloc, plan, mult, &keys)?;
+    let answers = all_answers_alone(permission, alloc, plan, mult, &keys, &asks)?;
+    served(permission, alloc, plan, keys.replies, asks, answers)
+}
+
+// The replies to a plan, by what became of its keys, its asks and its answers.
+fn served<'p>(
+    permission: MayCheck,
+    alloc: Global,
+    plan: &'p CapsulePlan,
+    keys: KeyReplies,
+    asks: Vec<AskResult<'p>>,
+    answers: Vec<AnswerResult<'p>>,
+) -> Result<CapsuleAnswers<'p>, OutOfMemory>
+    requires within { IsWithin plan.now }
+    requires set_up { IsKeySetUp plan.now.plan keys }
+    requires asks { asks.items ≡ asks_from plan.now.plan keys 0 plan.now.lines }
+    requires answers { answers.items
+        ≡ map (given_for plan.now.plan keys asks.items) (jobs_from 0 plan.now.lines) }
+    ensures { IfOk result (λ a. AreReplies plan.now a.keys a.replies) }
+{
+    let takes = all_takes(permission, alloc, plan, &asks, &answers)?;
     let replies = merged(alloc, plan.lines.as_slice(), asks, answers, takes)?;
-    Ok(replies)
+    Ok(CapsuleAnswers {
+        keys,
+        replies: PlainList::from_vec(replies),
+    })
 }

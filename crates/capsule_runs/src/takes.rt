@@ -8,11 +8,11 @@ ghost use Rattle.capsule_runs.specs.Orders.{takes_from};
 
 use crate::finding::{first, given_by, refusal_of, sent_by};
 use crate::results::{AnswerResult, AskResult, TakeResult};
+use aes_gcm::MayCheck;
 use batch_plans::EncField;
 use capsule_frames::{CapsuleLine, CapsulePlan, CapsuleRefusal, KnownText};
-use ohttp_capsule::take;
+use ohttp_capsule::take_by;
 use std::alloc::{AllocError as OutOfMemory, Global};
-use std::thread::Threads;
 
 // The response of a take: bytes of its line, or what an earlier answer gave.
 fn response_at<'a>(
@@ -43,8 +43,8 @@ fn text_said<'p>(answers: &[AnswerResult<'p>], response: EncField) -> &'p [u8] {
 
 // What becomes of a take, after these asks and answers.
 #[tactic(auto, unfolding(crate::specs::Lines::took))]
-fn took<'p, R: Threads + Sync>(
-    rt: &R,
+fn took<'p>(
+    permission: MayCheck,
     alloc: Global,
     plan: &CapsulePlan,
     asks: &[AskResult<'p>],
@@ -62,7 +62,7 @@ fn took<'p, R: Threads + Sync>(
     let Some(response) = response_at(plan.plan.pool.as_slice(), answers, response) else {
         return Ok(Err(CapsuleRefusal::NoAnswer));
     };
-    match take(rt, alloc, sent.asked(), response) {
+    match take_by(permission, alloc, sent.asked(), response) {
         Ok(text) => Ok(Ok(KnownText::held_in(alloc, known, text.as_slice())?)),
         Err(fault) => Ok(Err(refusal_of(fault)?)),
     }
@@ -70,8 +70,8 @@ fn took<'p, R: Threads + Sync>(
 
 /// What becomes of the takes of a plan, in their order.
 #[inline(never)]
-pub(crate) fn all_takes<'p, R: Threads + Sync>(
-    rt: &R,
+pub(crate) fn all_takes<'p>(
+    permission: MayCheck,
     alloc: Global,
     plan: &CapsulePlan,
     asks: &[AskResult<'p>],
@@ -92,7 +92,7 @@ pub(crate) fn all_takes<'p, R: Threads + Sync>(
             CapsuleLine::Take { ask, response } => {
                 let asks = first(asks, asks_before);
                 let answers = first(answers, answers_before);
-                takes.push(took(rt, alloc, plan, asks, answers, ask, response)?)?
+                takes.push(took(permission, alloc, plan, asks, answers, ask, response)?)?
             }
         }
     }

@@ -3,9 +3,10 @@
 ghost use Rattle.std.specs.Prelude.{◌≤◌, length, vec_len, IfOk};
 
 use crate::expected::assert_same;
+use aes_gcm::MayCheck;
 use batch_io::MemorySink;
 use capsule_frames::{print_capsules, read_capsules};
-use capsule_runs::serve_capsules;
+use capsule_runs::{serve_capsules, serve_capsules_alone};
 use field_text::Printed;
 use hex::FromHex;
 use ring_core::Plain;
@@ -103,12 +104,22 @@ const REPLIES: [ReplyCase; 12] = [
     },
 ];
 
-// The SHA-256 of the reply to a batch.
-fn hash_of_reply<R: Threads + Abort + Sync>(rt: &R, alloc: Global, text: &[u8]) -> [u8; 32] {
+// The SHA-256 of the reply to a batch, which threads answer, or the calling thread alone.
+fn hash_of_reply<R: Threads + Abort + Sync>(
+    rt: &R,
+    alloc: Global,
+    text: &[u8],
+    alone: bool,
+) -> [u8; 32] {
     let Ok(plan) = read_capsules(alloc, text) else {
         panic!(rt; "a batch");
     };
-    let answers = serve_capsules(rt, alloc, &plan, &Plain).expect(rt, "memory");
+    let served = if alone {
+        serve_capsules_alone(MayCheck::on_threads(rt), alloc, &plan, &Plain)
+    } else {
+        serve_capsules(rt, alloc, &plan, &Plain)
+    };
+    let answers = served.expect(rt, "memory");
     // The largest reply here has about 9 MB.
     let room = vec![in alloc; 0u8; 12_000_000].expect(rt, "memory");
     let mut sink = MemorySink::new(room, 65_536, Vec::new(alloc));
@@ -125,8 +136,11 @@ fn replies_are_those_of_another_program(rt: HostRuntime) -> Result<(), Fail> {
         text.extend_from_slice(case.key)?;
         text.extend_from_slice(case.lines)?;
         text.extend_from_slice(b"end\n")?;
-        let got = hash_of_reply(&rt, rt.alloc(), &text);
-        assert_same(&rt, got, <[u8; 32]>::from_hex(case.sha256)?, what);
+        let want = <[u8; 32]>::from_hex(case.sha256)?;
+        for alone in [false, true] {
+            let got = hash_of_reply(&rt, rt.alloc(), &text, alone);
+            assert_same(&rt, got, want, what);
+        }
     }
     Ok(())
 }
@@ -182,7 +196,7 @@ fn large_batch(alloc: Global) -> Result<Vec<u8>, Fail> {
 #[test]
 fn the_largest_texts_and_256_lines_of_each_kind_are_answered(rt: HostRuntime) -> Result<(), Fail> {
     let text = large_batch(rt.alloc())?;
-    let got = hash_of_reply(&rt, rt.alloc(), &text);
+    let got = hash_of_reply(&rt, rt.alloc(), &text, false);
     assert_same(
         &rt,
         got,

@@ -1,5 +1,6 @@
-//! Whole runs over memory: tests of batch_runner.
+//! Whole runs over memory: tests of batch_runner and batch_serving.
 
+mod alone;
 mod faults;
 mod hostile;
 mod live;
@@ -32,7 +33,7 @@ const RUN_WORDS: [&'static [&'static str]; 4] = [
     &["run", "--mult", "lanes"],
 ];
 
-fn words_of(alloc: Global, words: &[&str]) -> Result<Vec<String>, AllocError> {
+pub fn words_of(alloc: Global, words: &[&str]) -> Result<Vec<String>, AllocError> {
     let mut owned = Vec::new(alloc);
     for word in words {
         owned.push(String::from_str(alloc, word)?)?;

@@ -24,7 +24,7 @@ use Rattle.context_table.proofs.OneSetUp.{one_set_up_lem}
 use Rattle.lane_workers.specs.Gathered.{AreOfARun}
 use Rattle.demo_texts.specs.Texts.{sealed_text}
 use Rattle.demo_texts.specs.Plans.{IsOpeningPlan, set_up_plan}
-use Rattle.demo_runs.specs.Demo.{sealed_at}
+use Rattle.demo_texts.specs.Demo.{sealed_at}
 use Rattle.demo_runs.specs.Steps.{opened_line, ciphertexts, HasCiphertexts, IsSealed, IsOpenedLane}
 use Rattle.demo_runs.proofs.SetUps.{SenderStands, sender_stands, set_up_of, get_standing, BothStand, both_stand}
 use Rattle.demo_runs.proofs.OpeningRuns.{the_unseal, joined, OpeningRun, journal_is, lane_opened}

@@ -23,7 +23,7 @@ use Rattle.aes_gcm.proofs.Opening.{IsWhole, length-gctr, length-tag_of}
 use Rattle.context_table.proofs.Messages.{key_is_whole}
 use Rattle.legal_journals.proofs.Members.{value_at}
 use Rattle.due_replies.specs.Standing.{standing_at, AreOfLines}
-use Rattle.demo_runs.specs.Demo.{sealed_at}
+use Rattle.demo_texts.specs.Demo.{sealed_at}
 use Rattle.demo_runs.specs.Steps.{is_generated}
 use Rattle.context_table.specs.Streams.{context_words}
 use Rattle.context_table.specs.Keys.{IsKeyReply, kem761}

@@ -15,7 +15,7 @@ use Rattle.due_replies.specs.Standing.{standing_at}
 use Rattle.context_table.specs.SetUp.{IsSetUp}
 use Rattle.demo_texts.specs.Texts.{sealed_text}
 use Rattle.demo_texts.specs.Plans.{set_up_plan}
-use Rattle.demo_runs.specs.Demo.{sealed_at}
+use Rattle.demo_texts.specs.Demo.{sealed_at}
 
 -- ---- the first batch
 

@@ -3,13 +3,12 @@
 ghost use Rattle.std.specs.Prelude.{◌≡◌, ◌<◌, ◌≤◌, IfOk};
 ghost use Rattle.std.specs.List.{concat};
 ghost use Rattle.sha2.specs.Sha256.{sha256};
-ghost use Rattle.demo_runs.specs.Demo.{IsDemo};
+ghost use Rattle.demo_texts.specs.Demo.{IsDemo};
 
 use crate::opening::opened_messages;
-use crate::reports::DemoReport;
 use crate::sealing::sealed_messages;
 use batch_io::Gate;
-use demo_texts::CIPHERTEXT_SIZE;
+use demo_texts::{CIPHERTEXT_SIZE, DemoReport};
 use sha2::{Digest, Sha256};
 use std::alloc::{AllocError, Global};
 use std::sync::Wait;

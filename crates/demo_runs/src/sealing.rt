@@ -6,7 +6,7 @@ ghost use Rattle.hpke_context.specs.Contexts.{ContextView};
 ghost use Rattle.batch_plans.specs.Limits.{IsWithinLimits, IsPlain};
 ghost use Rattle.reply_texts.specs.Lines.{reply_line};
 ghost use Rattle.demo_texts.specs.Plans.{IsSealingPlan};
-ghost use Rattle.demo_runs.specs.Demo.{sealed_at};
+ghost use Rattle.demo_texts.specs.Demo.{sealed_at};
 ghost use Rattle.demo_runs.specs.Steps.{sealed_line, IsSealedReply, SealedLane, SealedLanes, AreLow};
 ghost use Rattle.demo_runs.specs.Steps.{IsSealedLane, AreSealedLanes, put_all, IsSealed, is_generated};
 

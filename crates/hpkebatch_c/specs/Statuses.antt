@@ -57,3 +57,7 @@ refused_pskextra = 17
 -- mode psk needs a psk
 abbrev pub refused_pskmissing : ℕ
 refused_pskmissing = 18
+
+-- the words ask for a command that threads alone serve
+abbrev pub needs_threads : ℕ
+needs_threads = 19

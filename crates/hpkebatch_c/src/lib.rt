@@ -18,7 +18,9 @@ mod exchanges;
 mod kem;
 mod messages;
 mod outputs;
+mod serving;
 mod setups;
+mod sinks;
 mod statuses;
 
 pub use contexts::HpkeContext;

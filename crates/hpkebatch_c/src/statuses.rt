@@ -48,3 +48,6 @@ pub(crate) const REFUSED_PSKEXTRA: u32 = 17;
 
 /// Mode psk needs a psk.
 pub(crate) const REFUSED_PSKMISSING: u32 = 18;
+
+/// The words ask for a command that threads alone serve.
+pub(crate) const NEEDS_THREADS: u32 = 19;

@@ -1,8 +1,8 @@
-use Rattle.demo_runs.specs.Demo.{report_text}
-use Rattle.batch_runner.specs.declared.outcomes.Outcome.TheVariants.{Done}
-use Rattle.batch_runner.specs.Effects.{Says}
-use Rattle.batch_runner.specs.Text.{Demonstrates}
-use Rattle.batch_runner.proofs.Writing.{due_as, unwritten}
+use Rattle.demo_texts.specs.Demo.{report_text}
+use Rattle.batch_serving.specs.declared.outcomes.Outcome.TheVariants.{Done}
+use Rattle.batch_serving.specs.Effects.{Says}
+use Rattle.batch_serving.specs.Text.{Demonstrates}
+use Rattle.batch_serving.proofs.Writing.{due_as, unwritten}
 use Rattle.batch_runner.proofs.demonstrating.demonstrate.Goals as goal
 
 pub returns-in-Ok : goal.returns-in-Ok

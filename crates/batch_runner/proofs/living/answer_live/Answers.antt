@@ -1,9 +1,9 @@
 use Rattle.std.proofs.Common.{Err, ap, subst, sym}
 use Rattle.live_frames.specs.Live.{live}
 use Rattle.context_table.specs.ReplyTo.{IsLiveReply}
-use Rattle.batch_runner.specs.Text.{AnswersBy}
-use Rattle.batch_runner.specs.Effects.{Writes}
-use Rattle.batch_runner.proofs.Writing.{bad_told}
+use Rattle.batch_serving.specs.Text.{AnswersBy}
+use Rattle.batch_serving.specs.Effects.{Writes}
+use Rattle.batch_serving.proofs.Writing.{bad_told}
 use Rattle.batch_runner.proofs.living.answer_live.Goals as goal
 
 pub returns-in-Ok : goal.returns-in-Ok

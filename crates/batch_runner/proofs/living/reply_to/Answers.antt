@@ -1,8 +1,8 @@
 use Rattle.std.proofs.Common.{Ok}
 use Rattle.reply_texts.specs.LiveText.{live_text}
 use Rattle.context_table.specs.ReplyTo.{IsLiveReply}
-use Rattle.batch_runner.specs.Text.{AnswersBy}
-use Rattle.batch_runner.proofs.Writing.{replied, unwritten}
+use Rattle.batch_serving.specs.Text.{AnswersBy}
+use Rattle.batch_serving.proofs.Writing.{replied, unwritten}
 use Rattle.batch_runner.proofs.living.reply_to.Goals as goal
 
 pub returns-in-Ok : goal.returns-in-Ok

@@ -1,6 +1,6 @@
 use Rattle.std.proofs.Common.{Err, ap, subst}
-use Rattle.batch_runner.specs.Effects.{Writes}
-use Rattle.batch_runner.specs.Text.{MayEnd}
+use Rattle.batch_serving.specs.Effects.{Writes}
+use Rattle.batch_serving.specs.Text.{MayEnd}
 use Rattle.batch_runner.proofs.Serves.{serves_fault, serves_input, serves_nothing}
 use Rattle.batch_runner.proofs.serving.answer.Goals as goal
 

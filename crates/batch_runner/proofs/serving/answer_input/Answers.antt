@@ -1,19 +1,13 @@
 use Rattle.std.proofs.Common.{subst, sym}
 use Rattle.request_frames.specs.Batch.{batch}
-use Rattle.batch_runner.specs.Effects.{Writes}
-use Rattle.batch_runner.specs.Text.{Answers, MayEnd}
+use Rattle.batch_serving.specs.Effects.{Writes}
+use Rattle.batch_serving.specs.Text.{AnswersBy, IsRehearsal, MayEnd}
 use Rattle.batch_runner.proofs.serving.answer_input.Goals as goal
 
 pub returns-in-Run : goal.returns-in-Run
 returns-in-Run g c =
-    let input = c.args.input.now in
-    let written = g.K.Sink.written in
-    let faults = g.K.Sink.faults in
-    let old = c.args.sink.now in
-    let new = c.answer_batch.new.sink in
-    subst (λ one. Writes written faults old new (Answers one (batch input)) c.answer_batch.result
-    → Writes written faults old new (MayEnd one input) c.answer_batch.result) (sym c.in-Run.is) (λ w. w)
-    c.answer_batch.ensures
+    subst (λ one. Writes g.K.Sink.written g.K.Sink.faults c.args.sink.now c.run_batch.new.sink
+    (MayEnd one c.args.input.now) c.run_batch.result) (sym c.in-Run.is) c.run_batch.ensures
 
 pub returns-in-Live : goal.returns-in-Live
 returns-in-Live g c =
@@ -22,14 +16,14 @@ returns-in-Live g c =
 
 pub returns-in-Rehearse : goal.returns-in-Rehearse
 returns-in-Rehearse g c =
-    let input = c.args.input.now in
     let written = g.K.Sink.written in
     let faults = g.K.Sink.faults in
     let old = c.args.sink.now in
-    let new = c.answer_batch-in-Rehearse.new.sink in
-    subst (λ one. Writes written faults old new (Answers one (batch input)) c.answer_batch-in-Rehearse.result
-    → Writes written faults old new (MayEnd one input) c.answer_batch-in-Rehearse.result) (sym c.in-Rehearse.is) (λ w. w)
-    c.answer_batch-in-Rehearse.ensures
+    let new = c.rehearse_batch.new.sink in
+    subst (λ one. Writes written faults old new (MayEnd one c.args.input.now) c.rehearse_batch.result)
+    (sym c.in-Rehearse.is)
+    (subst (λ steps. Writes written faults old new (AnswersBy (IsRehearsal steps) (batch c.args.input.now))
+    c.rehearse_batch.result) c.as_slice.ensures c.rehearse_batch.ensures)
 
 pub returns-in-Check : goal.returns-in-Check
 returns-in-Check g c =

@@ -1,5 +1,5 @@
 use Rattle.std.proofs.Common.{subst, sym}
-use Rattle.batch_runner.specs.Effects.{Serves}
+use Rattle.batch_serving.specs.Effects.{Serves}
 use Rattle.batch_runner.proofs.Serves.{serves_demo}
 use Rattle.batch_runner.proofs.serving.obey.Goals as goal
 

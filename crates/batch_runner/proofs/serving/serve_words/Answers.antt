@@ -1,8 +1,8 @@
 use Rattle.std.proofs.Common.{◌∙◌, Some, ap, subst, sym}
 use Rattle.std.specs.Io.KnownBytes.{Appends}
-use Rattle.batch_runner.specs.Text.{IsReadBy, MayEnd}
-use Rattle.batch_runner.proofs.Ends.{bad_line, broken_result, input_of_bad}
-use Rattle.batch_runner.proofs.Endings.{OfInput}
+use Rattle.batch_serving.specs.Text.{IsReadBy, MayEnd}
+use Rattle.batch_serving.proofs.Ends.{bad_line, broken_result, input_of_bad}
+use Rattle.batch_serving.proofs.Endings.{OfInput}
 use Rattle.batch_runner.proofs.Serves.{whole_text}
 use Rattle.batch_runner.proofs.serving.serve_words.Goals as goal
 

@@ -3,4 +3,4 @@ use Rattle.std.proofs.lemmas.Grind.{common_steps}
 use Rattle.capsule_runs.proofs.takes.all_takes.Goals as goal
 
 pub lines-preserved : goal.lines-preserved
-lines-preserved g c = grind (arith, common_steps)
+lines-preserved c = grind (arith, common_steps)

@@ -3,7 +3,7 @@ use Rattle.capsule_runs.specs.Orders.{takes_from}
 use Rattle.capsule_runs.proofs.takes.all_takes.Given as goal
 
 abbrev pub invariant-lines : goal.invariant-lines
-invariant-lines g l = record {
+invariant-lines l = record {
   made : l.takes.items ++ takes_from l.plan.plan l.asks l.answers l.asks_before l.answers_before
       (drop l.line-index l.lines)
       ≡ takes_from l.plan.plan l.asks l.answers 0 0 l.lines;

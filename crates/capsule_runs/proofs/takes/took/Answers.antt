@@ -5,7 +5,7 @@ use Rattle.capsule_runs.proofs.Telling.{took_is}
 use Rattle.capsule_runs.proofs.takes.took.Goals as goal
 
 pub returns-in_ok-held_in-in-Ok : goal.returns-in_ok-held_in-in-Ok
-returns-in_ok-held_in-in-Ok g c =
+returns-in_ok-held_in-in-Ok c =
     let to : List ℕ → Result (List ℕ) CapsuleRefusal = λ t. Ok t in
     let became : Result (List ℕ) CapsuleFault = Ok c.in-Ok.text in
     ap to (c.in_ok-held_in-in-Ok.ensures ∙ c.as_slice-in-Ok.ensures)
@@ -16,7 +16,7 @@ returns-in_ok-held_in-in-Ok g c =
     c.asked.ensures.asked c.in-Ok.ensures.taken (λ e. cc)
 
 pub returns-in_ok-refusal_of-in-Err : goal.returns-in_ok-refusal_of-in-Err
-returns-in_ok-refusal_of-in-Err g c =
+returns-in_ok-refusal_of-in-Err c =
     let to : CapsuleRefusal → Result (List ℕ) CapsuleRefusal = λ r. Err r in
     let became : Result (List ℕ) CapsuleFault = Err c.in-Err.fault in
     ap to c.in_ok-refusal_of-in-Err.ensures.refusal

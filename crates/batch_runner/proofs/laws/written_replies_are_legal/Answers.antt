@@ -1,5 +1,0 @@
-use Rattle.batch_runner.proofs.Replied.{written_is_legal}
-use Rattle.batch_runner.proofs.laws.written_replies_are_legal.Goals as goal
-
-pub returns : goal.returns
-returns c = written_is_legal

@@ -1,4 +1,0 @@
-pub mod Effects
-pub mod Input
-pub mod Outcomes
-pub mod Text

@@ -1,0 +1,87 @@
+-- What is told of an input that was served: the text of each outcome.
+use Rattle.std.proofs.Common.{◌≡◌, ◌⊎◌, ℕ, List, Option, Result, Ok, Err, ap, refl, subst, sym, inl, inr}
+use Rattle.std.specs.Prelude.{◌≢◌, IfOk, IsErr}
+use Rattle.std.specs.Io.KnownBytes.{Appends}
+use Rattle.batch_io.specs.Outside.{Rose}
+use Rattle.field_text.specs.declared.reasons.Reason.{Reason}
+use Rattle.reply_texts.specs.ReplyText.{bad_text}
+use Rattle.result_verdicts.specs.declared.verdicts.Verdict.{Verdict}
+use Rattle.result_verdicts.specs.VerdictText.{verdict_text}
+use Rattle.batch_words.specs.declared.commands.Command.{Command}
+use Rattle.batch_words.specs.declared.commands.Command.TheVariants.{Check}
+use Rattle.batch_words.specs.declared.commands.Mult.{Mult}
+use Rattle.batch_serving.specs.declared.outcomes.Outcome.{Outcome}
+use Rattle.batch_serving.specs.declared.outcomes.Outcome.TheVariants.{Usage, BadBatch, ReadFault, WriteFault, OutOfMemory, Broken}
+use Rattle.batch_serving.specs.Effects.{Writes}
+use Rattle.batch_serving.specs.Text.{IsBadFor, IsBroken, MayEnd}
+use Rattle.batch_serving.proofs.Ends.{bad_line, broken_result, of_input}
+use Rattle.batch_serving.proofs.Endings.{OfInput, faults_or_not}
+
+module _ {K : Type 0} (written : K → Option (List ℕ)) (faults : K → ℕ) (old new : K)
+    (command : Command) (input : List ℕ) where
+  abbrev Written : Outcome → Type 0
+  Written outcome = Writes written faults old new (MayEnd command input) outcome
+
+  -- the whole text of an outcome of the input
+  pub told : (outcome : Outcome) → OfInput outcome → Written outcome
+      → (text : List ℕ) × MayEnd command input outcome text × Appends (written old) (written new) text
+  told outcome is w = w.whole (λ e. subst OfInput e is) (λ e. subst OfInput e is)
+
+  pub bad_told : (line : ℕ) (reason : Reason) → Written (BadBatch line reason)
+      → IsBadFor command input line reason
+      × Appends (written old) (written new) (bad_text (record { line = line; reason = reason }))
+  bad_told line reason w =
+      let end = told (BadBatch line reason) tt w in
+      let bad = bad_line line reason end.0 command input end.1 in
+      (bad.0, subst (Appends (written old) (written new)) bad.1 end.2)
+
+  pub broken_told : (verdict : Verdict) → Written (Broken verdict)
+      → (mult : Mult) × (command ≡ Check mult) × IsBroken input verdict
+      × Appends (written old) (written new) (verdict_text verdict)
+  broken_told verdict w =
+      let end = told (Broken verdict) tt w in
+      let broken = broken_result verdict end.0 command input end.1 in
+      (broken.0, broken.1, broken.2, subst (Appends (written old) (written new)) broken.3 end.2)
+
+  -- neither wrong words nor a fault of reading
+  pub of_no_input : (outcome : Outcome) → Written outcome → (outcome ≢ Usage) × (outcome ≢ ReadFault)
+  of_no_input outcome w = (
+    (λ e. let end = (subst Written e w).whole (λ a. cc) (λ a. cc) in of_input command input Usage end.0 end.1),
+    (λ e. let end = (subst Written e w).whole (λ a. cc) (λ a. cc) in of_input command input ReadFault end.0 end.1),
+  )
+
+  -- with no fault there is a text, or there was no memory
+  pub told_whole : (outcome : Outcome) → Written outcome → ¬ Rose (faults old) (faults new)
+      → ((text : List ℕ) × MayEnd command input outcome text) ⊎ (outcome ≡ OutOfMemory)
+  told_whole outcome w none = elim (faults_or_not outcome) [
+    | inl fault ↦ absurd (none (w.failed fault))
+    | inr (inl want) ↦ inr want
+    | inr (inr others) ↦ let end = w.whole others.0 others.1 in inl (end.0, end.1)
+  ]
+
+  -- of a call that may have refused the command
+  module _ {E : Type 0} (r : Result Outcome E) (w : IfOk r Written) where
+    pub written_at : (outcome : Outcome) → r ≡ Ok outcome → Written outcome
+    written_at outcome e = subst (λ one. IfOk one Written) e w
+
+    pub no_fault_at : (IsErr r → new ≡ old) → r ≢ Ok WriteFault → faults new ≡ faults old
+    no_fault_at kept none = go r refl
+      where
+        go : (one : Result Outcome E) → r ≡ one → faults new ≡ faults old
+        go (Ok outcome) is =
+            (written_at outcome is).no_fault (λ fault. none (subst (λ o. r ≡ Ok o) fault is))
+        go (Err e) is = ap faults (kept (subst IsErr (sym is) refl))
+
+    pub whole_at : ¬ IsErr r → ¬ Rose (faults old) (faults new)
+        → ((outcome : Outcome) × (text : List ℕ) × (r ≡ Ok outcome) × MayEnd command input outcome text)
+        ⊎ (r ≡ Ok OutOfMemory)
+    whole_at served none = go r refl
+      where
+        go : (one : Result Outcome E) → r ≡ one
+            → ((outcome : Outcome) × (text : List ℕ) × (r ≡ Ok outcome) × MayEnd command input outcome text)
+            ⊎ (r ≡ Ok OutOfMemory)
+        go (Ok outcome) is = elim (told_whole outcome (written_at outcome is) none) [
+          | inl end ↦ inl (outcome, end.0, is, end.1)
+          | inr want ↦ inr (subst (λ o. r ≡ Ok o) want is)
+        ]
+        go (Err e) is = absurd (served (subst IsErr (sym is) refl))

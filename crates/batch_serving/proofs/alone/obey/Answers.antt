@@ -1,0 +1,31 @@
+use Rattle.std.proofs.Common.{subst, sym}
+use Rattle.request_frames.specs.Batch.{batch}
+use Rattle.batch_serving.specs.Effects.{Writes}
+use Rattle.batch_serving.specs.Text.{AnswersBy, IsRehearsal, MayEnd}
+use Rattle.batch_serving.proofs.alone.obey.Goals as goal
+
+pub returns-in-Run-clause-writes : goal.returns-in-Run-clause-writes
+returns-in-Run-clause-writes g c =
+    subst (λ one. Writes g.K.Sink.written g.K.Sink.faults c.args.sink.now c.run_in_order.new.sink
+    (MayEnd one c.args.input.now) c.run_in_order.result) (sym c.in-Run.is) c.run_in_order.ensures
+
+pub returns-in-Rehearse-clause-writes : goal.returns-in-Rehearse-clause-writes
+returns-in-Rehearse-clause-writes g c =
+    let written = g.K.Sink.written in
+    let faults = g.K.Sink.faults in
+    let old = c.args.sink.now in
+    let new = c.rehearse_batch.new.sink in
+    subst (λ one. Writes written faults old new (MayEnd one c.args.input.now) c.rehearse_batch.result)
+    (sym c.in-Rehearse.is)
+    (subst (λ steps. Writes written faults old new (AnswersBy (IsRehearsal steps) (batch c.args.input.now))
+    c.rehearse_batch.result) c.as_slice.ensures c.rehearse_batch.ensures)
+
+pub returns-in-Check-clause-writes : goal.returns-in-Check-clause-writes
+returns-in-Check-clause-writes g c =
+    subst (λ one. Writes g.K.Sink.written g.K.Sink.faults c.args.sink.now c.judge.new.sink
+    (MayEnd one c.args.input.now) c.judge.result) (sym c.in-Check.is) c.judge.ensures
+
+pub returns-in-Capsules-clause-writes : goal.returns-in-Capsules-clause-writes
+returns-in-Capsules-clause-writes g c =
+    subst (λ one. Writes g.K.Sink.written g.K.Sink.faults c.args.sink.now c.exchange_alone.new.sink
+    (MayEnd one c.args.input.now) c.exchange_alone.result) (sym c.in-Capsules.is) c.exchange_alone.ensures

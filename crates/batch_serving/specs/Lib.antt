@@ -1,0 +1,5 @@
+pub mod Begun
+pub mod Effects
+pub mod Input
+pub mod Outcomes
+pub mod Text

@@ -1,0 +1,144 @@
+-- What may come of an input by a command: how the command ends, and the text that it writes.
+use Rattle.std.specs.Prelude.{◌≡◌, ◌≢◌, ℕ, ◌↔◌, List, drop, Option, Some, Result, Ok, Err}
+use Rattle.field_text.specs.declared.reasons.Reason.{Reason}
+use Rattle.field_text.specs.declared.faults.BadBatch.{BadBatch}
+use Rattle.hpke_context.specs.Contexts.{ContextView}
+use Rattle.batch_plans.specs.declared.plan.Plan.{Plan}
+use Rattle.batch_plans.specs.declared.replies.KeyReply.{KeyReply}
+use Rattle.batch_plans.specs.declared.replies.ContextReply.{ContextReply}
+use Rattle.reply_texts.specs.ReplyText.{bad_text}
+use Rattle.request_frames.specs.Batch.{batch, front_batch, BadAt, BeginsWith, FrontBadAt}
+use Rattle.due_replies.specs.Runs.{run_text}
+use Rattle.context_table.specs.SetUp.{IsSetUp}
+use Rattle.context_table.specs.ReplyTo.{IsReply, IsLiveReply}
+use Rattle.live_frames.specs.Live.{live}
+use Rattle.live_frames.specs.Live.{BadAt as BadLiveAt}
+use Rattle.context_core.specs.Rehearsals.{rehearsed}
+use Rattle.result_verdicts.specs.declared.verdicts.Verdict.{Verdict}
+use Rattle.result_verdicts.specs.declared.verdicts.Verdict.TheVariants.{Legal}
+use Rattle.result_verdicts.specs.VerdictText.{verdict_text}
+use Rattle.journal_check.specs.Verdicts.{IsVerdict}
+use Rattle.capsule_frames.specs.Capsules.{capsules}
+use Rattle.capsule_frames.specs.Capsules.{BadAt as BadCapsulesAt}
+use Rattle.capsule_runs.specs.Replies.{IsCapsuleReply}
+use Rattle.demo_texts.specs.declared.reports.DemoReport.{DemoReport}
+use Rattle.demo_texts.specs.Demo.{IsDemo, report_text}
+use Rattle.batch_words.specs.declared.commands.Command.{Command}
+use Rattle.batch_words.specs.declared.commands.Command.TheVariants as commands
+use Rattle.batch_words.specs.Words.{command_of}
+use Rattle.batch_serving.specs.declared.outcomes.Outcome.{Outcome}
+use Rattle.batch_serving.specs.declared.outcomes.Outcome.TheVariants.{Done, BadBatch as IsBad}
+use Rattle.batch_serving.specs.Input.{IsInput}
+use Rattle.batch_serving.specs.Outcomes.{outcome_on}
+
+-- ---- an input that is not in the command's grammar
+
+-- its first bad line is told
+pub record IsTold (bad : BadBatch) (outcome : Outcome) (text : List ℕ) : Type 0 where
+  pub outcome_is : outcome ≡ IsBad bad.line bad.reason
+  pub text_is : text ≡ bad_text bad
+
+-- ---- an input in the command's grammar
+
+-- what it spells is answered by a text that replies to it, or its first bad line is told
+abbrev pub AnswersBy : {P : Type 0} → (P → List ℕ → Type 0) → Result P BadBatch → Outcome → List ℕ
+    → Type 0
+AnswersBy IsReplyTo (Ok plan) outcome text = (outcome ≡ Done) × IsReplyTo plan text
+AnswersBy IsReplyTo (Err bad) outcome text = IsTold bad outcome text
+
+-- ---- `rehearse`: a batch is answered in the order of a schedule
+
+-- The text replies to the plan's set-up, and to its calls where the lanes take their steps by this
+-- schedule. A plan has one set-up, so it has one such text.
+pub record IsRehearsal (schedule : List ℕ) (plan : Plan) (text : List ℕ) : Type 0 where
+  pub keys : List KeyReply
+  pub contexts : List ContextReply
+  pub standing : List (Option ContextView)
+  pub set_up : IsSetUp plan keys contexts standing
+  pub text_is : text ≡ run_text keys contexts (rehearsed plan standing schedule)
+
+-- ---- `demo`: nothing is read
+
+-- the lines of the one report of this seed and this many messages
+pub record Demonstrates (seed messages : ℕ) (outcome : Outcome) (text : List ℕ) : Type 0 where
+  pub report : DemoReport
+  pub is : IsDemo seed messages report
+  pub outcome_is : outcome ≡ Done
+  pub text_is : text ≡ report_text report
+
+-- ---- `check`: a batch is read, and what stands behind it is judged
+
+-- it is legal exactly where it is a reply that `run` may give
+pub record IsJudged (plan : Plan) (result : List ℕ) (verdict : Verdict) : Type 0 where
+  pub is : IsVerdict plan result verdict
+  pub legal : (verdict ≡ Legal) ↔ IsReply plan result
+
+-- the verdict's line
+pub record TellsVerdict (plan : Plan) (result : List ℕ) (outcome : Outcome) (text : List ℕ)
+    : Type 0 where
+  pub verdict : Verdict
+  pub judged : IsJudged plan result verdict
+  pub outcome_is : outcome ≡ outcome_on verdict
+  pub text_is : text ≡ verdict_text verdict
+
+-- the input begins with a batch, and what stands behind it is broken so
+pub record IsBroken (input : List ℕ) (verdict : Verdict) : Type 0 where
+  pub plan : Plan
+  pub end : ℕ
+  pub begins : BeginsWith input plan end
+  pub judged : IsJudged plan (drop end input) verdict
+  pub broken : verdict ≢ Legal
+
+abbrev pub Judges : Result (Plan × ℕ) BadBatch → List ℕ → Outcome → List ℕ → Type 0
+Judges (Ok front) input outcome text = TellsVerdict front.0 (drop front.1 input) outcome text
+Judges (Err bad) input outcome text = IsTold bad outcome text
+
+-- ---- all commands
+
+-- a command that reads its input
+abbrev pub ReadsInput : Command → Type 0
+ReadsInput (commands.Demo seed messages lanes) = ⊥
+ReadsInput _ = Unit {0}
+
+-- the command's input: what was left, up to its end or to the most that is taken. `demo` takes nothing,
+-- and nothing is said of its input
+abbrev pub IsReadBy : Command → Option (List ℕ) → Option (List ℕ) → List ℕ → Type 0
+IsReadBy (commands.Demo seed messages lanes) old new input = new ≡ old
+IsReadBy _ old new input = IsInput old new input
+
+-- The command may end so for this input, and write this text, where no fault comes in its way. `run`
+-- and `live` may reply by any text that the plan may have; `rehearse` and `capsules` have one.
+abbrev pub MayEnd : Command → List ℕ → Outcome → List ℕ → Type 0
+MayEnd (commands.Run workers mult) input outcome text =
+    AnswersBy IsReply (batch input) outcome text
+MayEnd (commands.Live workers mult) input outcome text =
+    AnswersBy IsLiveReply (live input) outcome text
+MayEnd (commands.Rehearse schedule) input outcome text =
+    AnswersBy (IsRehearsal schedule) (batch input) outcome text
+MayEnd (commands.Demo seed messages lanes) input outcome text =
+    Demonstrates seed messages outcome text
+MayEnd (commands.Check mult) input outcome text = Judges (front_batch input) input outcome text
+MayEnd (commands.Capsules mult) input outcome text =
+    AnswersBy IsCapsuleReply (capsules input) outcome text
+
+-- the first bad line and its first reason, by the command's grammar
+abbrev pub IsBadFor : Command → List ℕ → ℕ → Reason → Type 0
+IsBadFor (commands.Run workers mult) input line reason = BadAt input line reason
+IsBadFor (commands.Live workers mult) input line reason = BadLiveAt input line reason
+IsBadFor (commands.Rehearse schedule) input line reason = BadAt input line reason
+IsBadFor (commands.Demo seed messages lanes) input line reason = ⊥
+IsBadFor (commands.Check mult) input line reason = FrontBadAt input line reason
+IsBadFor (commands.Capsules mult) input line reason = BadCapsulesAt input line reason
+
+-- ---- who serves them
+
+-- a command that threads alone serve, and not the calling thread
+abbrev pub NeedsThreads : Command → Type 0
+NeedsThreads (commands.Live workers mult) = Unit {0}
+NeedsThreads (commands.Demo seed messages lanes) = Unit {0}
+NeedsThreads _ = ⊥
+
+-- the words, each the list of its bytes, ask for such a command
+abbrev pub AskForThreads : List (List ℕ) → Type 0
+AskForThreads words =
+    (command : Command) × (command_of words ≡ Some command) × NeedsThreads command
