@@ -102,10 +102,10 @@ def check_reply(given: argparse.Namespace) -> int:
     with open(given.batch, "rb") as batch, open(given.reply, "rb") as reply:
         texts = batch.read(), reply.read()
     try:
-        check(*texts, runner=Command(given.program))
+        check(*texts, is_live=given.live, runner=Command(given.program))
     except IllegalReply as fault:
         print(fault.said)
-        if fault.at is not None and fault.kind != "journal":
+        if isinstance(fault.at, int) and fault.kind != "journal":
             lines = texts[1].split(b"\n")
             line = lines[fault.at - 1][:100].decode("ascii", "replace") if fault.at <= len(lines) else ""
             print(f"line {fault.at} of {given.reply}: {line}", file=sys.stderr)
@@ -144,6 +144,7 @@ def parser() -> argparse.ArgumentParser:
     it.set_defaults(do=open_files)
     _add_files(it)
     it = command("check", "says whether REPLY may be the command's reply to BATCH: legal, or what is wrong first")
+    it.add_argument("--live", action="store_true", help="BATCH is one of live")
     it.add_argument("batch", metavar="BATCH")
     it.add_argument("reply", metavar="REPLY")
     it.set_defaults(do=check_reply)

@@ -126,5 +126,6 @@ def _fault(done: Finished, asked_at: AskedAt) -> RunFailed:
     return FAULTS.get(done.status, RunFailed)(done.status, said)
 
 
-def _broken(pieces: Sequence[str]) -> Tuple[str, Optional[int]]:
-    return pieces[1], int(pieces[2]) if len(pieces) == 3 else None
+def _broken(pieces: Sequence[str]) -> Tuple[str, Union[int, str, None]]:
+    at = pieces[2] if len(pieces) == 3 else None
+    return pieces[1], int(at) if at and at.isdigit() else at

@@ -2,7 +2,7 @@
 
 from __future__ import annotations
 
-from typing import Optional
+from typing import Optional, Union
 
 
 class HpkeBatchError(Exception):
@@ -82,11 +82,11 @@ class BadBatch(RunFailed):
 class IllegalReply(RunFailed):
     """Status 7: `check` found that the command can't have written this reply.
 
-    `kind` is form, journal, stamps, reply or guess. `at` is the number of the line, or of the context for a
-    journal; `asked` is the call or the context that it is about, where there is one.
+    `kind` is form, journal, table, stamps, reply or guess. `at` is the number of the line; for a journal that of the
+    context, or `+K` of an added one. `asked` is the call or the context that it is about, where there is one.
     """
 
-    def __init__(self, kind: str, at: Optional[int], asked: Optional[object] = None) -> None:
+    def __init__(self, kind: str, at: Union[int, str, None], asked: Optional[object] = None) -> None:
         super().__init__(7, f"broken {kind}" + ("" if at is None else f" {at}"))
         self.args = (kind, at, asked)
         self.kind, self.at, self.asked = kind, at, asked

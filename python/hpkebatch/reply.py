@@ -248,28 +248,32 @@ class Reply:
         return b"\n".join([*lines, b"end", b""])
 
     def check(self, *, mult: Optional[str] = None, runner: Optional[Runner] = None) -> Reply:
-        """Has the program judge whether `run` may have written this reply; raises IllegalReply where not."""
-        if self.is_live:
-            raise ValueError("the program judges replies of run and rehearse, and none of live")
+        """Has the program judge whether `run`, or `live`, may have written this reply; raises IllegalReply where not."""
         try:
-            _check([*self.batch.pieces(), self.lines.text], mult, runner)
+            _check([*self.batch.pieces(), self.lines.text], self.is_live, mult, runner)
         except IllegalReply as fault:
             raise IllegalReply(fault.kind, fault.at, self._about(fault)) from None
         return self
 
     def _about(self, fault: IllegalReply) -> Optional[AnyAsked]:
+        if isinstance(fault.at, str):
+            name = fault.at.encode()
+            return next((it for lane in self.batch.lanes for it in lane.calls if isinstance(it, Added) and it.name == name), None)
         if fault.at is None:
             return None
         return self.batch.context(fault.at) if fault.kind == "journal" else self.asked_at(fault.at)
 
 
-def check(batch: bytes, reply: bytes, *, mult: Optional[str] = None, runner: Optional[Runner] = None) -> None:
-    """Has the program judge two texts, whoever wrote them; raises BadBatch or IllegalReply."""
-    _check([batch, reply], mult, runner)
+def check(
+    batch: bytes, reply: bytes, *, is_live: bool = False, mult: Optional[str] = None, runner: Optional[Runner] = None
+) -> None:
+    """Has the program judge two texts, whoever wrote them; raises BadBatch or IllegalReply. `is_live` says that they
+    are of `live`."""
+    _check([batch, reply], is_live, mult, runner)
 
 
-def _check(pieces: Sequence[Text], mult: Optional[str], runner: Optional[Runner]) -> None:
-    output_of(runner, ["check", *([] if mult is None else ["--mult", mult])], pieces)
+def _check(pieces: Sequence[Text], is_live: bool, mult: Optional[str], runner: Optional[Runner]) -> None:
+    output_of(runner, ["check", *["--live"] * is_live, *([] if mult is None else ["--mult", mult])], pieces)
 
 
 def rows_at(lines: Lines, at: int, width: int) -> Tuple[List[List[int]], int]:

@@ -308,6 +308,20 @@ class Faults(unittest.TestCase):
             Reply(batch, changed).check(runner=command)
         self.assertEqual((told.exception.kind, told.exception.asked), ("journal", batch.contexts[0]))
 
+    def test_a_reply_of_live_that_is_spoilt(self):
+        it = example("live")
+        batch = read_batch(it.batch)
+        added = batch.lanes[0].calls[1]
+        for old, new, wrong in (
+            (b"0 2 0 3\n", b"0 2 1 3\n", ("journal", "+0", added)),
+            (b"0 3 1 4\n", b"0 3 0 4\n", ("table", None, None)),
+            (b"0 3 1 4\n", b"0 3 1 5\n", ("table", None, None)),
+            (b"0 4 0 5\n", b"0 4 0 6\n", ("stamps", None, None)),
+        ):
+            with self.assertRaises(IllegalReply) as told:
+                Reply(batch, it.reply.replace(old, new), is_live=True).check(runner=command)
+            self.assertEqual((told.exception.kind, told.exception.at, told.exception.asked), wrong)
+
     def test_a_reply_to_another_batch(self):
         batch = read_batch(example("open").batch)
         with self.assertRaises(ReplyError) as told:

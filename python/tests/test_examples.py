@@ -51,7 +51,7 @@ class Examples(unittest.TestCase):
 
     def test_stored_replies_are_legal(self):
         for it in examples():
-            if it.words[0] in ("run", "rehearse"):
+            if it.words[0] in ("run", "rehearse", "live"):
                 with self.subTest(it.name):
                     answered(asked(it.words, it.batch), it.words, it.reply).check(runner=command)
 

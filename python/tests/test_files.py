@@ -207,6 +207,10 @@ class Replies(InAFolder):
         self.assertEqual((status, out), (1, "broken reply 5\n"))
         self.assertTrue(err.startswith("line 5 of other: sealed 1 bf2d7e9a"))
         self.assertEqual(self.told("check", "reply", "other"), (1, "", "hpkebatch: line 2 of the batch is bad (word)\n"))
+        it = example("live")
+        self.write("batch", it.batch)
+        self.write("reply", it.reply)
+        self.assertEqual(self.told("check", "--live", "batch", "reply"), (0, "legal\n", ""))
 
     def test_pictures(self):
         for it in examples():

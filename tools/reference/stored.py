@@ -13,9 +13,13 @@ def words_of(name):
         return file.read()
 
 
-def stored_for_run():
-    """Those that `run` or `rehearse` answers, in the order of their names: name, batch and reply."""
+def stored_of(*commands):
+    """Those that one of these commands answers, in the order of their names: name, batch and reply."""
     for name in sorted(name[:-6] for name in os.listdir(EXAMPLES) if name.endswith(".batch")):
-        if words_of(name).startswith(("run", "rehearse")):
+        if words_of(name).startswith(commands):
             with open(f"{EXAMPLES}/{name}.batch", "rb") as batch, open(f"{EXAMPLES}/{name}.reply") as reply:
                 yield name, batch.read(), reply.read()
+
+
+def stored_for_run():
+    return stored_of("run", "rehearse")

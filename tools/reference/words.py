@@ -28,11 +28,20 @@ def options_of(words):
     return names
 
 
+def without_live(words):
+    """The words but for a `--live` before or behind them."""
+    if words[:1] == [b"--live"]:
+        return words[1:]
+    return words[:-1] if words[-1:] == [b"--live"] else words
+
+
 def is_command(words):
     if words[:1] in ([b"run"], [b"live"]):
         names = options_of(words[1:])
         return names is not None and len(names) == len(set(names))
-    if words[:1] in ([b"check"], [b"capsules"]):
+    if words[:1] == [b"check"]:
+        return options_of(without_live(words[1:])) in ([], [b"--mult"])
+    if words[:1] == [b"capsules"]:
         return options_of(words[1:]) in ([], [b"--mult"])
     if words[:1] == [b"demo"]:
         ranges = (0, 2**64 - 1), (1, 65_536), (1, 16)

@@ -13,9 +13,8 @@ ghost use Rattle.result_verdicts.specs.VerdictText.{verdict_text};
 ghost use Rattle.batch_serving.specs.declared.outcomes.Outcome.{Outcome as Outcome_};
 ghost use Rattle.batch_serving.specs.Effects.{Serves, Writes};
 ghost use Rattle.batch_serving.specs.Input.{IsInput, input_limit};
-ghost use Rattle.batch_serving.specs.Text.{IsBadFor, IsBroken, IsReadBy, MayEnd, ReadsInput};
+ghost use Rattle.batch_serving.specs.Text.{IsBadFor, IsBrokenFor, IsReadBy, MayEnd, ReadsInput};
 ghost use Rattle.batch_words.specs.declared.commands.Command.{Command as Command_};
-ghost use Rattle.batch_words.specs.declared.commands.Mult.{Mult};
 ghost use Rattle.batch_words.specs.Words.{command_of, IsWithin};
 
 use crate::demonstrating::demonstrate;
@@ -24,7 +23,7 @@ use crate::living::answer_live;
 use crate::running::run_batch;
 use aes_gcm::MayCheck;
 use batch_io::{Gate, PureSink, PureSource, Sink, Source};
-use batch_serving::{Outcome, ReadStop, judge, read_input, rehearse_batch};
+use batch_serving::{Outcome, ReadStop, judge, judge_live, read_input, rehearse_batch};
 use batch_words::{Command, read_words};
 use speculative_open::OnThreads;
 use std::alloc::Global;
@@ -55,6 +54,9 @@ fn answer_input<R: Threads + Wait + Sync, K: Sink, G: Gate + Sync>(
             rehearse_batch(&OnThreads::new(rt), alloc, input, schedule.as_slice(), sink)
         }
         Command::Check { mult } => { judge(MayCheck::on_threads(rt), alloc, input, *mult, sink) }
+        Command::CheckLive { mult } => {
+            judge_live(MayCheck::on_threads(rt), alloc, input, *mult, sink)
+        }
         Command::Capsules { mult } => exchange(rt, alloc, input, *mult, sink),
         Command::Demo { .. } => unreachable!(),
     }
@@ -106,6 +108,7 @@ fn obey<R: Threads + Wait + Sync, S: Source, K: Sink, G: Gate + Sync>(
         Command::Live { .. } => answer(rt, alloc, command, source, sink, gate),
         Command::Rehearse { .. } => answer(rt, alloc, command, source, sink, gate),
         Command::Check { .. } => answer(rt, alloc, command, source, sink, gate),
+        Command::CheckLive { .. } => answer(rt, alloc, command, source, sink, gate),
         Command::Capsules { .. } => answer(rt, alloc, command, source, sink, gate),
     }
 }
@@ -157,10 +160,10 @@ pub fn serve_words<R: Threads + Wait + Sync, S: Source, K: Sink, G: Gate + Sync>
         × IsBadFor command input line reason
         × Appends (K.written sink.old) (K.written sink.new)
         (bad_text (record { line = line; reason = reason })) }
-    ensures broken { (verdict : Verdict) → result ≡ Outcome.Broken verdict → (mult : Mult)
-        × (command_of (map string_bytes words.now) ≡ Some (Command.Check mult))
+    ensures broken { (verdict : Verdict) → result ≡ Outcome.Broken verdict
+        → (command : Command_) × (command_of (map string_bytes words.now) ≡ Some command)
         × (input : List ℕ) × IsInput (S.left source.old) (S.left source.new) input
-        × IsBroken input verdict
+        × IsBrokenFor command input verdict
         × Appends (K.written sink.old) (K.written sink.new) (verdict_text verdict) }
     ensures cut { result ≡ Outcome.WriteFault → (command : Command_)
         × (command_of (map string_bytes words.now) ≡ Some command) × (input : List ℕ)

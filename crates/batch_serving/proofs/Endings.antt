@@ -3,7 +3,7 @@ use Rattle.std.proofs.Common.{◌≡◌, ◌∙◌, refl, sym, ap, subst, inl, i
 use Rattle.std.specs.Prelude.{◌≢◌}
 use Rattle.field_text.specs.declared.faults.BadBatch.{BadBatch}
 use Rattle.result_verdicts.specs.declared.verdicts.Verdict.{Verdict}
-use Rattle.result_verdicts.specs.declared.verdicts.Verdict.TheVariants.{Legal, Form, Journal, Stamps, Reply, Guess}
+use Rattle.result_verdicts.specs.declared.verdicts.Verdict.TheVariants.{Legal, Form, Journal, Table, Stamps, Reply, Guess}
 use Rattle.batch_serving.specs.declared.outcomes.Outcome.{Outcome}
 use Rattle.batch_serving.specs.declared.outcomes.Outcome.TheVariants as outcomes
 use Rattle.batch_serving.specs.Outcomes.{outcome_on}
@@ -22,6 +22,7 @@ pub on_verdict : (verdict : Verdict) → OfInput (outcome_on verdict)
 on_verdict Legal = tt
 on_verdict (Form line) = tt
 on_verdict (Journal context) = tt
+on_verdict Table = tt
 on_verdict Stamps = tt
 on_verdict (Reply line) = tt
 on_verdict (Guess line) = tt
@@ -86,6 +87,7 @@ pub no_bad_verdict : (verdict : Verdict) → IsNoBadLine (outcome_on verdict)
 no_bad_verdict Legal = tt
 no_bad_verdict (Form line) = tt
 no_bad_verdict (Journal context) = tt
+no_bad_verdict Table = tt
 no_bad_verdict Stamps = tt
 no_bad_verdict (Reply line) = tt
 no_bad_verdict (Guess line) = tt
@@ -116,6 +118,7 @@ told_verdict-outcome_on : (verdict : Verdict) → told_verdict verdict (outcome_
 told_verdict-outcome_on Legal = refl
 told_verdict-outcome_on (Form line) = refl
 told_verdict-outcome_on (Journal context) = refl
+told_verdict-outcome_on Table = refl
 told_verdict-outcome_on Stamps = refl
 told_verdict-outcome_on (Reply line) = refl
 told_verdict-outcome_on (Guess line) = refl

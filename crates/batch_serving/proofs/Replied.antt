@@ -1,10 +1,10 @@
 -- What a rehearsal writes, a run may write.
-use Rattle.std.proofs.Common.{◌≡◌, ◌⊎◌, inl, inr, ℕ, List}
+use Rattle.std.proofs.Common.{◌≡◌, ◌⊎◌, true, false, inl, inr, ℕ, List}
 use Rattle.batch_plans.specs.declared.plan.Plan.{Plan}
 use Rattle.batch_plans.specs.Limits.{IsWithinLimits}
 use Rattle.context_core.specs.Rehearsals.{rehearsed}
 use Rattle.context_core.proofs.Allowed.{allowed}
-use Rattle.context_table.specs.ReplyTo.{IsReply}
+use Rattle.context_table.specs.ReplyTo.{IsReply, IsLiveReply}
 use Rattle.context_table.proofs.Scheduling.{of_lines}
 use Rattle.result_verdicts.specs.declared.verdicts.Verdict.{Verdict}
 use Rattle.result_verdicts.specs.declared.verdicts.Verdict.TheVariants.{Legal}
@@ -27,7 +27,10 @@ rehearsal_replies plan schedule text within is =
     }
 
 pub written_is_legal : (plan : Plan) (schedule text : List ℕ) (verdict : Verdict) → IsWithinLimits plan
-    → IsReply plan text ⊎ IsRehearsal schedule plan text → IsJudged plan text verdict → verdict ≡ Legal
+    → IsReply plan text ⊎ IsRehearsal schedule plan text → IsJudged false plan text verdict → verdict ≡ Legal
 written_is_legal plan schedule text verdict within (inl is) judged = judged.legal.1 is
 written_is_legal plan schedule text verdict within (inr is) judged =
     judged.legal.1 (rehearsal_replies plan schedule text within is)
+
+pub live_is_legal : (plan : Plan) (text : List ℕ) (verdict : Verdict) → IsLiveReply plan text → IsJudged true plan text verdict → verdict ≡ Legal
+live_is_legal plan text verdict is judged = judged.legal.1 is

@@ -8,12 +8,10 @@ use Rattle.reply_texts.specs.ReplyText.{bad_text}
 use Rattle.result_verdicts.specs.declared.verdicts.Verdict.{Verdict}
 use Rattle.result_verdicts.specs.VerdictText.{verdict_text}
 use Rattle.batch_words.specs.declared.commands.Command.{Command}
-use Rattle.batch_words.specs.declared.commands.Command.TheVariants.{Check}
-use Rattle.batch_words.specs.declared.commands.Mult.{Mult}
 use Rattle.batch_serving.specs.declared.outcomes.Outcome.{Outcome}
 use Rattle.batch_serving.specs.declared.outcomes.Outcome.TheVariants.{Usage, BadBatch, ReadFault, WriteFault, OutOfMemory, Broken}
 use Rattle.batch_serving.specs.Effects.{Writes}
-use Rattle.batch_serving.specs.Text.{IsBadFor, IsBroken, MayEnd}
+use Rattle.batch_serving.specs.Text.{IsBadFor, IsBrokenFor, MayEnd}
 use Rattle.batch_serving.proofs.Ends.{bad_line, broken_result, of_input}
 use Rattle.batch_serving.proofs.Endings.{OfInput, faults_or_not}
 
@@ -36,12 +34,12 @@ module _ {K : Type 0} (written : K → Option (List ℕ)) (faults : K → ℕ) (
       (bad.0, subst (Appends (written old) (written new)) bad.1 end.2)
 
   pub broken_told : (verdict : Verdict) → Written (Broken verdict)
-      → (mult : Mult) × (command ≡ Check mult) × IsBroken input verdict
+      → IsBrokenFor command input verdict
       × Appends (written old) (written new) (verdict_text verdict)
   broken_told verdict w =
       let end = told (Broken verdict) tt w in
       let broken = broken_result verdict end.0 command input end.1 in
-      (broken.0, broken.1, broken.2, subst (Appends (written old) (written new)) broken.3 end.2)
+      (broken.0, subst (Appends (written old) (written new)) broken.1 end.2)
 
   -- neither wrong words nor a fault of reading
   pub of_no_input : (outcome : Outcome) → Written outcome → (outcome ≢ Usage) × (outcome ≢ ReadFault)

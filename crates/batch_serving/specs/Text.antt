@@ -1,5 +1,5 @@
 -- What may come of an input by a command: how the command ends, and the text that it writes.
-use Rattle.std.specs.Prelude.{◌≡◌, ◌≢◌, ℕ, ◌↔◌, List, drop, Option, Some, Result, Ok, Err}
+use Rattle.std.specs.Prelude.{◌≡◌, ◌≢◌, ℕ, ◌↔◌, Bool, true, false, List, drop, Option, Some, Result, Ok, Err}
 use Rattle.field_text.specs.declared.reasons.Reason.{Reason}
 use Rattle.field_text.specs.declared.faults.BadBatch.{BadBatch}
 use Rattle.hpke_context.specs.Contexts.{ContextView}
@@ -7,17 +7,17 @@ use Rattle.batch_plans.specs.declared.plan.Plan.{Plan}
 use Rattle.batch_plans.specs.declared.replies.KeyReply.{KeyReply}
 use Rattle.batch_plans.specs.declared.replies.ContextReply.{ContextReply}
 use Rattle.reply_texts.specs.ReplyText.{bad_text}
-use Rattle.request_frames.specs.Batch.{batch, front_batch, BadAt, BeginsWith, FrontBadAt}
+use Rattle.request_frames.specs.Batch.{batch, front_batch, BadAt, FrontBadAt}
 use Rattle.due_replies.specs.Runs.{run_text}
 use Rattle.context_table.specs.SetUp.{IsSetUp}
 use Rattle.context_table.specs.ReplyTo.{IsReply, IsLiveReply}
-use Rattle.live_frames.specs.Live.{live}
-use Rattle.live_frames.specs.Live.{BadAt as BadLiveAt}
+use Rattle.live_frames.specs.Live.{live, front_live}
+use Rattle.live_frames.specs.Live.{BadAt as BadLiveAt, FrontBadAt as FrontBadLiveAt}
 use Rattle.context_core.specs.Rehearsals.{rehearsed}
 use Rattle.result_verdicts.specs.declared.verdicts.Verdict.{Verdict}
 use Rattle.result_verdicts.specs.declared.verdicts.Verdict.TheVariants.{Legal}
 use Rattle.result_verdicts.specs.VerdictText.{verdict_text}
-use Rattle.journal_check.specs.Verdicts.{IsVerdict}
+use Rattle.journal_check.specs.Verdicts.{IsVerdict, IsLiveVerdict}
 use Rattle.capsule_frames.specs.Capsules.{capsules}
 use Rattle.capsule_frames.specs.Capsules.{BadAt as BadCapsulesAt}
 use Rattle.capsule_runs.specs.Replies.{IsCapsuleReply}
@@ -66,32 +66,49 @@ pub record Demonstrates (seed messages : ℕ) (outcome : Outcome) (text : List �
   pub outcome_is : outcome ≡ Done
   pub text_is : text ≡ report_text report
 
--- ---- `check`: a batch is read, and what stands behind it is judged
+-- ---- `check` and `check --live`: a batch is read, and what stands behind it is judged
 
--- it is legal exactly where it is a reply that `run` may give
-pub record IsJudged (plan : Plan) (result : List ℕ) (verdict : Verdict) : Type 0 where
-  pub is : IsVerdict plan result verdict
-  pub legal : (verdict ≡ Legal) ↔ IsReply plan result
+-- a batch of `run`, or one of `live`, at the front of a text, and where it ends
+abbrev pub front_by : Bool → List ℕ → Result (Plan × ℕ) BadBatch
+front_by false text = front_batch text
+front_by true text = front_live text
+
+-- the verdict on a result of `run`, or on one of `live`
+abbrev pub IsVerdictBy : Bool → Plan → List ℕ → Verdict → Type 0
+IsVerdictBy false plan result verdict = IsVerdict plan result verdict
+IsVerdictBy true plan result verdict = IsLiveVerdict plan result verdict
+
+-- a reply that `run` may give, or one that `live` may give
+abbrev pub MayReply : Bool → Plan → List ℕ → Type 0
+MayReply false plan result = IsReply plan result
+MayReply true plan result = IsLiveReply plan result
+
+-- it is legal exactly where it is a reply that may be given
+pub record IsJudged (is_live : Bool) (plan : Plan) (result : List ℕ) (verdict : Verdict)
+    : Type 0 where
+  pub is : IsVerdictBy is_live plan result verdict
+  pub legal : (verdict ≡ Legal) ↔ MayReply is_live plan result
 
 -- the verdict's line
-pub record TellsVerdict (plan : Plan) (result : List ℕ) (outcome : Outcome) (text : List ℕ)
-    : Type 0 where
+pub record TellsVerdict (is_live : Bool) (plan : Plan) (result : List ℕ) (outcome : Outcome)
+    (text : List ℕ) : Type 0 where
   pub verdict : Verdict
-  pub judged : IsJudged plan result verdict
+  pub judged : IsJudged is_live plan result verdict
   pub outcome_is : outcome ≡ outcome_on verdict
   pub text_is : text ≡ verdict_text verdict
 
 -- the input begins with a batch, and what stands behind it is broken so
-pub record IsBroken (input : List ℕ) (verdict : Verdict) : Type 0 where
+pub record IsBroken (is_live : Bool) (input : List ℕ) (verdict : Verdict) : Type 0 where
   pub plan : Plan
   pub end : ℕ
-  pub begins : BeginsWith input plan end
-  pub judged : IsJudged plan (drop end input) verdict
+  pub begins : front_by is_live input ≡ Ok (plan, end)
+  pub judged : IsJudged is_live plan (drop end input) verdict
   pub broken : verdict ≢ Legal
 
-abbrev pub Judges : Result (Plan × ℕ) BadBatch → List ℕ → Outcome → List ℕ → Type 0
-Judges (Ok front) input outcome text = TellsVerdict front.0 (drop front.1 input) outcome text
-Judges (Err bad) input outcome text = IsTold bad outcome text
+abbrev pub Judges : Bool → Result (Plan × ℕ) BadBatch → List ℕ → Outcome → List ℕ → Type 0
+Judges is_live (Ok front) input outcome text =
+    TellsVerdict is_live front.0 (drop front.1 input) outcome text
+Judges is_live (Err bad) input outcome text = IsTold bad outcome text
 
 -- ---- all commands
 
@@ -117,7 +134,10 @@ MayEnd (commands.Rehearse schedule) input outcome text =
     AnswersBy (IsRehearsal schedule) (batch input) outcome text
 MayEnd (commands.Demo seed messages lanes) input outcome text =
     Demonstrates seed messages outcome text
-MayEnd (commands.Check mult) input outcome text = Judges (front_batch input) input outcome text
+MayEnd (commands.Check mult) input outcome text =
+    Judges false (front_batch input) input outcome text
+MayEnd (commands.CheckLive mult) input outcome text =
+    Judges true (front_live input) input outcome text
 MayEnd (commands.Capsules mult) input outcome text =
     AnswersBy IsCapsuleReply (capsules input) outcome text
 
@@ -128,7 +148,14 @@ IsBadFor (commands.Live workers mult) input line reason = BadLiveAt input line r
 IsBadFor (commands.Rehearse schedule) input line reason = BadAt input line reason
 IsBadFor (commands.Demo seed messages lanes) input line reason = ⊥
 IsBadFor (commands.Check mult) input line reason = FrontBadAt input line reason
+IsBadFor (commands.CheckLive mult) input line reason = FrontBadLiveAt input line reason
 IsBadFor (commands.Capsules mult) input line reason = BadCapsulesAt input line reason
+
+-- the command judges what stands behind a batch, and that is broken so
+abbrev pub IsBrokenFor : Command → List ℕ → Verdict → Type 0
+IsBrokenFor (commands.Check mult) input verdict = IsBroken false input verdict
+IsBrokenFor (commands.CheckLive mult) input verdict = IsBroken true input verdict
+IsBrokenFor _ input verdict = ⊥
 
 -- ---- who serves them
 

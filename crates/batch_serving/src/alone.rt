@@ -11,14 +11,13 @@ ghost use Rattle.reply_texts.specs.ReplyText.{bad_text};
 ghost use Rattle.result_verdicts.specs.declared.verdicts.Verdict.{Verdict};
 ghost use Rattle.result_verdicts.specs.VerdictText.{verdict_text};
 ghost use Rattle.batch_words.specs.declared.commands.Command.{Command as Command_};
-ghost use Rattle.batch_words.specs.declared.commands.Mult.{Mult};
 ghost use Rattle.batch_words.specs.Words.{command_of};
 ghost use Rattle.batch_serving.specs.declared.outcomes.Outcome.{Outcome as Outcome_};
 ghost use Rattle.batch_serving.specs.Effects.{Writes};
-ghost use Rattle.batch_serving.specs.Text.{AskForThreads, IsBadFor, IsBroken, MayEnd, NeedsThreads};
+ghost use Rattle.batch_serving.specs.Text.{AskForThreads, IsBadFor, IsBrokenFor, MayEnd, NeedsThreads};
 
 use crate::exchanging::exchange_alone;
-use crate::judging::judge;
+use crate::judging::{judge, judge_live};
 use crate::outcomes::Outcome;
 use crate::rehearsing::rehearse_batch;
 use crate::running::run_in_order;
@@ -52,6 +51,7 @@ fn obey<K: Sink>(
             Ok(rehearse_batch(&alone, alloc, input, schedule.as_slice(), sink))
         }
         Command::Check { mult } => Ok(judge(permission, alloc, input, *mult, sink)),
+        Command::CheckLive { mult } => Ok(judge_live(permission, alloc, input, *mult, sink)),
         Command::Capsules { mult } => Ok(exchange_alone(permission, alloc, input, *mult, sink)),
         Command::Live { .. } | Command::Demo { .. } => Err(ThreadsNeeded),
     }
@@ -91,9 +91,9 @@ pub fn serve_alone<K: Sink>(
         × IsBadFor command input.now line reason
         × Appends (K.written sink.old) (K.written sink.new)
         (bad_text (record { line = line; reason = reason })) }
-    ensures broken { (verdict : Verdict) → result ≡ Ok (Outcome.Broken verdict) → (mult : Mult)
-        × (command_of (map string_bytes words.now) ≡ Some (Command.Check mult))
-        × IsBroken input.now verdict
+    ensures broken { (verdict : Verdict) → result ≡ Ok (Outcome.Broken verdict)
+        → (command : Command_) × (command_of (map string_bytes words.now) ≡ Some command)
+        × IsBrokenFor command input.now verdict
         × Appends (K.written sink.old) (K.written sink.new) (verdict_text verdict) }
     ensures cut { result ≡ Ok Outcome.WriteFault → (command : Command_)
         × (command_of (map string_bytes words.now) ≡ Some command)

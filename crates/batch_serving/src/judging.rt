@@ -1,9 +1,10 @@
-//! A result, judged: `check`.
+//! A result, judged: `check` and `check --live`.
 
-ghost use Rattle.std.specs.Prelude.{◌≡◌, ◌≤◌, length, drop};
+ghost use Rattle.std.specs.Prelude.{◌≡◌, ◌≤◌, length, drop, true, false};
 ghost use Rattle.batch_plans.specs.Limits.{IsWithinLimits, most_input};
 ghost use Rattle.request_frames.specs.Batch.{front_batch};
 ghost use Rattle.batch_serving.specs.Effects.{Writes};
+ghost use Rattle.live_frames.specs.Live.{front_live};
 ghost use Rattle.batch_serving.specs.Text.{Judges, TellsVerdict};
 
 use crate::multipliers::Named;
@@ -12,11 +13,12 @@ use crate::telling::{tell_fault, tell_verdict};
 use aes_gcm::MayCheck;
 use batch_io::Sink;
 use batch_words::Mult;
-use journal_check::check_result_by;
+use journal_check::{check_live_result_by, check_result_by};
+use live_frames::read_live_front;
 use request_frames::{Plan, read_front};
 use std::alloc::Global;
 
-// Judges the result of a plan, and tells the verdict.
+// Judges a result of `run`, and tells the verdict.
 fn judge_result<K: Sink>(
     permission: MayCheck,
     alloc: Global,
@@ -28,9 +30,29 @@ fn judge_result<K: Sink>(
     requires within { IsWithinLimits plan.now }
     requires size { length result_text.now ≤ most_input }
     ensures { Writes K.written K.faults sink.old sink.new
-        (TellsVerdict plan.now result_text.now) result }
+        (TellsVerdict false plan.now result_text.now) result }
 {
     match check_result_by(permission, alloc, &Named { name: mult }, plan, result_text) {
+        Ok(verdict) => tell_verdict(verdict, sink),
+        Err(_) => Outcome::OutOfMemory,
+    }
+}
+
+// Judges a result of `live`, and tells the verdict.
+fn judge_live_result<K: Sink>(
+    permission: MayCheck,
+    alloc: Global,
+    plan: Plan,
+    result_text: &[u8],
+    mult: Mult,
+    sink: &mut K,
+) -> Outcome
+    requires within { IsWithinLimits plan }
+    requires size { length result_text.now ≤ most_input }
+    ensures { Writes K.written K.faults sink.old sink.new
+        (TellsVerdict true plan result_text.now) result }
+{
+    match check_live_result_by(permission, alloc, &Named { name: mult }, plan, result_text) {
         Ok(verdict) => tell_verdict(verdict, sink),
         Err(_) => Outcome::OutOfMemory,
     }
@@ -53,13 +75,33 @@ pub fn judge<K: Sink>(
     sink: &mut K,
 ) -> Outcome
     ensures { Writes K.written K.faults sink.old sink.new
-        (Judges (front_batch input.now) input.now) result }
+        (Judges false (front_batch input.now) input.now) result }
 {
     match read_front(alloc, input) {
         Ok((plan, end)) => {
             let outcome = judge_result(permission, alloc, &plan, behind(input, end), mult, sink);
             drop(plan);
             outcome
+        }
+        Err(fault) => tell_fault(&fault, sink),
+    }
+}
+
+/// Judges the result that stands behind a batch whose lanes add and retire contexts, or tells the
+/// batch's first bad line.
+pub fn judge_live<K: Sink>(
+    permission: MayCheck,
+    alloc: Global,
+    input: &[u8],
+    mult: Mult,
+    sink: &mut K,
+) -> Outcome
+    ensures { Writes K.written K.faults sink.old sink.new
+        (Judges true (front_live input.now) input.now) result }
+{
+    match read_live_front(alloc, input) {
+        Ok((plan, end)) => {
+            judge_live_result(permission, alloc, plan, behind(input, end), mult, sink)
         }
         Err(fault) => tell_fault(&fault, sink),
     }

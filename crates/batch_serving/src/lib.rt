@@ -33,7 +33,7 @@ mod telling;
 
 pub use alone::{ThreadsNeeded, serve_alone};
 pub use exchanging::tell_exchange;
-pub use judging::judge;
+pub use judging::{judge, judge_live};
 pub use laws::written_replies_are_legal;
 pub use multipliers::Named;
 pub use outcomes::{Outcome, status};

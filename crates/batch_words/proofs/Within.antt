@@ -7,9 +7,9 @@ use Rattle.std.specs.Str.Parse.{digits_value}
 use Rattle.std.proofs.lemmas.Bool.{leb-true}
 use Rattle.std.proofs.lemmas.List.Elements.{All-cons, All-nil}
 use Rattle.decimal_text.specs.Decimals.{decimal_from_to, is_decimal}
-use Rattle.batch_words.specs.Words.{IsWithin, Setting, are_of, capsules, check, demo, is_comma, lanes, live, mult, numbers, only_mult, options, options_with, rehearse, run, schedule, settings, value_of, workers}
+use Rattle.batch_words.specs.Words.{IsWithin, Setting, are_of, beside_live, capsules, check, check_beside, demo, is_comma, lanes, live, mult, numbers, only_mult, options, options_with, rehearse, run, schedule, settings, value_of, workers}
 use Rattle.batch_words.specs.declared.commands.Command.{Command}
-use Rattle.batch_words.specs.declared.commands.Command.TheVariants.{Capsules, Check, Demo, Live, Rehearse, Run}
+use Rattle.batch_words.specs.declared.commands.Command.TheVariants.{Capsules, Check, CheckLive, Demo, Live, Rehearse, Run}
 use Rattle.batch_words.specs.declared.commands.Mult.{Mult}
 use Rattle.batch_words.specs.declared.options.Options.{Options}
 use Rattle.batch_words.proofs.Steps.{before_some}
@@ -146,7 +146,11 @@ of_mult make (Some m) c each e = let same : make m ≡ c = cc in subst IsWithin 
 
 pub check_read : (words : List (List ℕ)) (o : Option Command) → o ≡ check words → IfSome o IsWithin
 check_read words None is = tt
-check_read words (Some c) is = of_mult Check (only_mult words) c (λ m. tt) (sym is)
+check_read words (Some c) is = go (beside_live words) (sym is)
+  where
+    go : (o : Option (List (List ℕ))) → check_beside words o ≡ Some c → IsWithin c
+    go None e = of_mult Check (only_mult words) c (λ m. tt) e
+    go (Some others) e = of_mult CheckLive (only_mult others) c (λ m. tt) e
 
 pub capsules_read : (words : List (List ℕ)) (o : Option Command) → o ≡ capsules words → IfSome o IsWithin
 capsules_read words None is = tt

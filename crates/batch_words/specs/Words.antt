@@ -1,9 +1,9 @@
 -- The command grammar: the words after the program's name, each the list of its bytes.
-use Rattle.std.specs.Prelude.{ℕ, ◌≤◌, ◌-◌, ◌^◌, All, ◌==◌, ◌&&◌, not, nat_le, length, find, Bool, true, List, [], ◌∷◌, codes, Option, Some, None, option_map, option_and_then, if◌then◌else◌}
+use Rattle.std.specs.Prelude.{ℕ, ◌≤◌, ◌-◌, ◌^◌, All, ◌==◌, ◌&&◌, not, nat_le, length, find, Bool, true, false, List, [], ◌∷◌, take, drop, slice_get, codes, Option, Some, None, option_map, option_and_then, if◌then◌else◌}
 use Rattle.std.specs.List.{list_any, slice_split, before_first, after_first}
 use Rattle.std.specs.Str.{bytes_eq}
 use Rattle.batch_words.specs.declared.commands.Command.{Command}
-use Rattle.batch_words.specs.declared.commands.Command.TheVariants.{Run, Live, Rehearse, Demo, Check, Capsules}
+use Rattle.batch_words.specs.declared.commands.Command.TheVariants.{Run, Live, Rehearse, Demo, Check, CheckLive, Capsules}
 use Rattle.batch_words.specs.declared.commands.Mult.{Mult}
 use Rattle.batch_words.specs.declared.commands.Mult.TheVariants.{Plain, Karatsuba, Lanes}
 use Rattle.batch_words.specs.declared.options.Options.{Options}
@@ -137,9 +137,25 @@ demo (seed ∷ messages ∷ lanes ∷ next ∷ more) = None
 abbrev pub only_mult : List (List ℕ) → Option Mult
 only_mult words = option_map (λ given. given.mult) (options (codes "--mult" ∷ []) words)
 
--- after `check`: `--mult M`
+-- the word is `--live`
+abbrev pub is_live : Option (List ℕ) → Bool
+is_live None = false
+is_live (Some word) = bytes_eq word (codes "--live")
+
+-- the words beside `--live`, where it is the first or the last one
+abbrev pub beside_live : List (List ℕ) → Option (List (List ℕ))
+beside_live words =
+    let others = length words - 1 in
+    if is_live (slice_get words 0) then Some (drop 1 words)
+    else (if is_live (slice_get words others) then Some (take others words) else None)
+
+-- after `check`: `--mult M`, with or without `--live`
+abbrev pub check_beside : List (List ℕ) → Option (List (List ℕ)) → Option Command
+check_beside words None = option_map Check (only_mult words)
+check_beside words (Some others) = option_map CheckLive (only_mult others)
+
 abbrev pub check : List (List ℕ) → Option Command
-check words = option_map Check (only_mult words)
+check words = check_beside words (beside_live words)
 
 -- after `capsules`: `--mult M`
 abbrev pub capsules : List (List ℕ) → Option Command
@@ -164,4 +180,5 @@ IsWithin (Rehearse schedule) = (length schedule ≤ 65536) × All (λ lane. lane
 IsWithin (Demo seed messages lanes) =
     (1 ≤ messages) × (messages ≤ 65536) × (1 ≤ lanes) × (lanes ≤ 16)
 IsWithin (Check mult) = Unit {0}
+IsWithin (CheckLive mult) = Unit {0}
 IsWithin (Capsules mult) = Unit {0}

@@ -32,6 +32,10 @@ pub enum Command {
     Check {
         mult: Mult,
     },
+    /// `check --live`: the same of a batch whose lanes add and retire contexts.
+    CheckLive {
+        mult: Mult,
+    },
     /// `capsules`: read keys and messages of RFC 9458, and answer them.
     Capsules {
         mult: Mult,

@@ -1,9 +1,11 @@
 //! From the words to the command.
 
-ghost use Rattle.std.specs.Prelude.{◌≡◌, [], ◌∷◌, IfOk, IfSome, codes, map, true};
+ghost use Rattle.std.specs.Prelude.{◌≡◌, [], ◌∷◌, IfOk, IfSome, MatchOption, None, Some, codes, map, slice_get, true};
 ghost use Rattle.std.specs.String.{string_bytes};
 ghost use Rattle.batch_words.specs.Parses.{has_each, word_under};
-ghost use Rattle.batch_words.specs.Words.{IsWithin, capsules, check, command_of, demo, live, numbers};
+ghost use Rattle.batch_words.specs.Words.{IsWithin, beside_live as beside_live_of, is_live as is_live_of};
+ghost use Rattle.batch_words.specs.Words.{capsules, check, command_of};
+ghost use Rattle.batch_words.specs.Words.{demo, live, numbers};
 ghost use Rattle.batch_words.specs.Words.{only_mult, rehearse, run};
 
 use crate::commands::{Command, Mult};
@@ -36,7 +38,8 @@ const MOST_LANES: u64 = 16;
 /// After `demo` there stand three decimals without leading zeros: a seed from 0 to 2^64 − 1, a number
 /// of messages from 1 to 65,536, and a number of lanes from 1 to 16.
 ///
-/// After `check` and after `capsules` there may stand `--mult M`, as after `run`.
+/// After `check` and after `capsules` there may stand `--mult M`, as after `run`. After `check` there
+/// may also stand `--live`, before it or behind it.
 ///
 /// All else is no command, such as a request for help or version, a word `--`, or an abbreviation.
 /// Nothing is printed. The one error is want of memory.
@@ -144,11 +147,40 @@ fn read_mult(alloc: Global, words: &[String]) -> Result<Option<Mult>, OutOfMemor
     Ok(options.map(|options| options.mult))
 }
 
+// Whether there is such a word and it is `--live`.
+fn is_live(words: &[String], at: usize) -> bool
+    ensures { result ≡ is_live_of (slice_get (map string_bytes words.now) at) }
+{
+    match words.get(at) {
+        Some(word) => word.as_str() == "--live",
+        None => false,
+    }
+}
+
+// The words beside `--live`, where it is the first or the last one.
+fn beside_live(words: &[String]) -> Option<&[String]>
+    ensures { MatchOption result (beside_live_of (map string_bytes words.now) ≡ None)
+        (λ others. beside_live_of (map string_bytes words.now)
+        ≡ Some (map string_bytes others.now)) }
+{
+    let others = words.len().saturating_sub(1);
+    if is_live(words, 0) {
+        return Some(&words[1..]);
+    }
+    if is_live(words, others) {
+        return Some(&words[..others]);
+    }
+    None
+}
+
 // The words after `check`.
 fn read_check(alloc: Global, words: &[String]) -> Result<Option<Command>, OutOfMemory>
     ensures { IfOk result (λ command. command ≡ check (map string_bytes words.now)) }
 {
-    Ok(read_mult(alloc, words)?.map(|mult| Command::Check { mult }))
+    match beside_live(words) {
+        Some(others) => { Ok(read_mult(alloc, others)?.map(|mult| Command::CheckLive { mult })) }
+        None => Ok(read_mult(alloc, words)?.map(|mult| Command::Check { mult })),
+    }
 }
 
 // The words after `capsules`.

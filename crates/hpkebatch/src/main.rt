@@ -19,7 +19,7 @@ use std::process::ExitCode;
 
 const USAGE: &'static str = "usage: hpkebatch run [--workers W] [--mult plain|karatsuba|lanes] | \
     live [--workers W] [--mult M] | rehearse SCHEDULE | demo SEED MESSAGES LANES | \
-    check [--mult M] | capsules [--mult M]";
+    check [--live] [--mult M] | capsules [--mult M]";
 
 // What standard error is told of an outcome.
 fn message(outcome: &Outcome) -> Option<&'static str> {

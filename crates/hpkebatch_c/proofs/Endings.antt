@@ -1,5 +1,5 @@
 -- A bad line and a broken result are ends that a command may have.
-use Rattle.std.proofs.Common.{◌≡◌, ℕ, List, Result, refl, subst, sym}
+use Rattle.std.proofs.Common.{◌≡◌, ℕ, Bool, true, false, List, drop, Result, Ok, Err, refl, subst, sym}
 use Rattle.std.specs.Prelude.{◌≢◌}
 use Rattle.field_text.specs.Lines.{bad}
 use Rattle.field_text.specs.declared.reasons.Reason.{Reason}
@@ -11,14 +11,14 @@ use Rattle.capsule_frames.specs.Capsules.{capsules}
 use Rattle.capsule_runs.specs.Replies.{IsCapsuleReply}
 use Rattle.context_table.specs.ReplyTo.{IsReply, IsLiveReply}
 use Rattle.result_verdicts.specs.declared.verdicts.Verdict.{Verdict}
-use Rattle.result_verdicts.specs.declared.verdicts.Verdict.TheVariants.{Legal, Form, Journal, Stamps, Reply, Guess}
+use Rattle.result_verdicts.specs.declared.verdicts.Verdict.TheVariants.{Legal, Form, Journal, Table, Stamps, Reply, Guess}
 use Rattle.result_verdicts.specs.VerdictText.{verdict_text}
 use Rattle.batch_words.specs.declared.commands.Command.{Command}
 use Rattle.batch_words.specs.declared.commands.Command.TheVariants as commands
-use Rattle.batch_words.specs.declared.commands.Mult.{Mult}
+use Rattle.batch_serving.specs.declared.outcomes.Outcome.{Outcome}
 use Rattle.batch_serving.specs.declared.outcomes.Outcome.TheVariants.{BadBatch, Broken}
 use Rattle.batch_serving.specs.Outcomes.{outcome_on}
-use Rattle.batch_serving.specs.Text.{AnswersBy, IsBadFor, IsBroken, IsRehearsal, IsTold, Judges, MayEnd}
+use Rattle.batch_serving.specs.Text.{AnswersBy, IsBadFor, IsBroken, IsBrokenFor, IsRehearsal, IsTold, Judges, MayEnd}
 
 module _ (line : ℕ) (reason : Reason) where
   abbrev said : List ℕ
@@ -38,23 +38,38 @@ module _ (line : ℕ) (reason : Reason) where
   ends_bad (commands.Rehearse schedule) input is = answers (IsRehearsal schedule) (batch input) is
   ends_bad (commands.Demo seed messages lanes) input is = absurd is
   ends_bad (commands.Check mult) input is =
-      subst (λ one. Judges one input (BadBatch line reason) said) (sym is) told
+      subst (λ one. Judges false one input (BadBatch line reason) said) (sym is) told
+  ends_bad (commands.CheckLive mult) input is =
+      subst (λ one. Judges true one input (BadBatch line reason) said) (sym is) told
   ends_bad (commands.Capsules mult) input is = answers IsCapsuleReply (capsules input) is
 
 broken_is : (verdict : Verdict) → verdict ≢ Legal → Broken verdict ≡ outcome_on verdict
 broken_is Legal none = absurd (none refl)
 broken_is (Form line) none = refl
 broken_is (Journal context) none = refl
+broken_is Table none = refl
 broken_is Stamps none = refl
 broken_is (Reply line) none = refl
 broken_is (Guess line) none = refl
 
-pub ends_broken : (mult : Mult) (input : List ℕ) (verdict : Verdict) → IsBroken input verdict
-    → MayEnd (commands.Check mult) input (Broken verdict) (verdict_text verdict)
-ends_broken mult input verdict is =
-    subst (λ one. Judges one input (Broken verdict) (verdict_text verdict)) (sym is.begins) (record {
+judged : (is_live : Bool) (input : List ℕ) (verdict : Verdict) (is : IsBroken is_live input verdict)
+    → Judges is_live (Ok (is.plan, is.end)) input (Broken verdict) (verdict_text verdict)
+judged is_live input verdict is =
+    record {
       verdict = verdict;
       judged = is.judged;
       outcome_is = broken_is verdict is.broken;
       text_is = refl;
-    })
+    }
+
+pub ends_broken : (command : Command) (input : List ℕ) (verdict : Verdict) → IsBrokenFor command input verdict
+    → MayEnd command input (Broken verdict) (verdict_text verdict)
+ends_broken (commands.Run workers mult) input verdict is = absurd is
+ends_broken (commands.Live workers mult) input verdict is = absurd is
+ends_broken (commands.Rehearse schedule) input verdict is = absurd is
+ends_broken (commands.Demo seed messages lanes) input verdict is = absurd is
+ends_broken (commands.Check mult) input verdict is =
+    subst (λ one. Judges false one input (Broken verdict) (verdict_text verdict)) (sym is.begins) (judged false input verdict is)
+ends_broken (commands.CheckLive mult) input verdict is =
+    subst (λ one. Judges true one input (Broken verdict) (verdict_text verdict)) (sym is.begins) (judged true input verdict is)
+ends_broken (commands.Capsules mult) input verdict is = absurd is

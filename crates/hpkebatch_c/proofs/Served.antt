@@ -7,12 +7,10 @@ use Rattle.reply_texts.specs.ReplyText.{bad_text}
 use Rattle.result_verdicts.specs.declared.verdicts.Verdict.{Verdict}
 use Rattle.result_verdicts.specs.VerdictText.{verdict_text}
 use Rattle.batch_words.specs.declared.commands.Command.{Command}
-use Rattle.batch_words.specs.declared.commands.Command.TheVariants.{Check}
-use Rattle.batch_words.specs.declared.commands.Mult.{Mult}
 use Rattle.batch_serving.specs.declared.outcomes.Outcome.{Outcome}
 use Rattle.batch_serving.specs.declared.outcomes.Outcome.TheVariants.{Done, BadBatch, Broken}
 use Rattle.batch_words.specs.Words.{command_of}
-use Rattle.batch_serving.specs.Text.{AskForThreads, IsBadFor, IsBroken, MayEnd}
+use Rattle.batch_serving.specs.Text.{AskForThreads, IsBadFor, IsBrokenFor, MayEnd}
 use Rattle.hpkebatch_c.proofs.Endings.{ends_bad, ends_broken}
 use Rattle.hpkebatch_c.specs.Serving.{AsksForThreads, HasText, IsServed, MayAnswer, NeedsRoom, TellsBadFor, TellsBroken}
 
@@ -146,11 +144,11 @@ module _ (spelled : Option Command) (input old : List ℕ) (size_old : ℕ) wher
         (command, is, subst (MayEnd command input (BadBatch line reason)) (sym same) (ends_bad line reason command input bad))
         whole room behind (λ e. cc) (λ e. (command, is, line, reason, bad, same)) (λ e. cc)
 
-    pub put_broken : (mult : Mult) (verdict : Verdict) → spelled ≡ Some (Check mult) → IsBroken input verdict
+    pub put_broken : (command : Command) (verdict : Verdict) → spelled ≡ Some command → IsBrokenFor command input verdict
         → text ≡ verdict_text verdict → (status ≢ 5 → (status ≡ 7) × (take size new ≡ text))
         → IsServed spelled input old new size_old size status
     unfolding MayAnswer TellsBroken
-    put_broken mult verdict is broken same whole =
-        put 7 (Broken verdict) text new size status (stands (Check mult) is) (inr (inr refl))
-        (Check mult, is, subst (MayEnd (Check mult) input (Broken verdict)) (sym same) (ends_broken mult input verdict broken))
-        whole room behind (λ e. cc) (λ e. cc) (λ e. (mult, is, verdict, broken, same))
+    put_broken command verdict is broken same whole =
+        put 7 (Broken verdict) text new size status (stands command is) (inr (inr refl))
+        (command, is, subst (MayEnd command input (Broken verdict)) (sym same) (ends_broken command input verdict broken))
+        whole room behind (λ e. cc) (λ e. cc) (λ e. (command, is, verdict, broken, same))

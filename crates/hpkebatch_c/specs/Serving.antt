@@ -6,12 +6,10 @@ use Rattle.reply_texts.specs.ReplyText.{bad_text}
 use Rattle.result_verdicts.specs.declared.verdicts.Verdict.{Verdict}
 use Rattle.result_verdicts.specs.VerdictText.{verdict_text}
 use Rattle.batch_words.specs.declared.commands.Command.{Command}
-use Rattle.batch_words.specs.declared.commands.Command.TheVariants.{Check}
-use Rattle.batch_words.specs.declared.commands.Mult.{Mult}
 use Rattle.batch_words.specs.Words.{command_of}
 use Rattle.batch_serving.specs.declared.outcomes.Outcome.{Outcome}
 use Rattle.batch_serving.specs.declared.outcomes.Outcome.TheVariants.{Done}
-use Rattle.batch_serving.specs.Text.{IsBadFor, IsBroken, MayEnd, NeedsThreads}
+use Rattle.batch_serving.specs.Text.{IsBadFor, IsBrokenFor, MayEnd, NeedsThreads}
 
 -- ---- the words
 
@@ -47,11 +45,11 @@ TellsBadFor spelled input text =
     × IsBadFor command input line reason
     × (text ≡ bad_text (record { line = line; reason = reason }))
 
--- the command is `check`, and the text says what is wrong with the result behind the input's batch
+-- the command judges, and the text says what is wrong with the result behind the input's batch
 unfoldable pub TellsBroken : Option Command → List ℕ → List ℕ → Type 0
 TellsBroken spelled input text =
-    (mult : Mult) × (spelled ≡ Some (Check mult)) × (verdict : Verdict) × IsBroken input verdict
-    × (text ≡ verdict_text verdict)
+    (command : Command) × (spelled ≡ Some command) × (verdict : Verdict)
+    × IsBrokenFor command input verdict × (text ≡ verdict_text verdict)
 
 -- the command may write a text of this size, which is larger than the room
 unfoldable pub NeedsRoom : Option Command → List ℕ → ℕ → ℕ → Type 0

@@ -5,6 +5,7 @@ pub mod Slots
 pub mod Pulling
 pub mod Linked
 pub mod ServedCalls
+pub mod LiveServed
 pub mod Lanes
 pub mod DueNumbers
 pub mod Openings
@@ -14,3 +15,6 @@ pub mod LegalRuns
 pub mod SoundRuns
 pub mod ToldSizes
 pub mod LegalVerdicts
+pub mod LiveSound
+pub mod LiveLegalVerdicts
+pub mod LiveRead

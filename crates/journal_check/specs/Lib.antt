@@ -1,5 +1,6 @@
 pub mod Verdicts
 pub mod Runs
 pub mod Walks
+pub mod LiveWalks
 pub mod Links
 pub mod Passing

@@ -7,6 +7,11 @@
 //! sequential context (RFC 9180, 5.2), and the replies are compared with its answers. Each guess is
 //! compared with the numbers that it may have had.
 //!
+//! [`check_live_result`] does the same with a result whose lanes add and retire contexts
+//! (`IsLiveVerdict`): its table is read first, and says which calls found their contexts. The calls as
+//! they were served are then judged as those of a plan whose contexts stay, and the table as one
+//! journal more.
+//!
 //! Nothing here starts a thread: [`check_result_by`] serves a caller that has no runtime, by a
 //! permission to check tags. Each call, each place and each reply is passed a fixed number of
 //! times, whatever the contexts and lanes are; stamps are put in order by their numbers. Each pair
@@ -21,8 +26,11 @@ mod halts;
 mod items;
 mod lane_walks;
 mod links;
+mod live_checking;
+mod live_replies;
 mod replies;
 mod runs;
 
 pub use checking::{check_result, check_result_by};
+pub use live_checking::{check_live_result, check_live_result_by};
 pub use result_verdicts::Verdict;

@@ -297,8 +297,8 @@ fn take_lanes(
     Ok(())
 }
 
-// The line of the next reply, if there is one: none is due.
-fn left_over(replies: &mut Replies) -> Option<u32>
+/// The line of the next reply, if there is one: none is due.
+pub(crate) fn left_over(replies: &mut Replies) -> Option<u32>
     ensures { result ≡ wrong_reply_of replies.old [] }
 {
     replies.take().map(|reply| reply.number)

@@ -7,11 +7,17 @@ use result_verdicts::{Verdict, print_verdict};
 use std::test::Fail;
 
 // Own, by hand: each form of the line; numbers from the least to the greatest.
-const LINES: [(Verdict, &str); 7] = [
+const LINES: [(Verdict, &str); 10] = [
     (Verdict::Legal, "legal\n"),
     (Verdict::Form { line: 1 }, "broken form 1\n"),
     (Verdict::Journal { context: 0 }, "broken journal 0\n"),
     (Verdict::Journal { context: 255 }, "broken journal 255\n"),
+    (
+        Verdict::Journal { context: 65_535 },
+        "broken journal 65535\n",
+    ),
+    (Verdict::Journal { context: 65_536 }, "broken journal +0\n"),
+    (Verdict::Table, "broken table\n"),
     (Verdict::Stamps, "broken stamps\n"),
     (Verdict::Reply { line: 5 }, "broken reply 5\n"),
     (

@@ -1,22 +1,24 @@
 -- A text that was read is the text of its plan, which is within its limits and names its contexts.
-use Rattle.std.proofs.Common.{◌≡◌, ℕ, ◌≤◌, true, List, [], ◌∷◌, length, codes, Ok, Err, refl, sym, ap, subst, ◌∙◌, append-nil, inr, lit<}
+use Rattle.std.proofs.Common.{◌≡◌, ℕ, ◌-◌, ◌≤◌, true, List, [], ◌∷◌, length, codes, Ok, Err, refl, sym, ap, subst, ◌∙◌, append-nil, inr, lit<, arith}
+use Rattle.std.specs.List.{join_with_byte}
+use Rattle.std.proofs.lemmas.List.{length-append}
 use Rattle.field_text.specs.declared.reasons.Reason.TheVariants as reasons
-use Rattle.field_text.specs.Cuts.{line_text}
-use Rattle.field_text.specs.Lines.{front, whole}
-use Rattle.field_text.proofs.Spellings.{step_ok, word_ok}
-use Rattle.field_text.proofs.SpelledLines.{IsSpelling, text_read}
+use Rattle.field_text.specs.Cuts.{line_feed, lines_of, line_text}
+use Rattle.field_text.specs.Lines.{FrontText, front, whole}
+use Rattle.field_text.proofs.Spellings.{joined, step_ok, word_ok}
+use Rattle.field_text.proofs.SpelledLines.{IsSpelling, text_read, front_read}
 use Rattle.batch_plans.specs.declared.plan.Plan.{Plan}
 use Rattle.batch_plans.specs.Limits.{most_input, IsWithinLimits}
 use Rattle.request_frames.specs.Words.{line_word, words_of}
 use Rattle.request_frames.specs.Added.{IsLive}
-use Rattle.request_frames.specs.Batch.{empty_plan}
+use Rattle.request_frames.specs.Batch.{empty_plan, ended}
 use Rattle.request_frames.specs.PlanText.{text_of}
 use Rattle.request_frames.proofs.SpelledFields.{among_ok}
 use Rattle.request_frames.proofs.SpelledPlans.{Adds, line_adds, added_adds, retired_adds, adds_then, adds_nothing}
 use Rattle.request_frames.proofs.SpelledTexts.{IsHeader, empty_header, IsRead, is_read}
 use Rattle.live_frames.specs.declared.words.LiveWord.{LiveWord}
 use Rattle.live_frames.specs.declared.words.LiveWord.TheVariants.{Batch, Add, Retire}
-use Rattle.live_frames.specs.Live.{header, batch_word, word, may_stand, with_line, live_lines, live, Spells}
+use Rattle.live_frames.specs.Live.{header, batch_word, word, may_stand, with_line, live_lines, live, front_live, Spells}
 
 -- ---- lines
 
@@ -56,7 +58,7 @@ line_read Add plan new piece pieces named stands e =
 line_read Retire plan new piece pieces named stands e =
     subst (λ (piece : List ℕ). Adds true plan new (line_text (piece ∷ pieces))) (sym named) (retired_adds plan new pieces stands e)
 
-spelling : IsSpelling live_lines (Adds true)
+pub spelling : IsSpelling live_lines (Adds true)
 spelling = record {
   none = adds_nothing true;
   line = λ value plan new final piece pieces text named stands read more.
@@ -84,3 +86,34 @@ whole_within text plan e small = (live_read text plan e).0.limits small
 pub whole_live : (text : List ℕ) (plan : Plan) → whole (front live_lines most_input text) ≡ Ok plan → IsLive plan
 unfolding live
 whole_live text plan e = let read = live_read text plan e in read.0.live read.1
+
+-- ---- a text whose front spells a plan
+
+pub front_plan_read : (text : List ℕ) (found : FrontText Plan) → front live_lines most_input text ≡ Ok found
+    → IsRead true found.plan text (join_with_byte line_feed found.rest) × (found.plan.version ≡ 2)
+front_plan_read text found e =
+    let read = front_read live_lines (Adds true) spelling most_input text found e in (
+      is_read true live_lines found.plan text (join_with_byte line_feed found.rest) (λ line start is. (header_ok line start is).0) read,
+      read.adds.version ∙ (header_ok read.header read.start read.first).1,
+    )
+
+pub front_within : (text : List ℕ) (found : FrontText Plan) → front live_lines most_input text ≡ Ok found → length found.plan.pool ≤ most_input
+    → IsWithinLimits found.plan
+front_within text found e small = (front_plan_read text found e).0.limits small
+
+pub front_is_live : (text : List ℕ) (found : FrontText Plan) → front live_lines most_input text ≡ Ok found → IsLive found.plan
+front_is_live text found e = let read = front_plan_read text found e in read.0.live read.1
+
+-- what stands behind a front is no longer than the text
+pub behind_front : (text after : List ℕ) (found : FrontText Plan) → front live_lines most_input text ≡ Ok found → found.rest ≡ lines_of after → length after ≤ length text
+behind_front text after found e is =
+    let read = (front_plan_read text found e).0 in
+    let rest : join_with_byte line_feed found.rest ≡ after = ap (join_with_byte line_feed) is ∙ joined line_feed after in
+    omega (arith, ap length read.parts, length-append (text_of found.plan) (join_with_byte line_feed found.rest), ap length rest)
+
+-- where it ends
+pub front_found : (text after : List ℕ) (plan : Plan) (lines : ℕ) → front live_lines most_input text ≡ Ok (record { plan = plan; lines = lines; rest = lines_of after })
+    → front_live text ≡ Ok (plan, length text - length after)
+unfolding front_live
+front_found text after plan lines e =
+    ap (ended text) e ∙ ap (λ (rest : List ℕ). Ok (plan, length text - length rest)) (joined line_feed after)

@@ -13,7 +13,7 @@ use Rattle.batch_plans.specs.Limits.{most_input}
 use Rattle.request_frames.specs.Words.{line_word}
 use Rattle.request_frames.specs.Added.{with_added, with_retired}
 use Rattle.request_frames.specs.Batch as batch
-use Rattle.request_frames.specs.Batch.{empty_plan}
+use Rattle.request_frames.specs.Batch.{empty_plan, ended}
 use Rattle.live_frames.specs.declared.words.LiveWord.{LiveWord}
 use Rattle.live_frames.specs.declared.words.LiveWord.TheVariants.{Batch, Add, Retire}
 
@@ -67,3 +67,17 @@ Spells text plan = live text ≡ Ok plan
 -- the first bad line and its first reason
 abbrev pub BadAt : List ℕ → ℕ → Reason → Type 0
 BadAt text line reason = live text ≡ bad line reason
+
+-- ---- such a batch at the front of a text
+
+-- the plan at the front of a text and where it ends, or the first bad line and first reason
+unfoldable pub front_live : List ℕ → Result (Plan × ℕ) BadBatch
+front_live text = ended text (front live_lines most_input text)
+
+-- the text begins with this many bytes in the grammar, and this is their plan
+abbrev pub BeginsWith : List ℕ → Plan → ℕ → Type 0
+BeginsWith text plan end = front_live text ≡ Ok (plan, end)
+
+-- the first bad line up to `end`, and its first reason
+abbrev pub FrontBadAt : List ℕ → ℕ → Reason → Type 0
+FrontBadAt text line reason = front_live text ≡ bad line reason

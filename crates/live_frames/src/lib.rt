@@ -6,6 +6,7 @@
 //! text spells by `live` of `specs/Live.antt`, or its first bad line and that line's first reason,
 //! over the same reader of lines as `read_batch`. [`one_reading`] says that each text has just one
 //! of these, and [`one_spelling`] that a plan's text is `text_of` of request_frames and no other.
+//! [`read_live_front`] reads such a batch at the front of a longer text, and tells where it ends.
 //! [`print_live`] appends exactly the text `live_text` of reply_texts, or a prefix of it if the
 //! sink failed.
 //!
@@ -21,4 +22,4 @@ mod reading;
 mod words;
 
 pub use printing::print_live;
-pub use reading::{one_reading, one_spelling, read_live};
+pub use reading::{live_fronts_are_batches, one_reading, one_spelling, read_live, read_live_front};

@@ -1,14 +1,15 @@
-//! A whole batch whose lanes add and retire contexts.
+//! A whole batch whose lanes add and retire contexts, and such a batch at the front of a longer text.
 
-ghost use Rattle.std.specs.Prelude.{◌≡◌, ℕ, ◌⊎◌, IfOk, List};
+ghost use Rattle.std.specs.Prelude.{◌≡◌, ℕ, ◌⊎◌, ◌≤◌, ◌++◌, IfOk, List, length, take};
 ghost use Rattle.field_text.specs.declared.reasons.Reason.{Reason};
 ghost use Rattle.field_text.specs.Lines.{Finds};
 ghost use Rattle.batch_plans.specs.declared.plan.Plan.{Plan};
-ghost use Rattle.batch_plans.specs.Limits.{IsWithinLimits};
+ghost use Rattle.batch_plans.specs.Limits.{most_input, IsWithinLimits};
 ghost use Rattle.request_frames.specs.Added.{IsLive};
 ghost use Rattle.request_frames.specs.Batch.{refusal, no_memory};
 ghost use Rattle.request_frames.specs.PlanText.{text_of};
 ghost use Rattle.live_frames.specs.Live.{Spells, BadAt, live};
+ghost use Rattle.live_frames.specs.Live.{BeginsWith, FrontBadAt, front_live};
 
 use crate::draft::LiveDraft;
 use batch_plans::Plan;
@@ -43,6 +44,45 @@ pub fn read_live(alloc: Global, bytes: &[u8]) -> Result<Plan, ReadBatchFault>
 {
     read(alloc, bytes)
 }
+
+#[tactic(auto, unfolding(crate::specs::Live::front_live))]
+fn read_up_to_end(alloc: Global, bytes: &[u8]) -> Result<(Plan, usize), ReadBatchFault>
+    ensures read { Finds (λ front. front) result (front_live bytes.now) }
+    ensures limits { IfOk result (λ front. IsWithinLimits front.0) }
+    ensures live { IfOk result (λ front. IsLive front.0) }
+{
+    let front = field_text::read_front::<LiveDraft>(alloc, bytes)?;
+    let end = bytes.len() - front.rest.len();
+    Ok((front.draft.batch.finish()?, end))
+}
+
+/// The plan of such a batch at the front of the bytes, and where it ends, or the first bad line and
+/// its first reason.
+///
+/// What stands behind the line `end` is not looked at, but counts for the limit of the input.
+pub fn read_live_front(alloc: Global, bytes: &[u8]) -> Result<(Plan, usize), ReadBatchFault>
+    ensures front { IfOk result (λ front. BeginsWith bytes.now front.0 front.1) }
+    ensures bad { (line : ℕ) (reason : Reason)
+        → result ≡ refusal line reason → FrontBadAt bytes.now line reason }
+    ensures refused { (line : ℕ) (reason : Reason) → FrontBadAt bytes.now line reason
+        → (result ≡ refusal line reason) ⊎ (result ≡ no_memory) }
+    ensures found { (plan : Plan) (end : ℕ) → BeginsWith bytes.now plan end
+        → (result ≡ Ok (plan, end)) ⊎ (result ≡ no_memory) }
+    ensures limits { IfOk result (λ front. IsWithinLimits front.0) }
+    ensures live { IfOk result (λ front. IsLive front.0) }
+{
+    read_up_to_end(alloc, bytes)
+}
+
+/// A text begins with such a batch where its first bytes are one, whatever follows them.
+///
+/// A law of the definitions: the call does nothing.
+pub fn live_fronts_are_batches()
+    ensures begins { (text : List ℕ) (plan : Plan) (end : ℕ)
+        → BeginsWith text plan end → Spells (take end text) plan }
+    ensures goes_on { (text rest : List ℕ) (plan : Plan) → Spells text plan
+        → length (text ++ rest) ≤ most_input → BeginsWith (text ++ rest) plan (length text) }
+{}
 
 /// Each text spells just one plan, or has just one first bad line and reason.
 pub fn one_reading()

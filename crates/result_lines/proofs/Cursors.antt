@@ -5,6 +5,7 @@ use Rattle.call_places.specs.declared.entries.Mark.{Mark}
 use Rattle.field_text.specs.declared.reasons.Reason.{Reason}
 use Rattle.field_text.specs.Cuts.{lines_of}
 use Rattle.field_text.proofs.Cutting.{some_piece}
+use Rattle.result_lines.specs.declared.stamps.Stamps.{Stamps}
 use Rattle.result_lines.specs.Forms.{mark_of_line}
 use Rattle.result_lines.specs.Places.{LinesView, next_line, line_from, nothing_from, ended, MarksFound, mark_before, marks_from, marks_of, marked, mark_from, mark_at}
 
@@ -25,13 +26,13 @@ line_taken n text line after cut = ap (line_from n) cut ∙ line_cons n line (li
 
 -- ---- a place of a journal
 
-mark_cons : (stamps : Bool) (n : ℕ) (line : List ℕ) (parts : List (List ℕ)) → (length parts == 0) ≡ false
+mark_cons : (stamps : Stamps) (n : ℕ) (line : List ℕ) (parts : List (List ℕ)) → (length parts == 0) ≡ false
     → mark_from stamps n (line ∷ parts) ≡ marked (mark_of_line stamps line) (record { number = n + 1; parts = parts })
 mark_cons stamps n line [] some = absurd cc
 mark_cons stamps n line (next ∷ more) some = refl
 
 -- a finished line that is a place
-pub mark_taken : (stamps : Bool) (n : ℕ) (text line after : List ℕ) (mark : Mark) → lines_of text ≡ line ∷ lines_of after
+pub mark_taken : (stamps : Stamps) (n : ℕ) (text line after : List ℕ) (mark : Mark) → lines_of text ≡ line ∷ lines_of after
     → mark_of_line stamps line ≡ Ok mark
     → mark_at stamps (record { number = n; parts = lines_of text }) ≡ Some (mark, record { number = n + 1; parts = lines_of after })
 mark_taken stamps n text line after mark cut read =
@@ -39,7 +40,7 @@ mark_taken stamps n text line after mark cut read =
     ∙ ap (λ (r : Result Mark Reason). marked r (record { number = n + 1; parts = lines_of after })) read
 
 -- a finished line that is none
-pub mark_left : (stamps : Bool) (n : ℕ) (text line after : List ℕ) (reason : Reason) → lines_of text ≡ line ∷ lines_of after
+pub mark_left : (stamps : Stamps) (n : ℕ) (text line after : List ℕ) (reason : Reason) → lines_of text ≡ line ∷ lines_of after
     → mark_of_line stamps line ≡ Err reason → mark_at stamps (record { number = n; parts = lines_of text }) ≡ None
 mark_left stamps n text line after reason cut read =
     ap (mark_from stamps n) cut ∙ mark_cons stamps n line (lines_of after) (some_line after)
@@ -51,7 +52,7 @@ mark_left stamps n text line after reason cut read =
 abbrev pub prepended : List Mark → MarksFound → MarksFound
 prepended marks found = record found { marks = marks ++ found.marks }
 
-no_marks : (stamps : Bool) (n : ℕ) (parts : List (List ℕ)) → mark_from stamps n parts ≡ None
+no_marks : (stamps : Stamps) (n : ℕ) (parts : List (List ℕ)) → mark_from stamps n parts ≡ None
     → marks_from stamps n parts ≡ record { marks = []; lines = record { number = n; parts = parts } }
 no_marks stamps n [] none = refl
 no_marks stamps n (part ∷ []) none = refl
@@ -64,14 +65,14 @@ no_marks stamps n (line ∷ next ∷ more) none = go (mark_of_line stamps line) 
     go (Err reason) none = refl
 
 -- no line is a place any more
-pub journal_ends : (stamps : Bool) (lines : LinesView) → mark_at stamps lines ≡ None
+pub journal_ends : (stamps : Stamps) (lines : LinesView) → mark_at stamps lines ≡ None
     → marks_of stamps lines ≡ record { marks = []; lines = lines }
 journal_ends stamps lines none = no_marks stamps lines.number lines.parts none
 
 inside : (x y : Mark × LinesView) → Some x ≡ Some y → x ≡ y
 inside x y e = cc
 
-some_marks : (stamps : Bool) (n : ℕ) (parts : List (List ℕ)) (mark : Mark) (after : LinesView) → mark_from stamps n parts ≡ Some (mark, after)
+some_marks : (stamps : Stamps) (n : ℕ) (parts : List (List ℕ)) (mark : Mark) (after : LinesView) → mark_from stamps n parts ≡ Some (mark, after)
     → marks_from stamps n parts ≡ prepended (mark ∷ []) (marks_of stamps after)
 some_marks stamps n [] mark after some = absurd cc
 some_marks stamps n (part ∷ []) mark after some = absurd cc
@@ -89,12 +90,12 @@ some_marks stamps n (line ∷ next ∷ more) mark after some = go (mark_of_line 
         ∙ ap (λ (l : LinesView). prepended (mark ∷ []) (marks_of stamps l)) rest
 
 -- the next line is a place
-pub journal_goes_on : (stamps : Bool) (lines : LinesView) (mark : Mark) (after : LinesView) → mark_at stamps lines ≡ Some (mark, after)
+pub journal_goes_on : (stamps : Stamps) (lines : LinesView) (mark : Mark) (after : LinesView) → mark_at stamps lines ≡ Some (mark, after)
     → marks_of stamps lines ≡ prepended (mark ∷ []) (marks_of stamps after)
 journal_goes_on stamps lines mark after some = some_marks stamps lines.number lines.parts mark after some
 
 -- it is one of the first so many
-pub first_go_on : (stamps : Bool) (lines : LinesView) (mark : Mark) (after : LinesView) (n i : ℕ) (so_far total : List Mark) → i < n
+pub first_go_on : (stamps : Stamps) (lines : LinesView) (mark : Mark) (after : LinesView) (n i : ℕ) (so_far total : List Mark) → i < n
     → mark_at stamps lines ≡ Some (mark, after) → so_far ++ take (n - i) (marks_of stamps lines).marks ≡ total
     → (so_far ++ mark ∷ []) ++ take (n - (i + 1)) (marks_of stamps after).marks ≡ total
 first_go_on stamps lines mark after n i so_far total lt some is =
@@ -104,7 +105,7 @@ first_go_on stamps lines mark after n i so_far total lt some is =
     ∙ ap (λ (f : MarksFound). so_far ++ take (suc (n - (i + 1))) f.marks) (journal_goes_on stamps lines mark after some))
     ∙ is
 
-fewer : (stamps : Bool) (n : ℕ) (parts : List (List ℕ)) (mark : Mark) (after : LinesView) → mark_from stamps n parts ≡ Some (mark, after)
+fewer : (stamps : Stamps) (n : ℕ) (parts : List (List ℕ)) (mark : Mark) (after : LinesView) → mark_from stamps n parts ≡ Some (mark, after)
     → length after.parts < length parts
 fewer stamps n [] mark after some = absurd cc
 fewer stamps n (part ∷ []) mark after some = absurd cc
@@ -117,7 +118,7 @@ fewer stamps n (line ∷ next ∷ more) mark after some = go (mark_of_line stamp
         ap (λ (p : Mark × LinesView). p.1) (inside (m, record { number = n + 1; parts = next ∷ more }) (mark, after) some) in
         omega (arith, ap (λ (l : LinesView). length l.parts) rest)
 
-pub fewer_lines : (stamps : Bool) (lines : LinesView) (mark : Mark) (after : LinesView) → mark_at stamps lines ≡ Some (mark, after)
+pub fewer_lines : (stamps : Stamps) (lines : LinesView) (mark : Mark) (after : LinesView) → mark_at stamps lines ≡ Some (mark, after)
     → length after.parts < length lines.parts
 fewer_lines stamps lines mark after some = fewer stamps lines.number lines.parts mark after some
 

@@ -24,25 +24,26 @@ use Rattle.reply_texts.specs.Lines.{key_line, context_line}
 use Rattle.reply_texts.specs.ReplyText.{guess_line, all_lines, numbered, lane_lines, mark_line, journal_lines, version_line, has_stamps}
 use Rattle.due_replies.specs.Standing.{call_refusal}
 use Rattle.result_lines.specs.declared.told.GuessLine.{GuessLine}
-use Rattle.result_lines.specs.Forms.{mark_of_line}
+use Rattle.result_lines.specs.declared.stamps.Stamps.{Stamps}
+use Rattle.result_lines.specs.Forms.{mark_of_line, are_printed, stamps_for}
 use Rattle.result_lines.specs.Places.{◌>>=◌, LinesView, MarksFound, next_line, line_due, guess_from, marks_of, ended, with_feed}
 use Rattle.result_lines.specs.Places as places
 use Rattle.result_lines.specs.Told.{ReplyView, ToldView, nothing_yet, with_line, with_lines, with_reply, with_replies, with_guess, with_served, with_call_unless, with_call, with_calls, with_lane, with_lanes, journal_ended, with_journal, with_journals, with_setup, with_end, told_by}
-use Rattle.result_lines.specs.Printed.{call_replies, call_guesses, lane_replies, lane_guesses, told_calls, told_lanes, told_text, lines_told, AreComplete, IsLine, IsGuessWithin, IsMarkWithin, IsReadBack}
+use Rattle.result_lines.specs.Printed.{call_replies, call_guesses, lane_replies, lane_guesses, told_calls, told_lanes, told_text, lines_told, AreComplete, IsLine, IsGuessWithin, IsMarkWithin, IsPlaceWithin, IsReadBack}
 use Rattle.result_lines.proofs.Cursors.{mark_taken, mark_left, prepended, journal_ends, journal_goes_on}
 use Rattle.result_lines.proofs.FirstLines.{HasNoFeed, step_gives, IsLeft, behind_line, cut_line, line_given, due_given, end_given}
 use Rattle.result_lines.proofs.Growing.{concat-append, batches, Grew, moved, stayed, grew_more, Gave, gave_more, GrewLanes, lanes_stayed, lanes_more, lane_grew, GrewJournals, journals_stayed, journals_more, journal_grew}
 use Rattle.result_lines.proofs.NumberLines.{guess_back, mark_back, no_mark}
 use Rattle.result_lines.proofs.PlainLines.{tested, both, decimal_one, numbered_line, key_line_is, context_line_is, end_line_is}
-use Rattle.result_lines.proofs.Took.{one_call, calls_only, no_guesses, text_parts}
+use Rattle.result_lines.proofs.Took.{one_call, calls_only, no_guesses, text_parts, version_stamps}
 
 -- another text that is left
-other_left : {parts : List (List ℕ)} {text other : List ℕ} → text ≡ other → parts ≡ lines_of text → parts ≡ lines_of other
+pub other_left : {parts : List (List ℕ)} {text other : List ℕ} → text ≡ other → parts ≡ lines_of text → parts ≡ lines_of other
 other_left same left = left ∙ ap lines_of same
 
 -- ---- lines as they are printed
 
-line_gave : (due : List ℕ) (told : ToldView) (after : List ℕ) → IsLine due → IsLeft told.lines (due ++ after) → Gave (with_line due told) told after [] []
+pub line_gave : (due : List ℕ) (told : ToldView) (after : List ℕ) → IsLine due → IsLeft told.lines (due ++ after) → Gave (with_line due told) told after [] []
 unfolding with_line
 line_gave due told after line left = record {
   new = record told { lines = behind_line told.lines after };
@@ -50,7 +51,7 @@ line_gave due told after line left = record {
   grew = moved told (behind_line told.lines after) after refl;
 }
 
-lines_gave : (due : List (List ℕ)) (told : ToldView) (after : List ℕ) → All IsLine due → IsLeft told.lines (concat due ++ after) → Gave (with_lines due told) told after [] []
+pub lines_gave : (due : List (List ℕ)) (told : ToldView) (after : List ℕ) → All IsLine due → IsLeft told.lines (concat due ++ after) → Gave (with_lines due told) told after [] []
 lines_gave [] told after all left = record { new = told; is = refl; grew = stayed told after left }
 lines_gave (line ∷ more) told after all left =
     gave_more (with_line line told) (with_lines more) told (concat more ++ after) after [] [] [] []
@@ -150,7 +151,7 @@ call_gave : (refusal : Option CallRefusal) (call : CallLine) (lines : List (List
 call_gave None call lines guesses told after count kept all within left = served_gave call lines guesses told after count kept all within left
 call_gave (Some refusal) call lines guesses told after count kept all within left = one_gave lines guesses told after count kept all left
 
-nothing : {X : Type 0} (xs : List X) → length xs ≡ 0 → xs ≡ []
+pub nothing : {X : Type 0} (xs : List X) → length xs ≡ 0 → xs ≡ []
 nothing [] none = refl
 nothing (x ∷ xs) none = absurd (omega arith)
 
@@ -189,10 +190,10 @@ calls_gave contexts (call ∷ more) lines guesses told after count kept all with
 
 -- ---- lanes
 
-record GaveLanes (step : Result ToldView ℕ) (told : ToldView) (after : List ℕ) (lines : List (List ℕ)) (guesses : List (List Batch)) : Type 0 where
-  new : ToldView
-  is : step ≡ Ok new
-  grew : GrewLanes told new after lines guesses
+pub record GaveLanes (step : Result ToldView ℕ) (told : ToldView) (after : List ℕ) (lines : List (List ℕ)) (guesses : List (List Batch)) : Type 0 where
+  pub new : ToldView
+  pub is : step ≡ Ok new
+  pub grew : GrewLanes told new after lines guesses
 
 lane_gave : (contexts : List (Option ContextView)) (number : ℕ) (calls : List CallLine) (lines : List (List ℕ)) (guesses : List Batch) (told : ToldView) (after : List ℕ)
     → told.guesses ≡ [] → length lines ≡ lane_replies contexts calls → length guesses ≡ lane_guesses contexts calls → All IsLine lines → All IsGuessWithin guesses
@@ -213,7 +214,7 @@ lane_gave contexts number calls lines guesses told after none count kept all wit
 same_cons : {X : Type 0} (x y : X) (xs ys : List X) → x ∷ xs ≡ y ∷ ys → (x ≡ y) × (xs ≡ ys)
 same_cons x y xs ys e = (cc, cc)
 
-lanes_gave : (contexts : List (Option ContextView)) (number : ℕ) (lanes : List (List CallLine)) (lines : List (List ℕ)) (guesses : List (List Batch)) (told : ToldView) (after : List ℕ)
+pub lanes_gave : (contexts : List (Option ContextView)) (number : ℕ) (lanes : List (List CallLine)) (lines : List (List ℕ)) (guesses : List (List Batch)) (told : ToldView) (after : List ℕ)
     → told.guesses ≡ [] → length lines ≡ sum_by (lane_replies contexts) lanes → map (length {A = Batch}) guesses ≡ map (lane_guesses contexts) lanes
     → All IsLine lines → All (All IsGuessWithin) guesses
     → IsLeft told.lines (concat (all_lines (numbered lane_lines number (told_lanes contexts lanes lines guesses))) ++ after)
@@ -254,20 +255,20 @@ lanes_gave contexts number (calls ∷ lanes) lines (own ∷ guesses) told after 
 -- ---- journals
 
 -- a text begins with a line that is no place
-record EndsMarks (stamps : Bool) (text : List ℕ) : Type 0 where
-  body : List ℕ
-  rest : List ℕ
-  parts : text ≡ body ++ (10 ∷ rest)
-  one : HasNoFeed body
-  reason : Reason
-  none : mark_of_line stamps body ≡ Err reason
+pub record EndsMarks (stamps : Stamps) (text : List ℕ) : Type 0 where
+  pub body : List ℕ
+  pub rest : List ℕ
+  pub parts : text ≡ body ++ (10 ∷ rest)
+  pub one : HasNoFeed body
+  pub reason : Reason
+  pub none : mark_of_line stamps body ≡ Err reason
 
-end_ends : (stamps : Bool) → EndsMarks stamps (codes "end\n")
+pub end_ends : (stamps : Stamps) → EndsMarks stamps (codes "end\n")
 end_ends stamps =
     let no = no_mark stamps (codes "end") (codes "end") [] refl refl in
     record { body = codes "end"; rest = []; parts = refl; one = tested (codes "end") refl; reason = no.0; none = no.1 }
 
-journal_ends_marks : (stamps : Bool) (n : ℕ) (after : List ℕ) → EndsMarks stamps (((codes "journal " ++ decimal n) ++ codes "\n") ++ after)
+journal_ends_marks : (stamps : Stamps) (n : ℕ) (after : List ℕ) → EndsMarks stamps (((codes "journal " ++ decimal n) ++ codes "\n") ++ after)
 journal_ends_marks stamps n after =
     let line = codes "journal " ++ decimal n in
     let no = no_mark stamps line (codes "journal") (pieces_of (decimal n)) refl refl in
@@ -280,26 +281,26 @@ journal_ends_marks stamps n after =
       none = no.1;
     }
 
-same_ends : {stamps : Bool} {text other : List ℕ} → text ≡ other → EndsMarks stamps other → EndsMarks stamps text
+pub same_ends : {stamps : Stamps} {text other : List ℕ} → text ≡ other → EndsMarks stamps other → EndsMarks stamps text
 same_ends {stamps} same ends = subst (EndsMarks stamps) (sym same) ends
 
 -- what stands behind a journal
-behind_ends : (stamps : Bool) (number : ℕ) (journals : List (List Mark)) (after : List ℕ) → EndsMarks stamps after
-    → EndsMarks stamps (concat (all_lines (numbered (journal_lines stamps) number journals)) ++ after)
+pub behind_ends : (stamps : Stamps) (number : ℕ) (journals : List (List Mark)) (after : List ℕ) → EndsMarks stamps after
+    → EndsMarks stamps (concat (all_lines (numbered (journal_lines (are_printed stamps)) number journals)) ++ after)
 behind_ends stamps number [] after ends = ends
 behind_ends stamps number (marks ∷ journals) after ends =
     let head = (codes "journal " ++ decimal number) ++ codes "\n" in
-    let rest = concat (map (mark_line stamps) marks ++ all_lines (numbered (journal_lines stamps) (number + 1) journals)) in
+    let rest = concat (map (mark_line (are_printed stamps)) marks ++ all_lines (numbered (journal_lines (are_printed stamps)) (number + 1) journals)) in
     same_ends (append_assoc head rest after) (journal_ends_marks stamps number (rest ++ after))
 
-record GaveMarks (stamps : Bool) (lines : LinesView) (marks : List Mark) (after : List ℕ) : Type 0 where
-  found : MarksFound
-  is : marks_of stamps lines ≡ found
-  same : found.marks ≡ marks
-  left : IsLeft found.lines after
+pub record GaveMarks (stamps : Stamps) (lines : LinesView) (marks : List Mark) (after : List ℕ) : Type 0 where
+  pub found : MarksFound
+  pub is : marks_of stamps lines ≡ found
+  pub same : found.marks ≡ marks
+  pub left : IsLeft found.lines after
 
-marks_gave : (stamps : Bool) (marks : List Mark) (number : ℕ) (after : List ℕ) → All (IsMarkWithin stamps) marks → EndsMarks stamps after
-    → GaveMarks stamps (record { number = number; parts = lines_of (concat (map (mark_line stamps) marks) ++ after) }) marks after
+pub marks_gave : (stamps : Stamps) (marks : List Mark) (number : ℕ) (after : List ℕ) → All (IsPlaceWithin stamps) marks → EndsMarks stamps after
+    → GaveMarks stamps (record { number = number; parts = lines_of (concat (map (mark_line (are_printed stamps)) marks) ++ after) }) marks after
 marks_gave stamps [] number after within ends =
     let lines : LinesView = record { number = number; parts = lines_of after } in
     let cut : lines_of after ≡ ends.body ∷ lines_of ends.rest = ap lines_of ends.parts ∙ cut_line ends.body ends.rest ends.one in
@@ -310,18 +311,18 @@ marks_gave stamps [] number after within ends =
       left = refl;
     }
 marks_gave stamps (m ∷ marks) number after within ends =
-    let printed = mark_back stamps m (All-head (IsMarkWithin stamps) m marks within) in
+    let printed = mark_back stamps m (All-head (IsPlaceWithin stamps) m marks within) in
     let line = printed.printed in
-    let later = concat (map (mark_line stamps) marks) ++ after in
-    let text = concat (map (mark_line stamps) (m ∷ marks)) ++ after in
+    let later = concat (map (mark_line (are_printed stamps)) marks) ++ after in
+    let text = concat (map (mark_line (are_printed stamps)) (m ∷ marks)) ++ after in
     let parts : text ≡ line.body ++ (10 ∷ later) =
-    append_assoc (mark_line stamps m) (concat (map (mark_line stamps) marks)) after
+    append_assoc (mark_line (are_printed stamps) m) (concat (map (mark_line (are_printed stamps)) marks)) after
     ∙ ap (λ (bytes : List ℕ). bytes ++ later) line.is
     ∙ append_assoc line.body (10 ∷ []) later in
     let cut : lines_of text ≡ line.body ∷ lines_of later = ap lines_of parts ∙ cut_line line.body later line.one in
     let lines : LinesView = record { number = number; parts = lines_of text } in
     let behind : LinesView = record { number = number + 1; parts = lines_of later } in
-    let rest = marks_gave stamps marks (number + 1) after (All-tail (IsMarkWithin stamps) m marks within) ends in
+    let rest = marks_gave stamps marks (number + 1) after (All-tail (IsPlaceWithin stamps) m marks within) ends in
     record {
       found = prepended (m ∷ []) rest.found;
       is =
@@ -331,17 +332,17 @@ marks_gave stamps (m ∷ marks) number after within ends =
       left = rest.left;
     }
 
-record GaveJournals (step : Result ToldView ℕ) (told : ToldView) (after : List ℕ) (journals : List (List Mark)) : Type 0 where
-  new : ToldView
-  is : step ≡ Ok new
-  grew : GrewJournals told new after journals
+pub record GaveJournals (step : Result ToldView ℕ) (told : ToldView) (after : List ℕ) (journals : List (List Mark)) : Type 0 where
+  pub new : ToldView
+  pub is : step ≡ Ok new
+  pub grew : GrewJournals told new after journals
 
-journal_gave : (stamps : Bool) (number : ℕ) (marks : List Mark) (told : ToldView) (after : List ℕ) → All (IsMarkWithin stamps) marks → EndsMarks stamps after
-    → IsLeft told.lines (concat (journal_lines stamps number marks) ++ after) → GaveJournals (with_journal stamps number told) told after (marks ∷ [])
+journal_gave : (stamps : Stamps) (number : ℕ) (marks : List Mark) (told : ToldView) (after : List ℕ) → All (IsPlaceWithin stamps) marks → EndsMarks stamps after
+    → IsLeft told.lines (concat (journal_lines (are_printed stamps) number marks) ++ after) → GaveJournals (with_journal stamps number told) told after (marks ∷ [])
 unfolding with_journal
 journal_gave stamps number marks told after within ends left =
     let head = (codes "journal " ++ decimal number) ++ codes "\n" in
-    let here = concat (map (mark_line stamps) marks) in
+    let here = concat (map (mark_line (are_printed stamps)) marks) in
     let a = line_gave head told (here ++ after) (numbered_line (codes "journal ") number refl) (other_left (append_assoc head here after) left) in
     let m = marks_gave stamps marks a.new.lines.number after within ends in
     let at : marks_of stamps a.new.lines ≡ m.found =
@@ -353,21 +354,21 @@ journal_gave stamps number marks told after within ends left =
           (journal_grew told a.new (here ++ after) after m.found a.grew m.left);
     }
 
-journals_gave : (stamps : Bool) (number : ℕ) (lines : List ContextLine) (journals : List (List Mark)) (told : ToldView) (after : List ℕ) → length journals ≡ length lines
-    → All (All (IsMarkWithin stamps)) journals → EndsMarks stamps after
-    → IsLeft told.lines (concat (all_lines (numbered (journal_lines stamps) number journals)) ++ after)
+pub journals_gave : (stamps : Stamps) (number : ℕ) (lines : List ContextLine) (journals : List (List Mark)) (told : ToldView) (after : List ℕ) → length journals ≡ length lines
+    → All (All (IsPlaceWithin stamps)) journals → EndsMarks stamps after
+    → IsLeft told.lines (concat (all_lines (numbered (journal_lines (are_printed stamps)) number journals)) ++ after)
     → GaveJournals (with_journals stamps number lines told) told after journals
 journals_gave stamps number [] [] told after count within ends left = record { new = told; is = refl; grew = journals_stayed told after left }
 journals_gave stamps number [] (marks ∷ journals) told after count within ends left = absurd (omega arith)
 journals_gave stamps number (line ∷ lines) [] told after count within ends left = absurd (omega arith)
 journals_gave stamps number (line ∷ lines) (marks ∷ journals) told after count within ends left =
-    let here = journal_lines stamps number marks in
-    let later = all_lines (numbered (journal_lines stamps) (number + 1) journals) in
+    let here = journal_lines (are_printed stamps) number marks in
+    let later = all_lines (numbered (journal_lines (are_printed stamps)) (number + 1) journals) in
     let text : concat (here ++ later) ++ after ≡ concat here ++ (concat later ++ after) =
     ap (λ (bytes : List ℕ). bytes ++ after) (concat-append here later) ∙ append_assoc (concat here) (concat later) after in
-    let a = journal_gave stamps number marks told (concat later ++ after) (All-head (All (IsMarkWithin stamps)) marks journals within)
+    let a = journal_gave stamps number marks told (concat later ++ after) (All-head (All (IsPlaceWithin stamps)) marks journals within)
     (behind_ends stamps (number + 1) journals after ends) (other_left text left) in
-    let b = journals_gave stamps (number + 1) lines journals a.new after (omega arith) (All-tail (All (IsMarkWithin stamps)) marks journals within) ends a.grew.left in
+    let b = journals_gave stamps (number + 1) lines journals a.new after (omega arith) (All-tail (All (IsPlaceWithin stamps)) marks journals within) ends a.grew.left in
     record {
       new = b.new;
       is = step_gives (with_journal stamps number told) (with_journals stamps (number + 1) lines) a.new a.is ∙ b.is;
@@ -376,11 +377,11 @@ journals_gave stamps number (line ∷ lines) (marks ∷ journals) told after cou
 
 -- ---- the whole result
 
-numbered_all : {A : Type 0} (line : ℕ → A → List ℕ) (is : (n : ℕ) (x : A) → IsLine (line n x)) (n : ℕ) (xs : List A) → All IsLine (numbered line n xs)
+pub numbered_all : {A : Type 0} (line : ℕ → A → List ℕ) (is : (n : ℕ) (x : A) → IsLine (line n x)) (n : ℕ) (xs : List A) → All IsLine (numbered line n xs)
 numbered_all line is n [] = All-nil IsLine
 numbered_all line is n (x ∷ xs) = All-cons IsLine (line n x) (numbered line (n + 1) xs) (is n x) (numbered_all line is (n + 1) xs)
 
-setup_gave : (version : ℕ) (keys : List KeyReply) (replies : List ContextReply) (told : ToldView) (after : List ℕ)
+pub setup_gave : (version : ℕ) (keys : List KeyReply) (replies : List ContextReply) (told : ToldView) (after : List ℕ)
     → IsLeft told.lines ((version_line version ++ (concat (numbered key_line 0 keys) ++ concat (numbered context_line 0 replies))) ++ after)
     → Gave (with_setup version keys replies told) told after [] []
 unfolding with_setup
@@ -396,7 +397,7 @@ setup_gave version keys replies told after left =
     (lines_gave ks t1 (concat cs ++ after) (numbered_all key_line key_line_is 0 keys) l1)
     (λ t2 l2. lines_gave cs t2 after (numbered_all context_line context_line_is 0 replies) l2))
 
-end_gave : (told : ToldView) → IsLeft told.lines (codes "end\n") → Gave (with_end told) told [] [] []
+pub end_gave : (told : ToldView) → IsLeft told.lines (codes "end\n") → Gave (with_end told) told [] [] []
 unfolding with_end
 end_gave told left =
     let a = line_gave (codes "end\n") told [] end_line_is left in
@@ -411,13 +412,16 @@ pub told_back : (plan : Plan) (keys : List KeyReply) (replies : List ContextRepl
     → All (All (IsMarkWithin (has_stamps plan.version))) journals → IsReadBack plan keys replies contexts lines guesses journals
 unfolding told_by
 told_back plan keys replies contexts lines guesses journals complete all within marks =
-    let stamps = has_stamps plan.version in
+    let stamps = stamps_for (has_stamps plan.version) in
     let setup = version_line plan.version ++ (concat (numbered key_line 0 keys) ++ concat (numbered context_line 0 replies)) in
     let lanes = told_lanes contexts plan.lanes lines guesses in
     let lane_text = concat (all_lines (numbered lane_lines 0 lanes)) in
-    let journal_text = concat (all_lines (numbered (journal_lines stamps) 0 journals)) in
+    let journal_text = concat (all_lines (numbered (journal_lines (are_printed stamps)) 0 journals)) in
     let text = told_text plan keys replies contexts lines guesses journals in
-    let parts : text ≡ setup ++ (lane_text ++ (journal_text ++ codes "end\n")) = text_parts plan.version keys replies lanes journals in
+    let parts : text ≡ setup ++ (lane_text ++ (journal_text ++ codes "end\n")) =
+    text_parts plan.version keys replies lanes journals
+    ∙ ap (λ (printed : Bool). setup ++ (lane_text ++ (concat (all_lines (numbered (journal_lines printed) 0 journals)) ++ codes "end\n")))
+    (sym (version_stamps plan.version)) in
     let start = nothing_yet text in
     let a = setup_gave plan.version keys replies start (lane_text ++ (journal_text ++ codes "end\n")) (ap lines_of parts) in
     let b = lanes_gave contexts 0 plan.lanes lines guesses a.new (journal_text ++ codes "end\n") (no_guesses a.new.guesses a.grew.guesses)

@@ -1,6 +1,7 @@
 pub mod Cursors
 pub mod Feeds
 pub mod Steps
+pub mod Numbered
 pub mod Taking
 pub mod FirstLines
 pub mod NumberLines
@@ -8,3 +9,8 @@ pub mod PlainLines
 pub mod Growing
 pub mod Took
 pub mod Gave
+pub mod NoteLines
+pub mod TookLive
+pub mod GaveLive
+pub mod TableText
+pub mod BackLive

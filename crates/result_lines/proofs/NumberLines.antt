@@ -18,16 +18,18 @@ use Rattle.field_text.specs.declared.reasons.Reason.{Reason}
 use Rattle.field_text.specs.declared.reasons.Reason.TheVariants.{Word, Fields, Number, Range}
 use Rattle.field_text.specs.Cuts.{pieces_of}
 use Rattle.field_text.specs.Fields as fields
-use Rattle.field_text.specs.Fields.{number, next, exactly}
+use Rattle.field_text.specs.Fields.{◌>>=◌, number, next, exactly}
 use Rattle.field_text.proofs.Spellings.{joined, step_ok, next_ok, exactly_ok, number_ok, ok_same}
 use Rattle.batch_plans.specs.Limits.{most_opening}
 use Rattle.batch_plans.specs.declared.replies.Batch.{Batch}
 use Rattle.legal_journals.specs.Batches.{place}
 use Rattle.legal_journals.specs.Histories.{mark}
 use Rattle.reply_texts.specs.ReplyText.{guess_line, mark_line, stamp_words}
-use Rattle.result_lines.specs.Forms.{word_of, behind, batch_word, guess_in, coordinate, mark_size, mark_in, guess_of_line, mark_of_line}
+use Rattle.result_lines.specs.declared.stamps.Stamps.{Stamps}
+use Rattle.result_lines.specs.declared.stamps.Stamps.TheVariants.{Unprinted, Places, PlacesAndNotes}
+use Rattle.result_lines.specs.Forms.{word_of, behind, batch_word, guess_in, coordinate, are_printed, most_stamp, mark_size, mark_in, guess_of_line, mark_of_line}
 use Rattle.result_lines.specs.Places.{with_feed}
-use Rattle.result_lines.specs.Printed.{IsLine, IsGuessWithin, IsMarkWithin}
+use Rattle.result_lines.specs.Printed.{IsLine, IsGuessWithin, IsPlaceWithin}
 use Rattle.result_lines.proofs.FirstLines.{HasNoFeed}
 use Rattle.result_lines.proofs.PlainLines.{tested}
 
@@ -88,14 +90,14 @@ piece_and piece rest one = slice_split_at (λ byte. byte == 32) piece 32 rest on
 pub last_piece : (piece : List ℕ) → All (λ b. (b == 32) ≡ false) piece → pieces_of piece ≡ piece ∷ []
 last_piece piece one = slice_split_none (λ byte. byte == 32) piece one
 
-number_and : (n : ℕ) (rest : List ℕ) → n < 2 ^ 64 → pieces_of (decimal n ++ (32 ∷ rest)) ≡ decimal n ∷ pieces_of rest
+pub number_and : (n : ℕ) (rest : List ℕ) → n < 2 ^ 64 → pieces_of (decimal n ++ (32 ∷ rest)) ≡ decimal n ∷ pieces_of rest
 number_and n rest small = piece_and (decimal n) rest (digits_without 32 (decimal n) (omega arith) (digits_of n small))
 
-last_number : (n : ℕ) → n < 2 ^ 64 → pieces_of (decimal n) ≡ decimal n ∷ []
+pub last_number : (n : ℕ) → n < 2 ^ 64 → pieces_of (decimal n) ≡ decimal n ∷ []
 last_number n small = last_piece (decimal n) (digits_without 32 (decimal n) (omega arith) (digits_of n small))
 
 -- the next piece was read
-next_back : {A B : Type 0} (field : List ℕ → Result A Reason) (piece : List ℕ) (more : List (List ℕ)) (value : A) (then : A × List (List ℕ) → Result B Reason)
+pub next_back : {A B : Type 0} (field : List ℕ → Result A Reason) (piece : List ℕ) (more : List (List ℕ)) (value : A) (then : A × List (List ℕ) → Result B Reason)
     → field piece ≡ Ok value → fields.◌>>=◌ (next field (piece ∷ more)) then ≡ then (value, more)
 unfolding next
 next_back field piece more value then is = ap (λ (r : Result _ Reason). fields.◌>>=◌ (fields.◌>>=◌ r (λ v. Ok (v, more))) then) is
@@ -162,14 +164,14 @@ pub record IsPrinted {A : Type 0} (line : List ℕ) (read : List ℕ → Result 
   pub printed : IsLine line
   pub back : read printed.body ≡ Ok value
 
-decimal_one : (n : ℕ) → n < 2 ^ 64 → HasNoFeed (decimal n)
+pub decimal_one : (n : ℕ) → n < 2 ^ 64 → HasNoFeed (decimal n)
 decimal_one n small = digits_without 10 (decimal n) (omega arith) (digits_of n small)
 
-no_feed : (xs ys : List ℕ) → HasNoFeed xs → HasNoFeed ys → HasNoFeed (xs ++ ys)
+pub no_feed : (xs ys : List ℕ) → HasNoFeed xs → HasNoFeed ys → HasNoFeed (xs ++ ys)
 no_feed xs ys a b = All-append (λ byte. (byte == 10) ≡ false) xs ys a b
 
 -- a number behind a space
-spaced : (n : ℕ) → n < 2 ^ 64 → HasNoFeed (codes " " ++ decimal n)
+pub spaced : (n : ℕ) → n < 2 ^ 64 → HasNoFeed (codes " " ++ decimal n)
 spaced n small = All-cons (λ byte. (byte == 10) ≡ false) 32 (decimal n) refl (decimal_one n small)
 
 word_one : HasNoFeed (codes "batch ")
@@ -226,9 +228,39 @@ long_text lane call item stamp = simp append_assoc
 field_is : (piece : List ℕ) (value : ℕ) → number 0 65535 piece ≡ Ok value → decimal value ≡ piece
 field_is piece value read = (number_ok 0 65535 piece value small_field read).spelled
 
-pub mark_read : (stamps : Bool) (line : List ℕ) (m : Mark) → mark_of_line stamps line ≡ Ok m → with_feed line ≡ mark_line stamps m
+-- a place with a stamp of at most so much
+abbrev stamped_in : ℕ → List (List ℕ) → Result Mark Reason
+stamped_in most pieces = do
+  pieces ← exactly 4 pieces
+  (lane, pieces) ← coordinate pieces
+  (call, pieces) ← coordinate pieces
+  (item, pieces) ← coordinate pieces
+  (stamp, pieces) ← next (number 0 most) pieces
+  Ok (mark (place lane call item) stamp)
+
+stamped_read : (most : ℕ) (line : List ℕ) (m : Mark) → most < 2 ^ 64 → stamped_in most (pieces_of line) ≡ Ok m → with_feed line ≡ mark_line true m
+stamped_read most line m small e =
+    let counted = exactly_ok 4 (pieces_of line) _ m e in
+    next_ok (number 0 65535) (pieces_of line) _ m _
+    (λ a lane p1 c1 r1 e1.
+    next_ok (number 0 65535) p1 _ m _
+    (λ b call p2 c2 r2 e2.
+    next_ok (number 0 65535) p2 _ m _
+    (λ c item p3 c3 r3 e3.
+    next_ok (number 0 most) p3 _ m _
+    (λ d stamp p4 c4 r4 e4.
+    let none : p4 ≡ [] = no_piece p4 (omega (arith, counted.0, ap length c1, ap length c2, ap length c3, ap length c4)) in
+    let stamp_is : decimal stamp ≡ d = (number_ok 0 most d stamp small r4).spelled in
+    let pieces : pieces_of line ≡ decimal lane ∷ decimal call ∷ decimal item ∷ decimal stamp ∷ [] =
+    pieces_are c1 (field_is a lane r1)
+    (sym (pieces_are c2 (field_is b call r2) (sym (pieces_are c3 (field_is c item r3) (sym (pieces_are c4 stamp_is (sym none))))))) in
+    ap with_feed (line_is line (decimal lane ∷ decimal call ∷ decimal item ∷ decimal stamp ∷ []) pieces)
+    ∙ long_text lane call item stamp
+    ∙ ap (mark_line true) (ok_same (mark (place lane call item) stamp) m e4)) e3) e2) e1) counted.1
+
+pub mark_read : (stamps : Stamps) (line : List ℕ) (m : Mark) → mark_of_line stamps line ≡ Ok m → with_feed line ≡ mark_line (are_printed stamps) m
 unfolding mark_in
-mark_read false line m e =
+mark_read Unprinted line m e =
     let counted = exactly_ok 3 (pieces_of line) _ m e in
     next_ok (number 0 65535) (pieces_of line) _ m _
     (λ a lane p1 c1 r1 e1.
@@ -242,35 +274,55 @@ mark_read false line m e =
     ap with_feed (line_is line (decimal lane ∷ decimal call ∷ decimal item ∷ []) pieces)
     ∙ short_text lane call item 0
     ∙ ap (mark_line false) (ok_same (mark (place lane call item) 0) m e3)) e2) e1) counted.1
-mark_read true line m e =
-    let counted = exactly_ok 4 (pieces_of line) _ m e in
-    next_ok (number 0 65535) (pieces_of line) _ m _
-    (λ a lane p1 c1 r1 e1.
-    next_ok (number 0 65535) p1 _ m _
-    (λ b call p2 c2 r2 e2.
-    next_ok (number 0 65535) p2 _ m _
-    (λ c item p3 c3 r3 e3.
-    next_ok (number 0 65535) p3 _ m _
-    (λ d stamp p4 c4 r4 e4.
-    let none : p4 ≡ [] = no_piece p4 (omega (arith, counted.0, ap length c1, ap length c2, ap length c3, ap length c4)) in
-    let pieces : pieces_of line ≡ decimal lane ∷ decimal call ∷ decimal item ∷ decimal stamp ∷ [] =
-    pieces_are c1 (field_is a lane r1)
-    (sym (pieces_are c2 (field_is b call r2) (sym (pieces_are c3 (field_is c item r3) (sym (pieces_are c4 (field_is d stamp r4) (sym none))))))) in
-    ap with_feed (line_is line (decimal lane ∷ decimal call ∷ decimal item ∷ decimal stamp ∷ []) pieces)
-    ∙ long_text lane call item stamp
-    ∙ ap (mark_line true) (ok_same (mark (place lane call item) stamp) m e4)) e3) e2) e1) counted.1
+mark_read Places line m e = stamped_read (most_stamp Places) line m (omega arith) e
+mark_read PlacesAndNotes line m e = stamped_read (most_stamp PlacesAndNotes) line m (omega arith) e
 
-small_number : (n : ℕ) → n ≤ 65535 → n < 2 ^ 64
+pub small_number : (n : ℕ) → n ≤ 65535 → n < 2 ^ 64
 small_number n low = omega arith
 
-field_back : {B : Type 0} (n : ℕ) (more : List (List ℕ)) (then : ℕ × List (List ℕ) → Result B Reason) → n ≤ 65535
+pub field_back : {B : Type 0} (n : ℕ) (more : List (List ℕ)) (then : ℕ × List (List ℕ) → Result B Reason) → n ≤ 65535
     → fields.◌>>=◌ (coordinate (decimal n ∷ more)) then ≡ then (n, more)
 field_back n more then low =
     next_back (number 0 65535) (decimal n) more n then (number_back 0 65535 n (omega arith) low (small_number n low))
 
-pub mark_back : (stamps : Bool) (m : Mark) → IsMarkWithin stamps m → IsPrinted (mark_line stamps m) (mark_of_line stamps) m
+-- a place with a stamp of at most so much
+stamped_back : (most : ℕ) (m : Mark) → most < 2 ^ 64 → m.place.lane ≤ 65535 → m.place.call ≤ 65535 → m.place.item ≤ 65535 → m.stamp ≤ most
+    → IsPrinted (mark_line true m) (λ line. stamped_in most (pieces_of line)) m
+stamped_back most m small lane_low call_low item_low stamp_low =
+    let lane = m.place.lane in
+    let call = m.place.call in
+    let item = m.place.item in
+    let stamp = m.stamp in
+    let lane_small = small_number lane lane_low in
+    let call_small = small_number call call_low in
+    let item_small = small_number item item_low in
+    let stamp_small : stamp < 2 ^ 64 = omega (arith, stamp_low, small) in
+    let pieces : pieces_of (mark_body true m) ≡ decimal lane ∷ decimal call ∷ decimal item ∷ decimal stamp ∷ [] =
+    number_and lane _ lane_small
+    ∙ ap (λ (ps : List (List ℕ)). decimal lane ∷ ps)
+    (number_and call _ call_small
+    ∙ ap (λ (ps : List (List ℕ)). decimal call ∷ ps)
+    (number_and item (decimal stamp) item_small ∙ ap (λ (ps : List (List ℕ)). decimal item ∷ ps) (last_number stamp stamp_small))) in
+    record {
+      printed = record {
+        body = mark_body true m;
+        is = mark_text true m;
+        one = no_feed (decimal lane) _ (decimal_one lane lane_small)
+            (no_feed (codes " " ++ decimal call) _ (spaced call call_small)
+            (no_feed (codes " " ++ decimal item) _ (spaced item item_small) (spaced stamp stamp_small)));
+      };
+      back =
+          ap (stamped_in most) pieces
+          ∙ field_back lane (decimal call ∷ decimal item ∷ decimal stamp ∷ []) _ lane_low
+          ∙ field_back call (decimal item ∷ decimal stamp ∷ []) _ call_low
+          ∙ field_back item (decimal stamp ∷ []) _ item_low
+          ∙ next_back (number 0 most) (decimal stamp) [] stamp (λ read. Ok (mark (place lane call item) read.0))
+          (number_back 0 most stamp (omega arith) stamp_low stamp_small);
+    }
+
+pub mark_back : (stamps : Stamps) (m : Mark) → IsPlaceWithin stamps m → IsPrinted (mark_line (are_printed stamps) m) (mark_of_line stamps) m
 unfolding mark_in
-mark_back false m within =
+mark_back Unprinted m within =
     let lane = m.place.lane in
     let call = m.place.call in
     let item = m.place.item in
@@ -292,42 +344,18 @@ mark_back false m within =
             (no_feed (codes " " ++ decimal item) [] (spaced item item_small) (All-nil (λ byte. (byte == 10) ≡ false))));
       };
       back =
-          ap (mark_in false) pieces
+          ap (mark_in Unprinted) pieces
           ∙ field_back lane (decimal call ∷ decimal item ∷ []) _ within.lane
           ∙ field_back call (decimal item ∷ []) _ within.call
           ∙ field_back item [] _ within.item
           ∙ ap (λ (s : ℕ). Ok (mark m.place s)) (sym within.stamp);
     }
-mark_back true m within =
-    let lane = m.place.lane in
-    let call = m.place.call in
-    let item = m.place.item in
-    let stamp = m.stamp in
-    let lane_small = small_number lane within.lane in
-    let call_small = small_number call within.call in
-    let item_small = small_number item within.item in
-    let stamp_small = small_number stamp within.stamp in
-    let pieces : pieces_of (mark_body true m) ≡ decimal lane ∷ decimal call ∷ decimal item ∷ decimal stamp ∷ [] =
-    number_and lane _ lane_small
-    ∙ ap (λ (ps : List (List ℕ)). decimal lane ∷ ps)
-    (number_and call _ call_small
-    ∙ ap (λ (ps : List (List ℕ)). decimal call ∷ ps)
-    (number_and item (decimal stamp) item_small ∙ ap (λ (ps : List (List ℕ)). decimal item ∷ ps) (last_number stamp stamp_small))) in
-    record {
-      printed = record {
-        body = mark_body true m;
-        is = mark_text true m;
-        one = no_feed (decimal lane) _ (decimal_one lane lane_small)
-            (no_feed (codes " " ++ decimal call) _ (spaced call call_small)
-            (no_feed (codes " " ++ decimal item) _ (spaced item item_small) (spaced stamp stamp_small)));
-      };
-      back =
-          ap (mark_in true) pieces
-          ∙ field_back lane (decimal call ∷ decimal item ∷ decimal stamp ∷ []) _ within.lane
-          ∙ field_back call (decimal item ∷ decimal stamp ∷ []) _ within.call
-          ∙ field_back item (decimal stamp ∷ []) _ within.item
-          ∙ field_back stamp [] _ within.stamp;
-    }
+mark_back Places m within =
+    let t = stamped_back (most_stamp Places) m (omega arith) within.lane within.call within.item within.stamp in
+    record { printed = t.printed; back = t.back }
+mark_back PlacesAndNotes m within =
+    let t = stamped_back (most_stamp PlacesAndNotes) m (omega arith) within.lane within.call within.item within.stamp in
+    record { printed = t.printed; back = t.back }
 
 -- ---- lines that are no places
 
@@ -339,13 +367,13 @@ refused true word more then none =
     (Number, ap (λ (r : Result ℕ Reason). fields.◌>>=◌ (fields.◌>>=◌ r (λ v. Ok (v, more))) then) none)
 refused false word more then none = (Fields, refl)
 
-no_mark_in : (stamps : Bool) (word : List ℕ) (more : List (List ℕ)) → number 0 65535 word ≡ Err Number
+no_mark_in : (stamps : Stamps) (word : List ℕ) (more : List (List ℕ)) → number 0 65535 word ≡ Err Number
     → (reason : Reason) × (mark_in stamps (word ∷ more) ≡ Err reason)
 unfolding mark_in
 no_mark_in stamps word more none = refused (length (word ∷ more) == mark_size stamps) word more _ none
 
 -- a line that begins with another word than a number is none
-pub no_mark : (stamps : Bool) (line word : List ℕ) (more : List (List ℕ)) → pieces_of line ≡ word ∷ more → number 0 65535 word ≡ Err Number
+pub no_mark : (stamps : Stamps) (line word : List ℕ) (more : List (List ℕ)) → pieces_of line ≡ word ∷ more → number 0 65535 word ≡ Err Number
     → (reason : Reason) × (mark_of_line stamps line ≡ Err reason)
 no_mark stamps line word more cut none =
     let t = no_mark_in stamps word more none in

@@ -7,7 +7,7 @@ use Rattle.result_lines.specs.declared.stop.Stop.TheVariants as stops
 use Rattle.result_lines.specs.Places.{◌>>=◌, Stops}
 
 -- the element of this number, and those behind it
-drop-next : {A : Type 0} (xs : List A) (i : ℕ) (d x : A) → i < length xs → x ≡ get_or xs i d
+pub drop-next : {A : Type 0} (xs : List A) (i : ℕ) (d x : A) → i < length xs → x ≡ get_or xs i d
     → drop i xs ≡ x ∷ drop (i + 1) xs
 drop-next xs i d x lt is =
     drop-cons xs i d lt ∙ ap (λ y. y ∷ drop (suc i) xs) (sym is)

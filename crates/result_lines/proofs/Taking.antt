@@ -1,12 +1,16 @@
 -- The parts of a result, element by element.
-use Rattle.std.proofs.Common.{◌≡◌, ℕ, ◌+◌, ◌-◌, ◌<◌, ◌≤◌, Bool, List, [], ◌∷◌, length, drop, get_or, Option, Result, Ok, refl, arith}
+use Rattle.std.proofs.Common.{◌≡◌, ℕ, ◌+◌, ◌-◌, ◌<◌, ◌≤◌, List, [], ◌∷◌, length, map, drop, get_or, Option, Result, Ok, refl, arith}
 use Rattle.hpke_context.specs.Contexts.{ContextView}
 use Rattle.batch_plans.specs.declared.plan.ContextLine.{ContextLine}
 use Rattle.batch_plans.specs.declared.plan.CallLine.{CallLine}
+use Rattle.call_places.specs.declared.entries.Entry.{Entry}
 use Rattle.reply_texts.specs.ReplyText.{numbered}
+use Rattle.reply_texts.specs.LiveText.{note_line}
 use Rattle.result_lines.specs.declared.stop.Stop.{Stop}
+use Rattle.result_lines.specs.declared.stamps.Stamps.{Stamps}
 use Rattle.result_lines.specs.Places.{Stops}
 use Rattle.result_lines.specs.Told.{ToldView, with_line, with_lines, with_reply, with_replies, with_call, with_calls, with_lane, with_lanes, with_journal, with_journals}
+use Rattle.result_lines.specs.ToldLive.{with_added_journal, with_added_journals}
 use Rattle.result_lines.proofs.Steps.{goes_on, stops_at, all_taken, count_goes_on, count_stops_at}
 
 -- ---- a line for each element and its number
@@ -76,7 +80,7 @@ module _ (contexts : List (Option ContextView)) where
 
 -- ---- journals
 
-module _ (stamps : Bool) where
+module _ (stamps : Stamps) where
   abbrev one_journal : ℕ → ContextLine → ToldView → Result ToldView ℕ
   one_journal n line told = with_journal stamps n told
 
@@ -95,3 +99,44 @@ module _ (stamps : Bool) where
   pub journals_end : (lines : List ContextLine) (i : ℕ) (now : ToldView) (total : Result ToldView ℕ) → length lines ≤ i
       → with_journals stamps i (drop i lines) now ≡ total → total ≡ Ok now
   journals_end = all_taken (with_journals stamps) one_journal (λ n x xs s. refl) (λ n s. refl)
+
+-- ---- journals of contexts that are added
+
+abbrev one_added : ℕ → ContextLine → ToldView → Result ToldView ℕ
+one_added name line told = with_added_journal name told
+
+pub added_go_on : (lines : List ContextLine) (i : ℕ) (now new : ToldView) (total : Result ToldView ℕ) → i < length lines
+    → with_added_journal i now ≡ Ok new → with_added_journals i (drop i lines) now ≡ total → with_added_journals (i + 1) (drop (i + 1) lines) new ≡ total
+added_go_on [] i now new total lt taken so_far = absurd (omega arith)
+added_go_on (line ∷ lines) i now new total lt taken so_far =
+    goes_on with_added_journals one_added (λ n x xs s. refl) (line ∷ lines) i line (get_or (line ∷ lines) i line) now new total lt refl taken so_far
+
+pub added_stop : (stop : Stop) (lines : List ContextLine) (i : ℕ) (now : ToldView) (total : Result ToldView ℕ) → i < length lines
+    → Stops stop (with_added_journal i now) → with_added_journals i (drop i lines) now ≡ total → Stops stop total
+added_stop stop [] i now total lt wrong so_far = absurd (omega arith)
+added_stop stop (line ∷ lines) i now total lt wrong so_far =
+    stops_at with_added_journals one_added (λ n x xs s. refl) stop (line ∷ lines) i line (get_or (line ∷ lines) i line) now total lt refl wrong so_far
+
+pub added_end : (lines : List ContextLine) (i : ℕ) (now : ToldView) (total : Result ToldView ℕ) → length lines ≤ i
+    → with_added_journals i (drop i lines) now ≡ total → total ≡ Ok now
+added_end = all_taken with_added_journals one_added (λ n x xs s. refl) (λ n s. refl)
+
+-- ---- notes
+
+abbrev all_notes : ℕ → List Entry → ToldView → Result ToldView ℕ
+all_notes n notes told = with_lines (map note_line notes) told
+
+abbrev one_note : ℕ → Entry → ToldView → Result ToldView ℕ
+one_note n note told = with_line (note_line note) told
+
+pub notes_go_on : (notes : List Entry) (i : ℕ) (d note : Entry) (now new : ToldView) (total : Result ToldView ℕ) → i < length notes → note ≡ get_or notes i d
+    → with_line (note_line note) now ≡ Ok new → with_lines (map note_line (drop i notes)) now ≡ total → with_lines (map note_line (drop (i + 1) notes)) new ≡ total
+notes_go_on = goes_on all_notes one_note (λ n x xs s. refl)
+
+pub notes_stop : (stop : Stop) (notes : List Entry) (i : ℕ) (d note : Entry) (now : ToldView) (total : Result ToldView ℕ) → i < length notes → note ≡ get_or notes i d
+    → Stops stop (with_line (note_line note) now) → with_lines (map note_line (drop i notes)) now ≡ total → Stops stop total
+notes_stop = stops_at all_notes one_note (λ n x xs s. refl)
+
+pub notes_end : (notes : List Entry) (i : ℕ) (now : ToldView) (total : Result ToldView ℕ) → length notes ≤ i
+    → with_lines (map note_line (drop i notes)) now ≡ total → total ≡ Ok now
+notes_end = all_taken all_notes one_note (λ n x xs s. refl) (λ n s. refl)

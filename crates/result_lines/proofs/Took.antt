@@ -1,5 +1,5 @@
 -- What was read step by step is the text of what it tells.
-use Rattle.std.proofs.Common.{◌≡◌, ℕ, zero, suc, ◌+◌, ◌≤◌, Bool, List, [], ◌∷◌, ◌++◌, length, map, take, drop, codes, decimal, Option, Some, None, Result, Ok, Err, refl, sym, ap, ◌∙◌, subst, append_assoc, append-nil, length-append, arith}
+use Rattle.std.proofs.Common.{◌≡◌, ℕ, zero, suc, ◌+◌, ◌≤◌, Bool, true, false, List, [], ◌∷◌, ◌++◌, length, map, take, drop, codes, decimal, Option, Some, None, Result, Ok, Err, refl, sym, ap, ◌∙◌, subst, append_assoc, append-nil, length-append, arith}
 use Rattle.std.specs.Prelude.{sum_by}
 use Rattle.std.specs.List.{concat}
 use Rattle.std.proofs.lemmas.List.{map-append, take_at, drop_at, length-drop, take-append-le, drop-append-le}
@@ -21,7 +21,8 @@ use Rattle.reply_texts.specs.Lines.{key_line, context_line}
 use Rattle.reply_texts.specs.ReplyText.{guess_line, all_lines, numbered, lane_lines, mark_line, journal_lines, version_line, reply_lines, has_stamps}
 use Rattle.due_replies.specs.Standing.{call_refusal}
 use Rattle.result_lines.specs.declared.told.GuessLine.{GuessLine}
-use Rattle.result_lines.specs.Forms.{guess_of_line, mark_of_line}
+use Rattle.result_lines.specs.declared.stamps.Stamps.{Stamps}
+use Rattle.result_lines.specs.Forms.{guess_of_line, mark_of_line, are_printed, stamps_for}
 use Rattle.result_lines.specs.Places.{◌>>=◌, LinesView, MarksFound, next_line, line_due, guess_from, mark_before, marks_from, marks_of, ended, with_feed}
 use Rattle.result_lines.specs.Places as places
 use Rattle.result_lines.specs.Told.{ReplyView, ToldView, nothing_yet, with_line, with_lines, with_reply, with_replies, with_guess, with_served, with_call_unless, with_call, with_calls, with_lane, with_lanes, journal_ended, with_journal, with_journals, with_setup, with_end, told_by}
@@ -32,7 +33,7 @@ use Rattle.result_lines.proofs.NumberLines.{guess_read, mark_read}
 
 -- ---- lines as they are printed
 
-line_took : (due : List ℕ) (told new : ToldView) (text : List ℕ) → IsLeft told.lines text → with_line due told ≡ Ok new → Took told new text due [] []
+pub line_took : (due : List ℕ) (told new : ToldView) (text : List ℕ) → IsLeft told.lines text → with_line due told ≡ Ok new → Took told new text due [] []
 unfolding with_line
 line_took due told new text left e =
     let found = step_ok (line_due due told.lines) _ new e in
@@ -45,7 +46,7 @@ line_took due told new text left e =
       grew = subst (λ (n : ToldView). Grew told n read.0 [] []) same (moved told lines read.0 read.2);
     }
 
-lines_took : (due : List (List ℕ)) (told new : ToldView) (text : List ℕ) → IsLeft told.lines text → with_lines due told ≡ Ok new → Took told new text (concat due) [] []
+pub lines_took : (due : List (List ℕ)) (told new : ToldView) (text : List ℕ) → IsLeft told.lines text → with_lines due told ≡ Ok new → Took told new text (concat due) [] []
 lines_took [] told new text left e =
     let same : told ≡ new = ok_is told new e in
     record { after = text; parts = refl; grew = subst (λ (n : ToldView). Grew told n text [] []) same (stayed told text left) }
@@ -263,14 +264,14 @@ lane_took contexts number calls told new text left none e =
       grew = subst (λ (n : ToldView). GrewLanes told n whole.after b.lines (b.guesses ∷ [])) same (lane_grew told t2 whole.after b.lines b.guesses none whole.grew);
     }
 
-record TookLanes (told new : ToldView) (text : List ℕ) (contexts : List (Option ContextView)) (number : ℕ) (lanes : List (List CallLine)) : Type 0 where
-  lines : List (List ℕ)
-  guesses : List (List Batch)
-  count : length lines ≡ sum_by (lane_replies contexts) lanes
-  kept : map (length {A = Batch}) guesses ≡ map (lane_guesses contexts) lanes
-  after : List ℕ
-  parts : text ≡ concat (all_lines (numbered lane_lines number (told_lanes contexts lanes lines guesses))) ++ after
-  grew : GrewLanes told new after lines guesses
+pub record TookLanes (told new : ToldView) (text : List ℕ) (contexts : List (Option ContextView)) (number : ℕ) (lanes : List (List CallLine)) : Type 0 where
+  pub lines : List (List ℕ)
+  pub guesses : List (List Batch)
+  pub count : length lines ≡ sum_by (lane_replies contexts) lanes
+  pub kept : map (length {A = Batch}) guesses ≡ map (lane_guesses contexts) lanes
+  pub after : List ℕ
+  pub parts : text ≡ concat (all_lines (numbered lane_lines number (told_lanes contexts lanes lines guesses))) ++ after
+  pub grew : GrewLanes told new after lines guesses
 
 -- reply lines behind those of the calls are not looked at
 pub calls_only : (contexts : List (Option ContextView)) (calls : List CallLine) (lines more : List (List ℕ)) (guesses : List Batch) → length lines ≡ lane_replies contexts calls
@@ -293,7 +294,7 @@ pub lanes_split : (contexts : List (Option ContextView)) (calls : List CallLine)
 lanes_split contexts calls lanes r1 r2 own guesses count =
     (λ i. calls_only contexts calls r1 r2 own count i ∷ told_lanes contexts lanes (drop_at r1 r2 (lane_replies contexts calls) count i) guesses)
 
-lanes_took : (contexts : List (Option ContextView)) (number : ℕ) (lanes : List (List CallLine)) (told new : ToldView) (text : List ℕ) → IsLeft told.lines text → told.guesses ≡ []
+pub lanes_took : (contexts : List (Option ContextView)) (number : ℕ) (lanes : List (List CallLine)) (told new : ToldView) (text : List ℕ) → IsLeft told.lines text → told.guesses ≡ []
     → with_lanes contexts number lanes told ≡ Ok new → TookLanes told new text contexts number lanes
 lanes_took contexts number [] told new text left none e =
     let same : told ≡ new = ok_is told new e in
@@ -331,12 +332,12 @@ lanes_took contexts number (calls ∷ lanes) told new text left none e =
 
 -- ---- journals
 
-record TookMarks (stamps : Bool) (text : List ℕ) (found : MarksFound) : Type 0 where
-  after : List ℕ
-  parts : text ≡ concat (map (mark_line stamps) found.marks) ++ after
-  left : IsLeft found.lines after
+pub record TookMarks (stamps : Stamps) (text : List ℕ) (found : MarksFound) : Type 0 where
+  pub after : List ℕ
+  pub parts : text ≡ concat (map (mark_line (are_printed stamps)) found.marks) ++ after
+  pub left : IsLeft found.lines after
 
-marks_took : (stamps : Bool) (n : ℕ) (parts : List (List ℕ)) (text : List ℕ) → IsLeft (record { number = n; parts = parts }) text → TookMarks stamps text (marks_from stamps n parts)
+pub marks_took : (stamps : Stamps) (n : ℕ) (parts : List (List ℕ)) (text : List ℕ) → IsLeft (record { number = n; parts = parts }) text → TookMarks stamps text (marks_from stamps n parts)
 marks_took stamps n [] text left = record { after = text; parts = refl; left = left }
 marks_took stamps n (part ∷ []) text left = record { after = text; parts = refl; left = left }
 marks_took stamps n (line ∷ next ∷ more) text left =
@@ -349,23 +350,23 @@ marks_took stamps n (line ∷ next ∷ more) text left =
     step (Ok m) is later =
         let taken = line_read (record { number = n; parts = line ∷ next ∷ more }) text line (record { number = n + 1; parts = next ∷ more }) left refl in
         let rest = later taken.after taken.left in
-        let others = concat (map (mark_line stamps) (marks_from stamps (n + 1) (next ∷ more)).marks) in
+        let others = concat (map (mark_line (are_printed stamps)) (marks_from stamps (n + 1) (next ∷ more)).marks) in
         record {
           after = rest.after;
           parts =
               taken.parts ∙ (λ i. mark_read stamps line m is i ++ rest.parts i)
-              ∙ sym (append_assoc (mark_line stamps m) others rest.after);
+              ∙ sym (append_assoc (mark_line (are_printed stamps) m) others rest.after);
           left = rest.left;
         }
 
-record TookJournals (told new : ToldView) (text : List ℕ) (stamps : Bool) (number count : ℕ) : Type 0 where
-  journals : List (List Mark)
-  size : length journals ≡ count
-  after : List ℕ
-  parts : text ≡ concat (all_lines (numbered (journal_lines stamps) number journals)) ++ after
-  grew : GrewJournals told new after journals
+pub record TookJournals (told new : ToldView) (text : List ℕ) (stamps : Stamps) (number count : ℕ) : Type 0 where
+  pub journals : List (List Mark)
+  pub size : length journals ≡ count
+  pub after : List ℕ
+  pub parts : text ≡ concat (all_lines (numbered (journal_lines (are_printed stamps)) number journals)) ++ after
+  pub grew : GrewJournals told new after journals
 
-journals_took : (stamps : Bool) (number : ℕ) (lines : List ContextLine) (told new : ToldView) (text : List ℕ) → IsLeft told.lines text
+pub journals_took : (stamps : Stamps) (number : ℕ) (lines : List ContextLine) (told new : ToldView) (text : List ℕ) → IsLeft told.lines text
     → with_journals stamps number lines told ≡ Ok new → TookJournals told new text stamps number (length lines)
 unfolding with_journal
 journals_took stamps number [] told new text left e =
@@ -386,8 +387,8 @@ journals_took stamps number (line ∷ lines) told new text left e =
     subst (λ (n : ToldView). GrewJournals told n marks.after (own ∷ [])) same
     (journal_grew told t1 a.after marks.after (marks_of stamps t1.lines) a.grew marks.left) in
     let b = journals_took stamps (number + 1) lines mid new marks.after first.left found.2 in
-    let here = concat (map (mark_line stamps) own) in
-    let rest = all_lines (numbered (journal_lines stamps) (number + 1) b.journals) in
+    let here = concat (map (mark_line (are_printed stamps)) own) in
+    let rest = all_lines (numbered (journal_lines (are_printed stamps)) (number + 1) b.journals) in
     record {
       journals = own ∷ b.journals;
       size = ap (λ (n : ℕ). suc n) b.size;
@@ -396,13 +397,13 @@ journals_took stamps number (line ∷ lines) told new text left e =
           a.parts ∙ ap (λ (bytes : List ℕ). head ++ bytes) (marks.parts ∙ ap (λ (bytes : List ℕ). here ++ bytes) b.parts)
           ∙ sym (append_assoc head here (concat rest ++ b.after))
           ∙ sym (append_assoc (head ++ here) (concat rest) b.after)
-          ∙ ap (λ (bytes : List ℕ). bytes ++ b.after) (sym (concat-append (journal_lines stamps number own) rest));
+          ∙ ap (λ (bytes : List ℕ). bytes ++ b.after) (sym (concat-append (journal_lines (are_printed stamps) number own) rest));
       grew = journals_more told mid new marks.after b.after (own ∷ []) b.journals first b.grew;
     }
 
 -- ---- the whole result
 
-setup_took : (version : ℕ) (keys : List KeyReply) (replies : List ContextReply) (told new : ToldView) (text : List ℕ) → IsLeft told.lines text
+pub setup_took : (version : ℕ) (keys : List KeyReply) (replies : List ContextReply) (told new : ToldView) (text : List ℕ) → IsLeft told.lines text
     → with_setup version keys replies told ≡ Ok new → Took told new text (version_line version ++ (concat (numbered key_line 0 keys) ++ concat (numbered context_line 0 replies))) [] []
 unfolding with_setup
 setup_took version keys replies told new text left e =
@@ -416,7 +417,7 @@ setup_took version keys replies told new text left e =
     took_more told t1 new text (version_line version) (concat (numbered key_line 0 keys) ++ concat (numbered context_line 0 replies)) [] [] [] [] a
     (took_more t1 t2 new a.after (concat (numbered key_line 0 keys)) (concat (numbered context_line 0 replies)) [] [] [] [] b c)
 
-end_took : (told new : ToldView) (text : List ℕ) → IsLeft told.lines text → with_end told ≡ Ok new → (text ≡ codes "end\n") × Grew told new [] [] []
+pub end_took : (told new : ToldView) (text : List ℕ) → IsLeft told.lines text → with_end told ≡ Ok new → (text ≡ codes "end\n") × Grew told new [] [] []
 unfolding with_end
 end_took told new text left e =
     let f1 = step_ok (with_line (codes "end\n") told) _ new e in
@@ -450,6 +451,10 @@ text_parts version keys replies lanes journals =
     ∙ append_assoc (v ++ (concat ks ++ concat cs)) (concat ls) (concat js ++ concat e)
     ∙ ap (λ (bytes : List ℕ). (v ++ (concat ks ++ concat cs)) ++ (concat ls ++ (concat js ++ bytes))) (append-nil (codes "end\n"))
 
+-- the stamps that a version prints
+pub version_stamps : (version : ℕ) → are_printed (stamps_for (has_stamps version)) ≡ has_stamps version
+version_stamps version = elim (has_stamps version) as (λ (b : Bool). are_printed (stamps_for b) ≡ b) [ true ↦ refl | false ↦ refl ]
+
 pub no_guesses : (guesses : List GuessLine) → batches guesses ≡ [] → guesses ≡ []
 no_guesses [] none = refl
 no_guesses (guess ∷ guesses) none = absurd cc
@@ -458,7 +463,7 @@ pub told_took : (plan : Plan) (keys : List KeyReply) (replies : List ContextRepl
     → told_by plan keys replies contexts text ≡ Ok told → IsTextOf plan keys replies contexts text told
 unfolding told_by
 told_took plan keys replies contexts text told e =
-    let stamps = has_stamps plan.version in
+    let stamps = stamps_for (has_stamps plan.version) in
     let start = nothing_yet text in
     let f1 = step_ok (with_setup plan.version keys replies start) _ told e in
     let t1 : ToldView = f1.0 in
@@ -482,7 +487,9 @@ told_took plan keys replies contexts text told e =
           a.parts
           ∙ ap (λ (bytes : List ℕ). (version_line plan.version ++ (concat (numbered key_line 0 keys) ++ concat (numbered context_line 0 replies))) ++ bytes)
           (b.parts ∙ ap (λ (bytes : List ℕ). concat (all_lines (numbered lane_lines 0 lanes)) ++ bytes)
-          (c.parts ∙ ap (λ (bytes : List ℕ). concat (all_lines (numbered (journal_lines stamps) 0 c.journals)) ++ bytes) d.0))
+          (c.parts
+          ∙ ap (λ (bytes : List ℕ). concat (all_lines (numbered (journal_lines (are_printed stamps)) 0 c.journals)) ++ bytes) d.0
+          ∙ ap (λ (printed : Bool). concat (all_lines (numbered (journal_lines printed) 0 c.journals)) ++ codes "end\n") (version_stamps plan.version)))
           ∙ sym (text_parts plan.version keys replies lanes c.journals)
           ∙ (λ i. told_text plan keys replies contexts (sym lines_are i) (sym guesses_are i) (sym journals_are i));
       complete = record {

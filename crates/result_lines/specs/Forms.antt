@@ -11,6 +11,8 @@ use Rattle.legal_journals.specs.Batches.{place}
 use Rattle.legal_journals.specs.Histories.{mark}
 use Rattle.batch_plans.specs.Limits.{most_opening}
 use Rattle.batch_plans.specs.declared.replies.Batch.{Batch}
+use Rattle.result_lines.specs.declared.stamps.Stamps.{Stamps}
+use Rattle.result_lines.specs.declared.stamps.Stamps.TheVariants.{Unprinted, Places, PlacesAndNotes}
 
 -- a piece that is this word
 abbrev pub word_of : List ℕ → List ℕ → Result (List ℕ) Reason
@@ -37,17 +39,32 @@ guess_in pieces = do
 abbrev pub coordinate : List (List ℕ) → Result (ℕ × List (List ℕ)) Reason
 coordinate pieces = next (number 0 65535) pieces
 
--- ` STAMP`, which version 1 doesn't print
-abbrev pub stamp_in : Bool → List (List ℕ) → Result (ℕ × List (List ℕ)) Reason
-stamp_in true pieces = coordinate pieces
-stamp_in false pieces = Ok (0, pieces)
+-- the stamps of version 2 are printed
+abbrev pub stamps_for : Bool → Stamps
+stamps_for printed = if printed then Places else Unprinted
+
+abbrev pub are_printed : Stamps → Bool
+are_printed Unprinted = false
+are_printed Places = true
+are_printed PlacesAndNotes = true
+
+-- the greatest stamp: there are no more places than there may be items, and no more notes
+abbrev pub most_stamp : Stamps → ℕ
+most_stamp Unprinted = 0
+most_stamp Places = 65535
+most_stamp PlacesAndNotes = 131071
+
+-- ` STAMP`, where it is printed
+abbrev pub stamp_in : Stamps → List (List ℕ) → Result (ℕ × List (List ℕ)) Reason
+stamp_in stamps pieces =
+    if are_printed stamps then next (number 0 (most_stamp stamps)) pieces else Ok (0, pieces)
 
 -- how many numbers a place has
-abbrev pub mark_size : Bool → ℕ
-mark_size stamps = if stamps then 4 else 3
+abbrev pub mark_size : Stamps → ℕ
+mark_size stamps = if are_printed stamps then 4 else 3
 
--- `LANE CALL ITEM`, and in version 2 `LANE CALL ITEM STAMP`. Without stamps each is told as 0.
-unfoldable pub mark_in : Bool → List (List ℕ) → Result Mark Reason
+-- `LANE CALL ITEM`, and with stamps `LANE CALL ITEM STAMP`. Without stamps each is told as 0.
+unfoldable pub mark_in : Stamps → List (List ℕ) → Result Mark Reason
 mark_in stamps pieces = do
   pieces ← exactly (mark_size stamps) pieces
   (lane, pieces) ← coordinate pieces
@@ -59,5 +76,5 @@ mark_in stamps pieces = do
 abbrev pub guess_of_line : List ℕ → Result Batch Reason
 guess_of_line line = guess_in (pieces_of line)
 
-abbrev pub mark_of_line : Bool → List ℕ → Result Mark Reason
+abbrev pub mark_of_line : Stamps → List ℕ → Result Mark Reason
 mark_of_line stamps line = mark_in stamps (pieces_of line)

@@ -1,7 +1,7 @@
 -- How far a text of lines is read. It is cut at each line feed, and its lines are numbered from 1;
 -- what follows the last line feed is no line. A step that needs a line of some form gives what the
 -- line says, or else the number of the first line that is missing or of another form.
-use Rattle.std.specs.Prelude.{ℕ, ◌+◌, List, [], ◌∷◌, ◌++◌, ◌≡◌, Bool, codes, Option, Some, None, Result, Ok, Err, if◌then◌else◌}
+use Rattle.std.specs.Prelude.{ℕ, ◌+◌, List, [], ◌∷◌, ◌++◌, ◌≡◌, codes, Option, Some, None, Result, Ok, Err, if◌then◌else◌}
 use Rattle.std.specs.Str.{bytes_eq}
 use Rattle.call_places.specs.declared.entries.Mark.{Mark}
 use Rattle.field_text.specs.declared.reasons.Reason.{Reason}
@@ -9,6 +9,7 @@ use Rattle.field_text.specs.Cuts.{lines_of}
 use Rattle.batch_plans.specs.declared.replies.Batch.{Batch}
 use Rattle.result_lines.specs.declared.stop.Stop.{Stop}
 use Rattle.result_lines.specs.declared.stop.Stop.TheVariants as stops
+use Rattle.result_lines.specs.declared.stamps.Stamps.{Stamps}
 use Rattle.result_lines.specs.Forms.{guess_of_line, mark_of_line}
 
 -- one step after another, up to the first that finds a wrong line
@@ -80,7 +81,7 @@ mark_before (Err reason) lines more = record { marks = []; lines = lines }
 mark_before (Ok mark) lines more = record more { marks = mark ∷ more.marks }
 
 -- as many lines as have the form of a place
-abbrev pub marks_from : Bool → ℕ → List (List ℕ) → MarksFound
+abbrev pub marks_from : Stamps → ℕ → List (List ℕ) → MarksFound
 marks_from stamps number [] =
     record { marks = []; lines = record { number = number; parts = [] } }
 marks_from stamps number (part ∷ []) =
@@ -90,7 +91,7 @@ marks_from stamps number (line ∷ next ∷ more) =
     (record { number = number; parts = line ∷ next ∷ more })
     (marks_from stamps (number + 1) (next ∷ more))
 
-abbrev pub marks_of : Bool → LinesView → MarksFound
+abbrev pub marks_of : Stamps → LinesView → MarksFound
 marks_of stamps lines = marks_from stamps lines.number lines.parts
 
 -- ---- for the proofs
@@ -100,13 +101,13 @@ abbrev pub marked : Result Mark Reason → LinesView → Option (Mark × LinesVi
 marked (Ok mark) more = Some (mark, more)
 marked (Err reason) more = None
 
-abbrev pub mark_from : Bool → ℕ → List (List ℕ) → Option (Mark × LinesView)
+abbrev pub mark_from : Stamps → ℕ → List (List ℕ) → Option (Mark × LinesView)
 mark_from stamps number [] = None
 mark_from stamps number (part ∷ []) = None
 mark_from stamps number (line ∷ next ∷ more) =
     marked (mark_of_line stamps line) (record { number = number + 1; parts = next ∷ more })
 
-abbrev pub mark_at : Bool → LinesView → Option (Mark × LinesView)
+abbrev pub mark_at : Stamps → LinesView → Option (Mark × LinesView)
 mark_at stamps lines = mark_from stamps lines.number lines.parts
 
 -- ---- how a call answers for a definition

@@ -1,6 +1,6 @@
 -- The text that tells given replies, guesses and journals as a result of a plan. Of the lines of its
 -- calls each reply line is given, with its line feed.
-use Rattle.std.specs.Prelude.{ℕ, ◌≡◌, ◌<◌, ◌≤◌, ◌^◌, ◌==◌, List, [], ◌∷◌, ◌++◌, Bool, true, false, length, map, take, drop, sum_by, Option, Ok}
+use Rattle.std.specs.Prelude.{ℕ, ◌≡◌, ◌<◌, ◌≤◌, ◌^◌, ◌==◌, List, [], ◌∷◌, ◌++◌, Bool, false, length, map, take, drop, sum_by, Option, Ok}
 use Rattle.std.specs.List.{All, concat}
 use Rattle.call_places.specs.declared.entries.Mark.{Mark}
 use Rattle.hpke_context.specs.Contexts.{ContextView}
@@ -14,6 +14,9 @@ use Rattle.batch_plans.specs.declared.replies.ContextReply.{ContextReply}
 use Rattle.reply_texts.specs.ReplyText.{guess_line, reply_lines}
 use Rattle.due_replies.specs.Standing.{call_refusal}
 use Rattle.result_lines.specs.declared.told.GuessLine.{GuessLine}
+use Rattle.result_lines.specs.declared.stamps.Stamps.{Stamps}
+use Rattle.result_lines.specs.declared.stamps.Stamps.TheVariants.{Unprinted, Places, PlacesAndNotes}
+use Rattle.result_lines.specs.Forms.{stamps_for, most_stamp}
 use Rattle.result_lines.specs.Places.{with_feed}
 use Rattle.result_lines.specs.Told.{ReplyView, ToldView, told_by}
 
@@ -95,15 +98,19 @@ pub record IsGuessWithin (told : Batch) : Type 0 where
   pub missed : told.missed ≤ most_opening
 
 -- a place has no stamp where none is printed
-abbrev pub IsStampWithin : Bool → ℕ → Type 0
-IsStampWithin true stamp = stamp ≤ 65535
-IsStampWithin false stamp = stamp ≡ 0
+abbrev pub IsStampWithin : Stamps → ℕ → Type 0
+IsStampWithin Unprinted stamp = stamp ≡ 0
+IsStampWithin Places stamp = stamp ≤ most_stamp Places
+IsStampWithin PlacesAndNotes stamp = stamp ≤ most_stamp PlacesAndNotes
 
-pub record IsMarkWithin (stamps : Bool) (m : Mark) : Type 0 where
+pub record IsPlaceWithin (stamps : Stamps) (m : Mark) : Type 0 where
   pub lane : m.place.lane ≤ 65535
   pub call : m.place.call ≤ 65535
   pub item : m.place.item ≤ 65535
   pub stamp : IsStampWithin stamps m.stamp
+
+abbrev pub IsMarkWithin : Bool → Mark → Type 0
+IsMarkWithin stamps = IsPlaceWithin (stamps_for stamps)
 
 -- ---- what is read, and what is printed
 

@@ -2,7 +2,7 @@
 -- replies to its set-up and the contexts that stand: those of the set-up just as they are printed, a
 -- line of any bytes for each reply to a call, `batch G M` behind those of an opening of several
 -- messages that is served, and journals.
-use Rattle.std.specs.Prelude.{ℕ, zero, suc, ◌+◌, Bool, List, [], ◌∷◌, ◌++◌, codes, decimal, Option, Some, None, Result, Ok}
+use Rattle.std.specs.Prelude.{ℕ, zero, suc, ◌+◌, List, [], ◌∷◌, ◌++◌, codes, decimal, Option, Some, None, Result, Ok}
 use Rattle.call_places.specs.declared.entries.Mark.{Mark}
 use Rattle.hpke_context.specs.Contexts.{ContextView}
 use Rattle.batch_plans.specs.declared.plan.Plan.{Plan}
@@ -16,6 +16,8 @@ use Rattle.reply_texts.specs.Lines.{key_line, context_line}
 use Rattle.reply_texts.specs.ReplyText.{numbered, version_line, has_stamps}
 use Rattle.due_replies.specs.Standing.{call_refusal}
 use Rattle.result_lines.specs.declared.told.GuessLine.{GuessLine}
+use Rattle.result_lines.specs.declared.stamps.Stamps.{Stamps}
+use Rattle.result_lines.specs.Forms.{stamps_for}
 use Rattle.result_lines.specs.Places.{◌>>=◌, LinesView, MarksFound, all_of, next_line, line_due, guess_from, marks_of, ended}
 
 -- a line that is a reply, without its line feed
@@ -125,13 +127,13 @@ journal_ended told found =
     record told { lines = found.lines; journals = told.journals ++ found.marks ∷ [] }
 
 -- `journal C`, and its places
-unfoldable pub with_journal : Bool → ℕ → ToldView → Result ToldView ℕ
+unfoldable pub with_journal : Stamps → ℕ → ToldView → Result ToldView ℕ
 with_journal stamps number told = do
   told ← with_line (codes "journal " ++ decimal number ++ codes "\n") told
   Ok (journal_ended told (marks_of stamps told.lines))
 
 -- one for each context line, from this number on
-abbrev pub with_journals : Bool → ℕ → List ContextLine → ToldView → Result ToldView ℕ
+abbrev pub with_journals : Stamps → ℕ → List ContextLine → ToldView → Result ToldView ℕ
 with_journals stamps number [] told = Ok told
 with_journals stamps number (line ∷ more) told =
     (with_journal stamps number told >>= with_journals stamps (number + 1) more)
@@ -160,5 +162,5 @@ unfoldable pub told_by : Plan → List KeyReply → List ContextReply → List (
 told_by plan keys replies contexts text = do
   told ← with_setup plan.version keys replies (nothing_yet text)
   told ← with_lanes contexts 0 plan.lanes told
-  told ← with_journals (has_stamps plan.version) 0 plan.contexts told
+  told ← with_journals (stamps_for (has_stamps plan.version)) 0 plan.contexts told
   with_end told

@@ -4,9 +4,12 @@ ghost use Rattle.std.specs.Prelude.{◌≡◌, ◌++◌, ◌∷◌, [], codes, d
 ghost use Rattle.field_text.specs.Printing.{hex_text};
 ghost use Rattle.reply_texts.specs.Lines.{key_line as key_line_of, context_line as context_line_of};
 ghost use Rattle.reply_texts.specs.Lines.{key_words, context_words};
+ghost use Rattle.reply_texts.specs.LiveText.{tells_live as live_test, bit as bit_of};
+ghost use Rattle.reply_texts.specs.LiveText.{note_line as note_line_of};
 ghost use Rattle.reply_texts.specs.Words.{key_refusal_word, context_refusal_word};
 
 use batch_plans::{ContextRefusal, ContextReply, KeyRefusal, KeyReply};
+use call_places::{Entry, Step};
 use std::alloc::{AllocError, Global};
 
 /// Puts bytes behind a text as hex digits.
@@ -136,5 +139,41 @@ pub(crate) fn context_line(
     let mut line = numbered(alloc, b"context ", number, b' ')?;
     push_context_words(alloc, &mut line, reply)?;
     line.push(b'\n')?;
+    Ok(line)
+}
+
+/// Whether the name of a note was live; no other step tells it.
+pub(crate) fn tells_live(step: Step) -> bool
+    ensures { result ≡ live_test step }
+{
+    match step {
+        Step::Note { live, .. } => live,
+        _ => false,
+    }
+}
+
+fn bit(live: bool) -> u64
+    ensures { result ≡ bit_of live }
+{
+    if live { 1 } else { 0 }
+}
+
+// A number and a byte behind it.
+fn push_field(alloc: Global, out: &mut Vec<u8>, number: u64, end: u8) -> Result<(), AllocError>
+    ensures { OnOk result (out.new.items ≡ out.old.items ++ decimal number ++ end ∷ []) }
+{
+    push_number(alloc, out, number)?;
+    Ok(out.push(end)?)
+}
+
+/// The line of a note.
+pub(crate) fn note_line(alloc: Global, note: &Entry) -> Result<Vec<u8>, AllocError>
+    ensures { IfOk result (λ line. line.items ≡ note_line_of note.now) }
+{
+    let mut line = Vec::new(alloc);
+    push_field(alloc, &mut line, note.place.lane as u64, b' ')?;
+    push_field(alloc, &mut line, note.place.call as u64, b' ')?;
+    push_field(alloc, &mut line, bit(tells_live(note.step)), b' ')?;
+    push_field(alloc, &mut line, note.stamp, b'\n')?;
     Ok(line)
 }

@@ -5,6 +5,10 @@
 //! from it. [`read_result`] gives what a text says, or its first line that is missing or of another
 //! form, as `told_by` of `specs/Told.antt` defines it.
 //!
+//! Where lanes add and retire contexts, which lines a call has depends on the table at the text's
+//! end. So [`read_table`] reads it first, [`looked_up_lanes`] gives the calls as it tells that they
+//! were served, and [`read_live_result`] reads the lines of these (`specs/ToldLive.antt`).
+//!
 //! A contract sees a text as the lines that are left of it. Of a journal the lines are tested and no
 //! place is kept: [`JournalLines`] reads its first places again, so many as its reader wants. Whether
 //! the journals are legal, and whether replies and guesses are right, is not known here.
@@ -16,15 +20,26 @@ mod due_lines;
 mod forms;
 mod laws;
 mod lines;
+mod live_reading;
+mod looking_up;
 mod reading;
 mod replies;
+mod stamps;
 mod stop;
+mod tables;
 mod told;
 
 pub use due_lines::{push_hex, push_number};
-pub use laws::{what_is_printed_is_read_back, what_is_read_is_the_text};
+pub use laws::{
+    what_is_printed_is_read_back, what_is_printed_live_is_read_back, what_is_read_is_the_text,
+    what_is_read_live_is_the_text,
+};
 pub use lines::{JournalLines, Lines, is_line};
+pub use live_reading::read_live_result;
+pub use looking_up::{live_calls, looked_up_lanes};
 pub use reading::read_result;
 pub use replies::Replies;
+pub use stamps::Stamps;
 pub use stop::Stop;
+pub use tables::{NoteLine, read_table};
 pub use told::{GuessLine, ReplyLine, Told};

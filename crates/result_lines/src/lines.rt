@@ -7,6 +7,7 @@ ghost use Rattle.result_lines.specs.Places.{all_of, next_line, with_feed, line_d
 ghost use Rattle.result_lines.specs.Places.{mark_at, marks_of, ended, Tells};
 
 use crate::forms::{read_guess, read_mark};
+use crate::stamps::Stamps;
 use crate::stop::Stop;
 use batch_plans::{Batch, PlainList};
 use call_places::Mark;
@@ -40,7 +41,7 @@ impl<'a> Model for Lines<'a> {
 #[derive(Drop)]
 pub struct JournalLines<'a> {
     lines: Lines<'a>,
-    stamps: bool,
+    stamps: Stamps,
 }
 
 impl<'a> Model for JournalLines<'a> {
@@ -134,7 +135,7 @@ impl<'a> Lines<'a> {
     }
 
     // The next line as a place of a journal. Another line is left.
-    fn mark(&mut self, stamps: bool) -> Option<Mark>
+    fn mark(&mut self, stamps: Stamps) -> Option<Mark>
         ensures none { IfNone result ((mark_at stamps self.old ≡ None) × (self.new ≡ self.old)) }
         ensures some { IfSome result (λ mark.
             mark_at stamps self.old ≡ Some (mark, self.new)) }
@@ -159,14 +160,14 @@ impl<'a> Lines<'a> {
     }
 
     // Passes the places of a journal: as many lines as have their form.
-    fn pass_marks(&mut self, stamps: bool)
+    fn pass_marks(&mut self, stamps: Stamps)
         ensures { self.new ≡ (marks_of stamps self.old).lines }
     {
         'marks: while let Some(_mark) = self.mark(stamps) {}
     }
 
     /// The places of a journal, of which none is kept: as many lines as have their form.
-    pub fn marks(&mut self, stamps: bool) -> JournalLines<'a>
+    pub fn marks(&mut self, stamps: Stamps) -> JournalLines<'a>
         ensures journal { result ≡ (marks_of stamps self.old).marks }
         ensures lines { self.new ≡ (marks_of stamps self.old).lines }
     {
@@ -179,7 +180,7 @@ impl<'a> Lines<'a> {
     fn first_marks(
         &mut self,
         alloc: Global,
-        stamps: bool,
+        stamps: Stamps,
         most: usize,
     ) -> Result<Vec<Mark>, AllocError>
         ensures { IfOk result (λ marks. marks.items ≡ take most (marks_of stamps self.old).marks) }

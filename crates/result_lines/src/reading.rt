@@ -2,13 +2,15 @@
 
 ghost use Rattle.std.specs.Prelude.{◌≡◌, ◌≤◌, ℕ, List, length};
 ghost use Rattle.batch_plans.specs.Limits.{most_input};
-ghost use Rattle.reply_texts.specs.ReplyText.{numbered};
+ghost use Rattle.reply_texts.specs.ReplyText.{numbered, has_stamps};
 ghost use Rattle.reply_texts.specs.Lines.{key_line as key_line_of, context_line as context_line_of};
+ghost use Rattle.result_lines.specs.Forms.{stamps_for};
 ghost use Rattle.result_lines.specs.Places.{Tells};
 ghost use Rattle.result_lines.specs.Told.{with_lines, with_setup, with_lanes, with_journals};
 ghost use Rattle.result_lines.specs.Told.{nothing_yet, told_by};
 
 use crate::due_lines::{context_line, key_line};
+use crate::stamps::Stamps;
 use crate::stop::Stop;
 use crate::told::Told;
 use batch_plans::{CallLine, ContextLine, ContextReply, KeyReply, PlainList, Plan};
@@ -38,9 +40,9 @@ fn read_contexts(told: &mut Told, alloc: Global, replies: &[ContextReply]) -> Re
     Ok(())
 }
 
-// The lines of the set-up.
+/// The lines of the set-up.
 #[tactic(auto, unfolding(crate::specs::Told::with_setup))]
-fn read_setup(
+pub(crate) fn read_setup(
     told: &mut Told,
     alloc: Global,
     version: u8,
@@ -54,8 +56,8 @@ fn read_setup(
     read_contexts(told, alloc, replies)
 }
 
-// The lanes.
-fn read_lanes(
+/// The lanes.
+pub(crate) fn read_lanes(
     told: &mut Told,
     alloc: Global,
     contexts: &[Option<Context>],
@@ -69,11 +71,11 @@ fn read_lanes(
     Ok(())
 }
 
-// The journals, one for each context line.
-fn read_journals(
+/// The journals, one for each of these contexts.
+pub(crate) fn read_journals(
     told: &mut Told,
     alloc: Global,
-    stamps: bool,
+    stamps: Stamps,
     lines: &[ContextLine],
 ) -> Result<(), Stop>
     ensures { Tells (λ _. told.new) result (with_journals stamps 0 lines.now told.old) }
@@ -82,6 +84,17 @@ fn read_journals(
         told.journal(alloc, stamps, number as u64)?;
     }
     Ok(())
+}
+
+// The stamps that a version prints.
+fn stamps_of(version: u8) -> Stamps
+    ensures { result ≡ stamps_for (has_stamps version) }
+{
+    if version == 2 {
+        Stamps::Places
+    } else {
+        Stamps::Unprinted
+    }
 }
 
 // All lines of a text of which nothing is read yet.
@@ -99,7 +112,12 @@ fn read_lines(
 {
     read_setup(told, alloc, plan.version, keys, replies)?;
     read_lanes(told, alloc, contexts, plan.lanes.as_slice())?;
-    read_journals(told, alloc, plan.version == 2, plan.contexts.as_slice())?;
+    read_journals(
+        told,
+        alloc,
+        stamps_of(plan.version),
+        plan.contexts.as_slice(),
+    )?;
     told.end()
 }
 

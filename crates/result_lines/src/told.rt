@@ -6,11 +6,13 @@ ghost use Rattle.result_lines.specs.Places.{Tells};
 ghost use Rattle.result_lines.specs.Told.{nothing_yet, with_line, with_reply, with_replies};
 ghost use Rattle.result_lines.specs.Told.{with_guess, with_served, with_call, with_calls};
 ghost use Rattle.result_lines.specs.Told.{lane_ended, with_lane, with_journal, with_end};
+ghost use Rattle.result_lines.specs.ToldLive.{with_added_journal};
 ghost use Rattle.batch_plans.specs.Limits.{most_input};
 
 use crate::due_lines::numbered;
 use crate::lines::{JournalLines, Lines};
 use crate::replies::Replies;
+use crate::stamps::Stamps;
 use crate::stop::Stop;
 use batch_plans::{Batch, CallLine, PlainList};
 use due_replies::refusal_of;
@@ -219,11 +221,21 @@ impl<'a> Told<'a> {
 
     /// `journal C`, and its places.
     #[tactic(auto, unfolding(crate::specs::Told::with_journal))]
-    pub fn journal(&mut self, alloc: Global, stamps: bool, number: u64) -> Result<(), Stop>
+    pub fn journal(&mut self, alloc: Global, stamps: Stamps, number: u64) -> Result<(), Stop>
         ensures { Tells (λ _. self.new) result (with_journal stamps number self.old) }
     {
         self.expect_numbered(alloc, b"journal ", number)?;
         let marks = self.lines.marks(stamps);
+        push(&mut self.journals, marks)
+    }
+
+    /// `journal +K`, and its places.
+    #[tactic(auto, unfolding(crate::specs::ToldLive::with_added_journal))]
+    pub fn added_journal(&mut self, alloc: Global, name: u64) -> Result<(), Stop>
+        ensures { Tells (λ _. self.new) result (with_added_journal name self.old) }
+    {
+        self.expect_numbered(alloc, b"journal +", name)?;
+        let marks = self.lines.marks(Stamps::PlacesAndNotes);
         push(&mut self.journals, marks)
     }
 

@@ -102,7 +102,7 @@ counted {X} of size (y ∷ lanes) k xs within few =
 
 -- ---- what a lane asks for
 
-one_size : (plan : Plan) (refusal : Option CallRefusal) (call : CallLine) → IsLine plan call → length (items_in (ask_unless refusal (asked_by plan call))) ≤ limits.items_of call
+pub one_size : (plan : Plan) (refusal : Option CallRefusal) (call : CallLine) → IsLine plan call → length (items_in (ask_unless refusal (asked_by plan call))) ≤ limits.items_of call
 one_size plan (Some refusal) call fits = omega arith
 one_size plan None (calls.Seal context item) fits = omega arith
 one_size plan None (calls.Unseal context item) fits = omega arith
@@ -115,7 +115,7 @@ length-spots : (context : ℕ) (ps : List Place) → length (spots context ps) �
 length-spots context [] = refl
 length-spots context (p ∷ ps) = ap (λ (n : ℕ). suc n) (length-spots context ps)
 
-length-asked : (lane call : ℕ) (ask : Ask) → length (asked lane call ask) ≡ length (items_in ask)
+pub length-asked : (lane call : ℕ) (ask : Ask) → length (asked lane call ask) ≡ length (items_in ask)
 length-asked lane call ask = length-spots (context_in ask) (block lane call 0 (length (items_in ask))) ∙ length-block lane call 0 (length (items_in ask))
 
 asked_few : (plan : Plan) (contexts : List (Option ContextView)) (lane number : ℕ) (calls : List CallLine) → All (IsLine plan) calls

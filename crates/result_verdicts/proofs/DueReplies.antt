@@ -1,4 +1,4 @@
--- The replies of a run, which are lines.
+-- The replies of a run, which are lines other than `table`.
 use Rattle.std.proofs.Common.{◌≡◌, ℕ, zero, suc, ◌+◌, ◌≤◌, ◌<◌, Bool, true, false, cond, List, [], ◌∷◌, length, map, drop, Option, Some, None, refl, sym, ap, ◌∙◌, subst, arith}
 use Rattle.std.specs.Prelude.{slice_get, slice_index_or}
 use Rattle.std.specs.List.{All}
@@ -28,13 +28,13 @@ use Rattle.due_replies.specs.Runs.{Run, asks_of, journal_of, answer_line_of, pla
 use Rattle.due_replies.specs.Lanes.{calls_of}
 use Rattle.due_replies.proofs.Done.{ask_served, length-messages}
 use Rattle.result_lines.specs.Places.{with_feed}
-use Rattle.result_lines.specs.Printed.{IsLine}
+use Rattle.result_lines.specs.PrintedLive.{IsReply}
 use Rattle.result_lines.specs.Told.{ReplyView}
-use Rattle.result_lines.proofs.PlainLines.{answer_line_is, exported_line_is, refused_line_is}
 use Rattle.result_verdicts.specs.Replies.{item_lines, reply_lines, lane_replies, all_replies, wrong_reply}
 use Rattle.result_verdicts.proofs.Limited.{lines_of_limits}
 use Rattle.result_verdicts.proofs.Limited as limited
 use Rattle.result_verdicts.proofs.RunTexts.{drop_step}
+use Rattle.result_verdicts.proofs.ReplyLines.{answer_reply, exported_reply, refused_reply}
 
 -- ---- replies that no line is told of are those that are due
 
@@ -74,30 +74,30 @@ stands_for contexts call free = go (standing_at contexts (context_of call)) refl
     go (Some context) is free = (context, is)
 
 module _ (run : Run) (within : IsWithinLimits run.plan) (legal : (context : ℕ) → Legal (asks_of run) context (journal_of run context)) where
-  place_is : (context : ℕ) (p : Place) (x : Item) → item_of (asks_of run) p ≡ Some (context, x) → IsLine (place_line run context p)
+  place_is : (context : ℕ) (p : Place) (x : Item) → item_of (asks_of run) p ≡ Some (context, x) → IsReply (place_line run context p)
   place_is context p x item =
-      subst IsLine (sym (ap answer_line_of (served_reply (asks_of run) context (cipher_at run.contexts context) (journal_of run context) p x (legal context) item))) (answer_line_is _)
+      subst IsReply (sym (ap answer_line_of (served_reply (asks_of run) context (cipher_at run.contexts context) (journal_of run context) p x (legal context) item))) (answer_reply _)
 
   item_at : (lane number i context : ℕ) (ask : Ask) (x : Item) → slice_get (lane_of (asks_of run) lane) number ≡ Some ask → item_in_call (Some ask) i ≡ Some (context, x)
-      → IsLine (place_line run context (place lane number i))
+      → IsReply (place_line run context (place lane number i))
   item_at lane number i context ask x here item =
       place_is context (place lane number i) x (ap (λ (o : Option Ask). item_in_call o i) here ∙ item)
 
   block_is : (lane number context : ℕ) (messages : List SealedMessage) → slice_get (lane_of (asks_of run) lane) number ≡ Some (ToOpenAll context messages)
-      → (i n : ℕ) → i + n ≤ length messages → All IsLine (map (place_line run context) (block lane number i n))
-  block_is lane number context messages here i zero low = All-nil IsLine
+      → (i n : ℕ) → i + n ≤ length messages → All IsReply (map (place_line run context) (block lane number i n))
+  block_is lane number context messages here i zero low = All-nil IsReply
   block_is lane number context messages here i (suc n) low =
       let size : length (map unseal messages) ≡ length messages = length-map messages unseal in
       let x = got (map unseal messages) i (omega arith) in
-      All-cons IsLine (place_line run context (place lane number i)) (map (place_line run context) (block lane number (i + 1) n))
+      All-cons IsReply (place_line run context (place lane number i)) (map (place_line run context) (block lane number (i + 1) n))
       (item_at lane number i context (ToOpenAll context messages) x.0 here (ap (with_context context) x.1))
       (block_is lane number context messages here (i + 1) n (omega arith))
 
-  one_line : (line : List ℕ) → IsLine line → All IsLine (line ∷ [])
-  one_line line is = All-cons IsLine line [] is (All-nil IsLine)
+  one_line : (line : List ℕ) → IsReply line → All IsReply (line ∷ [])
+  one_line line is = All-cons IsReply line [] is (All-nil IsReply)
 
   items_are : (lane number : ℕ) (call : CallLine) → limited.IsLine run.plan call → slice_get (lane_of (asks_of run) lane) number ≡ Some (asked_by run.plan call)
-      → call_refusal run.contexts call ≡ None → All IsLine (item_lines run lane number call)
+      → call_refusal run.contexts call ≡ None → All IsReply (item_lines run lane number call)
   items_are lane number (calls.Seal context item) fits here free =
       one_line _ (item_at lane number 0 context (asked_by run.plan (calls.Seal context item)) _ here refl)
   items_are lane number (calls.Unseal context item) fits here free =
@@ -108,37 +108,37 @@ module _ (run : Run) (within : IsWithinLimits run.plan) (legal : (context : ℕ)
       block_is lane number context messages here 0 count (omega arith)
   items_are lane number (calls.Export context exporter size) fits here free =
       let s = stands_for run.contexts (calls.Export context exporter size) free in
-      one_line _ (subst (λ (o : Option ContextView). IsLine (export_line o (span_bytes run.plan.pool exporter) size)) (sym s.1)
-      (exported_line_is (exported_by s.0 (span_bytes run.plan.pool exporter) size)))
-  items_are lane number (calls.Add name) fits here free = All-nil IsLine
-  items_are lane number (calls.Retire name) fits here free = All-nil IsLine
+      one_line _ (subst (λ (o : Option ContextView). IsReply (export_line o (span_bytes run.plan.pool exporter) size)) (sym s.1)
+      (exported_reply (exported_by s.0 (span_bytes run.plan.pool exporter) size)))
+  items_are lane number (calls.Add name) fits here free = All-nil IsReply
+  items_are lane number (calls.Retire name) fits here free = All-nil IsReply
 
-  replies_are : (lane number : ℕ) (call : CallLine) → limited.IsLine run.plan call → slice_get (calls_of run lane) number ≡ Some call → All IsLine (reply_lines run lane number call)
+  pub replies_are : (lane number : ℕ) (call : CallLine) → limited.IsLine run.plan call → slice_get (calls_of run lane) number ≡ Some call → All IsReply (reply_lines run lane number call)
   replies_are lane number call fits at = go (call_refusal run.contexts call) refl
     where
-      go : (refusal : Option CallRefusal) → call_refusal run.contexts call ≡ refusal → All IsLine (lines_unless refusal (item_lines run lane number call))
+      go : (refusal : Option CallRefusal) → call_refusal run.contexts call ≡ refusal → All IsReply (lines_unless refusal (item_lines run lane number call))
       go None free = items_are lane number call fits (ask_served run lane number call at free) free
-      go (Some refusal) is = one_line _ (refused_line_is refusal)
+      go (Some refusal) is = one_line _ (refused_reply refusal)
 
   lane_are : (lane number : ℕ) (calls : List CallLine) → All (limited.IsLine run.plan) calls → drop number (calls_of run lane) ≡ calls
-      → All IsLine (all_lines (numbered (reply_lines run lane) number calls))
-  lane_are lane number [] fits is = All-nil IsLine
+      → All IsReply (all_lines (numbered (reply_lines run lane) number calls))
+  lane_are lane number [] fits is = All-nil IsReply
   lane_are lane number (call ∷ more) fits is =
       let s = drop_step (calls_of run lane) more number call is in
-      All-append IsLine (reply_lines run lane number call) (all_lines (numbered (reply_lines run lane) (number + 1) more))
+      All-append IsReply (reply_lines run lane number call) (all_lines (numbered (reply_lines run lane) (number + 1) more))
       (replies_are lane number call (All-head (limited.IsLine run.plan) call more fits) s.0)
       (lane_are lane (number + 1) more (All-tail (limited.IsLine run.plan) call more fits) s.1)
 
-  lanes_are : (k : ℕ) (lanes : List (List CallLine)) → drop k run.plan.lanes ≡ lanes → All IsLine (all_lines (numbered (lane_replies run) k lanes))
-  lanes_are k [] is = All-nil IsLine
+  lanes_are : (k : ℕ) (lanes : List (List CallLine)) → drop k run.plan.lanes ≡ lanes → All IsReply (all_lines (numbered (lane_replies run) k lanes))
+  lanes_are k [] is = All-nil IsReply
   lanes_are k (calls ∷ lanes) is =
       let s = drop_step run.plan.lanes lanes k calls is in
       let low : k < length run.plan.lanes = slice_get_within run.plan.lanes k calls s.0 in
       let own : slice_index_or run.plan.lanes k [] ≡ calls = value_at run.plan.lanes k calls [] s.0 in
-      All-append IsLine (lane_replies run k calls) (all_lines (numbered (lane_replies run) (k + 1) lanes))
+      All-append IsReply (lane_replies run k calls) (all_lines (numbered (lane_replies run) (k + 1) lanes))
       (lane_are k 0 calls (subst (All (limited.IsLine run.plan)) own (lines_of_limits run.plan k [] within low)) own)
       (lanes_are (k + 1) lanes s.1)
 
-  -- all replies of a run along legal journals are lines
-  pub replies_are_lines : All IsLine (all_replies run)
+  -- all replies of a run along legal journals are lines, none of which is `table`
+  pub replies_are_lines : All IsReply (all_replies run)
   replies_are_lines = lanes_are 0 run.plan.lanes refl

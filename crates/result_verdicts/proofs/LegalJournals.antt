@@ -69,7 +69,7 @@ broken_none stamps batch k (marks ∷ more) each =
     ∙ broken_none stamps batch (k + 1) more
     (λ c low. subst (λ (j : ℕ). is_journal stamps batch j (marks_at more c) ≡ true) (let z : k + suc c ≡ (k + 1) + c = omega arith in z) (each (suc c) (omega arith)))
 
-rise : (marks : List Mark) → AllPairs HasLowerStamp marks → stamps_rise marks ≡ true
+pub rise : (marks : List Mark) → AllPairs HasLowerStamp marks → stamps_rise marks ≡ true
 rise [] pairs = refl
 rise (m ∷ []) pairs = refl
 rise (m ∷ k ∷ marks) pairs =

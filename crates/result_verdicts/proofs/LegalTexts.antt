@@ -3,7 +3,7 @@ use Rattle.std.proofs.Common.{◌≡◌, ℕ, zero, suc, ◌+◌, ◌≤◌, ◌
 use Rattle.std.specs.Prelude.{slice_get, slice_index_or}
 use Rattle.std.specs.List.{All, concat}
 use Rattle.std.proofs.lemmas.List.{length-map}
-use Rattle.std.proofs.lemmas.List.Elements.{All-nil, All-cons}
+use Rattle.std.proofs.lemmas.List.Elements.{All-nil, All-cons, All-weaker}
 use Rattle.std.proofs.lemmas.Option.{slice_get_within}
 use Rattle.call_places.specs.declared.entries.Mark.{Mark}
 use Rattle.call_places.specs.Messages.{SealedMessage}
@@ -28,8 +28,9 @@ use Rattle.due_replies.specs.Runs.{Run, asks_of, journal_of, guesses_of, IsAllow
 use Rattle.due_replies.proofs.Done.{lane_asks}
 use Rattle.result_lines.specs.declared.told.GuessLine.{GuessLine}
 use Rattle.result_lines.specs.Told.{ToldView, told_by}
-use Rattle.result_lines.specs.Printed.{told_lanes, told_text, lines_told, guesses_told, AreComplete, IsGuessWithin, IsMarkWithin, IsTextOf, IsReadBack}
+use Rattle.result_lines.specs.Printed.{told_lanes, told_text, lines_told, guesses_told, AreComplete, IsLine, IsGuessWithin, IsMarkWithin, IsTextOf, IsReadBack}
 use Rattle.result_lines.specs.Printed as printed
+use Rattle.result_lines.specs.PrintedLive.{IsReply}
 use Rattle.result_lines.proofs.Growing.{batches}
 use Rattle.result_lines.proofs.FirstLines.{ok_is}
 use Rattle.result_lines.proofs.Took.{told_took, text_parts}
@@ -77,7 +78,7 @@ legal_form plan contexts (Err line) e = absurd cc
 -- a place in a lane of the plan
 module _ (run : Run) (within : IsWithinLimits run.plan) (legal : (context : ℕ) → Legal (asks_of run) context (journal_of run context)) where
   -- openings that guessed what they may
-  guessed_of : (lane : ℕ) → length (guesses_of run lane) ≡ guess_count (lane_of (asks_of run) lane) → AllRight run lane 0 (lane_of (asks_of run) lane) (guesses_of run lane)
+  pub guessed_of : (lane : ℕ) → length (guesses_of run lane) ≡ guess_count (lane_of (asks_of run) lane) → AllRight run lane 0 (lane_of (asks_of run) lane) (guesses_of run lane)
       → AllGuessed (asks_of run) (cipher_at run.contexts) (journal_of run) lane (guesses_of run lane)
   guessed_of lane count right = record {
     count = count;
@@ -89,7 +90,7 @@ module _ (run : Run) (within : IsWithinLimits run.plan) (legal : (context : ℕ)
         (right call context opens.0 opens.1));
   }
 
-  right_of : (lane : ℕ) → AllGuessed (asks_of run) (cipher_at run.contexts) (journal_of run) lane (guesses_of run lane) → AllRight run lane 0 (lane_of (asks_of run) lane) (guesses_of run lane)
+  pub right_of : (lane : ℕ) → AllGuessed (asks_of run) (cipher_at run.contexts) (journal_of run) lane (guesses_of run lane) → AllRight run lane 0 (lane_of (asks_of run) lane) (guesses_of run lane)
   right_of lane guessed call context messages at =
       let size = opening_size run.plan run.contexts within lane call context messages at in
       let guess = guess_at (lane_of (asks_of run) lane) (guesses_of run lane) call in
@@ -148,10 +149,10 @@ module _ (run : Run) (within : IsWithinLimits run.plan) (legal : (context : ℕ)
       (subst (λ (l : ℕ). All IsGuessWithin (own_opened run l calls)) (let z : k + 0 ≡ k = omega arith in z) (each 0 calls refl))
       (lanes_fit (k + 1) lanes (λ i cs at. subst (λ (l : ℕ). All IsGuessWithin (own_opened run l cs)) (let z : k + suc i ≡ (k + 1) + i = omega arith in z) (each (suc i) cs at)))
 
-  asks_at : (lane : ℕ) (calls : List CallLine) → slice_get run.plan.lanes lane ≡ Some calls → lane_of (asks_of run) lane ≡ map (ask_of run.plan run.contexts) calls
+  pub asks_at : (lane : ℕ) (calls : List CallLine) → slice_get run.plan.lanes lane ≡ Some calls → lane_of (asks_of run) lane ≡ map (ask_of run.plan run.contexts) calls
   asks_at lane calls at = lane_asks run lane ∙ ap (map (ask_of run.plan run.contexts)) (value_at run.plan.lanes lane calls [] at)
 
-  guesses_fit : ((lane : ℕ) → lane < length run.plan.lanes → AllRight run lane 0 (lane_of (asks_of run) lane) (guesses_of run lane)) → All (All IsGuessWithin) (all_opened run)
+  pub guesses_fit : ((lane : ℕ) → lane < length run.plan.lanes → AllRight run lane 0 (lane_of (asks_of run) lane) (guesses_of run lane)) → All (All IsGuessWithin) (all_opened run)
   guesses_fit right =
       lanes_fit 0 run.plan.lanes
       (λ i calls at.
@@ -163,7 +164,7 @@ module _ (run : Run) (within : IsWithinLimits run.plan) (legal : (context : ℕ)
 
 -- ---- what is told where no part is wrong
 
-index_sizes : {Y : Type 0} (size : Y → ℕ) (told : List (List GuessLine)) (lanes : List Y) → map (length {A = GuessLine}) told ≡ map size lanes
+pub index_sizes : {Y : Type 0} (size : Y → ℕ) (told : List (List GuessLine)) (lanes : List Y) → map (length {A = GuessLine}) told ≡ map size lanes
     → (lane : ℕ) (y : Y) → slice_get lanes lane ≡ Some y → length (slice_index_or (map numbers_told told) lane []) ≡ size y
 index_sizes size [] [] sizes lane y at = absurd cc
 index_sizes size [] (z ∷ lanes) sizes lane y at = absurd cc
@@ -176,11 +177,11 @@ index_sizes size (t ∷ told) (z ∷ lanes) sizes (suc lane) y at =
     let rest : map (length {A = GuessLine}) told ≡ map size lanes = cc in
     index_sizes size told lanes rest lane y at
 
-sizes_of : (told : List (List GuessLine)) → map (length {A = Batch}) (map batches told) ≡ map (length {A = GuessLine}) told
+pub sizes_of : (told : List (List GuessLine)) → map (length {A = Batch}) (map batches told) ≡ map (length {A = GuessLine}) told
 sizes_of [] = refl
 sizes_of (t ∷ told) = (λ i. length-map t (λ (g : GuessLine). g.guess) i ∷ sizes_of told i)
 
-kept_of : (plan : Plan) (contexts : List (Option ContextView)) (lanes : List (List CallLine))
+pub kept_of : (plan : Plan) (contexts : List (Option ContextView)) (lanes : List (List CallLine))
     → map (λ (calls : List CallLine). guess_count (map (ask_of plan contexts) calls)) lanes ≡ map (printed.lane_guesses contexts) lanes
 kept_of plan contexts [] = refl
 kept_of plan contexts (calls ∷ lanes) = (λ i. all_kept plan contexts calls i ∷ kept_of plan contexts lanes i)
@@ -203,7 +204,7 @@ bare_text : (stamps : Bool) → stamps ≡ false → (k : ℕ) (journals : List 
 bare_text true is k journals = absurd cc
 bare_text false is k journals = ap (λ (parts : List (List (List ℕ))). concat (all_lines parts)) (bare_lines k journals)
 
-numbers_of : (told : List (List GuessLine)) → map numbers_told told ≡ map (map (λ (b : Batch). b.guess)) (map batches told)
+pub numbers_of : (told : List (List GuessLine)) → map numbers_told told ≡ map (map (λ (b : Batch). b.guess)) (map batches told)
 numbers_of [] = refl
 numbers_of (t ∷ told) = (λ i. each t i ∷ numbers_of told i)
   where
@@ -212,7 +213,7 @@ numbers_of (t ∷ told) = (λ i. each t i ∷ numbers_of told i)
     each (g ∷ t) = ap (λ (gs : List ℕ). g.guess.guess ∷ gs) (each t)
 
 -- the guesses that a run prints are its own
-opened_guesses : (run : Run) → AreCounted run → (k : ℕ) (lanes : List (List CallLine)) (guesses : List (List ℕ)) → drop k run.plan.lanes ≡ lanes → drop k run.guesses ≡ guesses
+pub opened_guesses : (run : Run) → AreCounted run → (k : ℕ) (lanes : List (List CallLine)) (guesses : List (List ℕ)) → drop k run.plan.lanes ≡ lanes → drop k run.guesses ≡ guesses
     → length lanes ≡ length guesses → map (map (λ (b : Batch). b.guess)) (numbered (own_opened run) k lanes) ≡ guesses
 opened_guesses run counted k [] [] lanes_are guesses_are size = refl
 opened_guesses run counted k [] (own ∷ guesses) lanes_are guesses_are size = absurd (omega arith)
@@ -305,7 +306,7 @@ module _ (plan : Plan) (keys : List KeyReply) (replies : List ContextReply) (con
       let right : (lane : ℕ) → lane < length plan.lanes → AllRight run lane 0 (lane_of (asks_of run) lane) (guesses_of run lane) =
       (λ lane low. right_of run within each lane (guessed_same start p.own p.same lane (guesses_of run lane) (allowed.guessed lane low))) in
       let again = told_back plan keys replies contexts (all_replies run) (all_opened run) p.own (run_complete run within counted (p.size ∙ allowed.journals))
-      (replies_are_lines run within each) (guesses_fit run within each right) p.fits in
+      (All-weaker IsReply IsLine (λ line r. r.one) (all_replies run) (replies_are_lines run within each)) (guesses_fit run within each right) p.fits in
       let told : ToldView = again.told in
       let text_is : text ≡ told_text plan keys replies contexts (all_replies run) (all_opened run) p.own =
       is ∙ run_text_is start within counted keys replies

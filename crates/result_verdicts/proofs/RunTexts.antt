@@ -81,14 +81,14 @@ keeps_now run lane number ask asks guess guesses keeps =
     ap (guess_at (lane_of (asks_of run) lane) (guesses_of run lane)) (let z : number ≡ number + 0 = omega arith in z) ∙ keeps 0
 
 -- the lines of a call are its replies and what it prints of its guess
-record Part (run : Run) (lane number : ℕ) (refusal : Option CallRefusal) (call : CallLine) (asks : List Ask) (guesses : List ℕ) : Type 0 where
-  own : List Told
-  later : List ℕ
-  kept : length own ≡ served_or refusal (served_batches call) 0
-  lines : lines_unless refusal (served_lines run lane number call) ≡ lines_unless refusal (item_lines run lane number call) ++ map guess_line own
-  opens : opened run lane number (ask_unless refusal (asked_by run.plan call) ∷ asks) guesses ≡ own ++ opened run lane (number + 1) asks later
-  size : length later ≡ guess_count asks
-  keeps : Keeps run lane (number + 1) asks later
+pub record Part (run : Run) (lane number : ℕ) (refusal : Option CallRefusal) (call : CallLine) (asks : List Ask) (guesses : List ℕ) : Type 0 where
+  pub own : List Told
+  pub later : List ℕ
+  pub kept : length own ≡ served_or refusal (served_batches call) 0
+  pub lines : lines_unless refusal (served_lines run lane number call) ≡ lines_unless refusal (item_lines run lane number call) ++ map guess_line own
+  pub opens : opened run lane number (ask_unless refusal (asked_by run.plan call) ∷ asks) guesses ≡ own ++ opened run lane (number + 1) asks later
+  pub size : length later ≡ guess_count asks
+  pub keeps : Keeps run lane (number + 1) asks later
 
 plain : (run : Run) (lane number : ℕ) (refusal : Option CallRefusal) (call : CallLine) (asks : List Ask) (guesses : List ℕ)
     → lines_unless refusal (served_lines run lane number call) ≡ lines_unless refusal (item_lines run lane number call) → 0 ≡ served_or refusal (served_batches call) 0
@@ -107,7 +107,7 @@ plain run lane number refusal call asks guesses same none opens silent size keep
       keeps = keeps_on run lane number ask asks guesses silent keeps;
     }
 
-part : (run : Run) (lane number : ℕ) (refusal : Option CallRefusal) (call : CallLine) (asks : List Ask) (guesses : List ℕ) → IsLine run.plan call
+pub part : (run : Run) (lane number : ℕ) (refusal : Option CallRefusal) (call : CallLine) (asks : List Ask) (guesses : List ℕ) → IsLine run.plan call
     → length guesses ≡ guess_count (ask_unless refusal (asked_by run.plan call) ∷ asks) → Keeps run lane number (ask_unless refusal (asked_by run.plan call) ∷ asks) guesses
     → Part run lane number refusal call asks guesses
 part run lane number (Some refusal) call asks guesses within size keeps = plain run lane number (Some refusal) call asks guesses refl refl refl refl size keeps
@@ -135,7 +135,7 @@ part run lane number None (calls.UnsealAll context first count) asks (guess ∷ 
       keeps = keeps_behind run lane number ask asks guess guesses refl keeps;
     }
 
-replies_count : (run : Run) (lane number : ℕ) (refusal : Option CallRefusal) (call : CallLine) → call_refusal run.contexts call ≡ refusal
+pub replies_count : (run : Run) (lane number : ℕ) (refusal : Option CallRefusal) (call : CallLine) → call_refusal run.contexts call ≡ refusal
     → length (lines_unless refusal (item_lines run lane number call)) ≡ served_or refusal (items_of call) 1
 replies_count run lane number (Some refusal) call is = refl
 replies_count run lane number None (calls.Seal context item) is = refl
@@ -227,12 +227,12 @@ drop_step (y ∷ all) xs (suc i) x is =
 
 module _ (run : Run) (within : IsWithinLimits run.plan) (counted : AreCounted run) where
   -- what is known of a lane
-  record Lane (lane : ℕ) (calls : List CallLine) : Type 0 where
-    lines : All (IsLine run.plan) calls
-    size : length (guesses_of run lane) ≡ guess_count (map (ask_of run.plan run.contexts) calls)
-    keeps : Keeps run lane 0 (map (ask_of run.plan run.contexts) calls) (guesses_of run lane)
+  pub record Lane (lane : ℕ) (calls : List CallLine) : Type 0 where
+    pub lines : All (IsLine run.plan) calls
+    pub size : length (guesses_of run lane) ≡ guess_count (map (ask_of run.plan run.contexts) calls)
+    pub keeps : Keeps run lane 0 (map (ask_of run.plan run.contexts) calls) (guesses_of run lane)
 
-  lane_at : (lane : ℕ) (calls : List CallLine) → slice_get run.plan.lanes lane ≡ Some calls → Lane lane calls
+  pub lane_at : (lane : ℕ) (calls : List CallLine) → slice_get run.plan.lanes lane ≡ Some calls → Lane lane calls
   lane_at lane calls at =
       let low : lane < length run.plan.lanes = slice_get_within run.plan.lanes lane calls at in
       let is : slice_index_or run.plan.lanes lane [] ≡ calls = value_at run.plan.lanes lane calls [] at in
@@ -263,7 +263,7 @@ module _ (run : Run) (within : IsWithinLimits run.plan) (counted : AreCounted ru
       ∙ (λ i. replies_size run k 0 calls i + lines_count (k + 1) lanes i)
       ∙ sym (sum_by-cons (printed.lane_replies run.contexts) calls lanes)
 
-  guesses_count : (k : ℕ) (lanes : List (List CallLine)) → drop k run.plan.lanes ≡ lanes
+  pub guesses_count : (k : ℕ) (lanes : List (List CallLine)) → drop k run.plan.lanes ≡ lanes
       → map (length {A = Told}) (numbered (own_opened run) k lanes) ≡ map (printed.lane_guesses run.contexts) lanes
   guesses_count k [] is = refl
   guesses_count k (calls ∷ lanes) is =

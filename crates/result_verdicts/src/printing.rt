@@ -4,10 +4,11 @@ ghost use Rattle.std.specs.Prelude.{◌≡◌, ◌≤◌, ◌++◌, codes, decim
 ghost use Rattle.std.specs.Io.KnownBytes.{Appends};
 ghost use Rattle.batch_io.specs.Outside.{Rose};
 ghost use Rattle.field_text.specs.Printing.{Puts, AppendsPrefix};
-ghost use Rattle.result_verdicts.specs.VerdictText.{verdict_text};
+ghost use Rattle.result_verdicts.specs.VerdictText.{context_called, verdict_text};
 
 use crate::verdicts::Verdict;
 use batch_io::Sink;
+use batch_plans::FIRST_NAME;
 use field_text::{Buffer, Printed};
 
 // A word, a number and the end of the line.
@@ -20,13 +21,26 @@ fn put_numbered<K: Sink>(out: &mut Buffer, sink: &mut K, word: &[u8], number: u3
     out.put_text(sink, b"\n")
 }
 
+// The line of a journal, by the number that calls name its context by.
+fn put_journal<K: Sink>(out: &mut Buffer, sink: &mut K, context: u32)
+    ensures { Puts K.written K.faults sink.old sink.new out.old out.new
+        (codes "broken journal " ++ context_called context ++ codes "\n") }
+{
+    if context < FIRST_NAME {
+        put_numbered(out, sink, b"broken journal ", context)
+    } else {
+        put_numbered(out, sink, b"broken journal +", context - FIRST_NAME)
+    }
+}
+
 fn put_verdict<K: Sink>(out: &mut Buffer, sink: &mut K, verdict: Verdict)
     ensures { Puts K.written K.faults sink.old sink.new out.old out.new (verdict_text verdict) }
 {
     match verdict {
         Verdict::Legal => out.put_text(sink, b"legal\n"),
         Verdict::Form { line } => put_numbered(out, sink, b"broken form ", line),
-        Verdict::Journal { context } => put_numbered(out, sink, b"broken journal ", context),
+        Verdict::Journal { context } => put_journal(out, sink, context),
+        Verdict::Table => out.put_text(sink, b"broken table\n"),
         Verdict::Stamps => out.put_text(sink, b"broken stamps\n"),
         Verdict::Reply { line } => put_numbered(out, sink, b"broken reply ", line),
         Verdict::Guess { line } => put_numbered(out, sink, b"broken guess ", line),

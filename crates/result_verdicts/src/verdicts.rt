@@ -8,9 +8,12 @@ pub enum Verdict {
     Legal,
     /// The line is missing, has no line feed or another form, or stands behind the line `end`.
     Form { line: u32 },
-    /// The journal of the context is not legal, or its stamps don't rise.
+    /// The journal of the context is not legal, or its stamps don't rise. A context that is added
+    /// while lanes are served has the number that calls name it by: 65,536 and K of its `add` line.
     Journal { context: u32 },
-    /// The stamps don't make one history of all journals.
+    /// The table isn't legal: its notes aren't those of the calls, or tell a wrong thing.
+    Table,
+    /// The stamps don't make one history of all journals, and of the table where there is one.
     Stamps,
     /// The line is not the reply that is due along the journals.
     Reply { line: u32 },

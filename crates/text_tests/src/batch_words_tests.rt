@@ -78,6 +78,15 @@ const MULTS: [(&[&str], Mult); 6] = [
     (&["--mult=karatsuba"], Mult::Karatsuba),
 ];
 
+// Own, by hand, from the same rules: the words after `check` for a result of `live`.
+const LIVE_MULTS: [(&[&str], Mult); 5] = [
+    (&["--live"], Mult::Lanes),
+    (&["--live", "--mult", "plain"], Mult::Plain),
+    (&["--mult", "karatsuba", "--live"], Mult::Karatsuba),
+    (&["--live", "--mult=plain"], Mult::Plain),
+    (&["--mult=karatsuba", "--live"], Mult::Karatsuba),
+];
+
 fn strings(alloc: Global, words: &[&str]) -> Result<Vec<String>, AllocError> {
     let mut strings = Vec::new(alloc);
     for word in words {
@@ -199,6 +208,24 @@ fn multipliers_of_other_commands_are_read(rt: HostRuntime) -> Result<(), Fail> {
             "capsules",
             words,
         );
+    }
+    Ok(())
+}
+
+#[test]
+fn words_of_a_live_check_are_read(rt: HostRuntime) -> Result<(), Fail> {
+    let alloc = rt.alloc();
+    for (words, mult) in &LIVE_MULTS {
+        let (words, mult) = (*words, *mult);
+        let mut all = strings(alloc, &["check"])?;
+        for word in words {
+            all.push(String::from_str(alloc, word)?)?;
+        }
+        let said = match read_words(alloc, &all)? {
+            Some(Command::CheckLive { mult }) => Some(mult),
+            _ => None,
+        };
+        assert_at(&rt, said, Some(mult), "check", words);
     }
     Ok(())
 }

@@ -1,28 +1,29 @@
 -- What the calls of a plan ask, without the bytes.
-use Rattle.std.proofs.Common.{◌≡◌, ℕ, ◌+◌, ◌<◌, ◌==◌, Bool, cond, List, [], ◌∷◌, ◌++◌, length, map, get_or, Option, Some, None, refl, sym, ap, ◌∙◌}
-use Rattle.std.specs.Prelude.{nat_lt, slice_get, slice_index_or}
+use Rattle.std.proofs.Common.{◌≡◌, ℕ, zero, suc, ◌+◌, ◌<◌, ◌==◌, Bool, false, cond, List, [], ◌∷◌, ◌++◌, length, map, get_or, Option, Some, None, refl, sym, ap, ◌∙◌, inl, inr, arith}
+use Rattle.std.specs.Prelude.{nat_lt, replicate, slice_get, slice_index_or}
 use Rattle.std.specs.List.{All}
-use Rattle.std.proofs.lemmas.List.{length-map, get_or_default}
+use Rattle.std.proofs.lemmas.Bool.{cases_lt}
+use Rattle.std.proofs.lemmas.List.{length-map, length-replicate, get_or_default, get_or_past, get_or-map}
 use Rattle.std.proofs.lemmas.List.Elements.{All-head, All-tail}
 use Rattle.std.specs.Option.{option_map}
 use Rattle.std.proofs.lemmas.Option.{slice_get-map}
 use Rattle.call_places.specs.declared.entries.Place.{Place}
-use Rattle.call_places.specs.Messages.{sealed_messages}
 use Rattle.hpke_context.specs.Contexts.{ContextView}
-use Rattle.legal_journals.specs.Batches.{Ask, unseal, items_in, context_in, block, Spot, spots, asked, all_asked, on, lane_of}
+use Rattle.legal_journals.specs.Batches.{Batch, Ask, Nothing, ToSeal, ToOpen, ToOpenAll, unseal, items_in, context_in, block, Spot, asked, all_asked, on, lane_of}
 use Rattle.legal_journals.specs.Checks.{goes_on, goes_on_in}
 use Rattle.legal_journals.proofs.Lists.{on-append, on-spots}
 use Rattle.batch_plans.specs.declared.plan.Plan.{Plan}
 use Rattle.batch_plans.specs.declared.plan.CallLine.{CallLine}
 use Rattle.batch_plans.specs.declared.plan.CallLine.TheVariants as calls
 use Rattle.batch_plans.specs.declared.replies.CallRefusal.{CallRefusal}
-use Rattle.batch_plans.specs.Limits.{items_from, IsCallWithin, IsWithinLimits}
+use Rattle.batch_plans.specs.Limits.{IsCallWithin, IsWithinLimits}
 use Rattle.due_replies.specs.Standing.{call_refusal}
 use Rattle.due_replies.specs.Asks.{asked_by, ask_unless, ask_of, batch_of}
 use Rattle.due_replies.proofs.Done.{lane_asks, length-messages}
-use Rattle.told_journals.specs.Asks.{items_asked, asked_unless, places_asked, places_from, opens_more, more_unless, call_goes_on}
-use Rattle.told_journals.specs.Histories.{spots_asked, spots_from}
-use Rattle.result_verdicts.proofs.Limited.{IsLine, line_of_limits, lines_of_limits}
+use Rattle.told_journals.specs.declared.asks.Asked.{Asked}
+use Rattle.told_journals.specs.Asks.{items_asked, asked_unless, places_asked, places_from, sized, size_in, size_of, sizes_of, no_message, ask_from, batch_from, more_by, goes_on_by, AreFew}
+use Rattle.told_journals.specs.Histories.{spots_from}
+use Rattle.result_verdicts.proofs.Limited.{IsLine, calls_few}
 
 -- ---- the places of one call
 
@@ -60,75 +61,125 @@ module _ (plan : Plan) (contexts : List (Option ContextView)) where
   pub asks_of_lane : (lane : ℕ) → lane_of (batch_of plan contexts) lane ≡ map (ask_of plan contexts) (slice_index_or plan.lanes lane [])
   asks_of_lane lane = lane_asks (record { plan = plan; contexts = contexts; journals = []; guesses = [] }) lane
 
--- ---- where an opening goes on
+-- ---- by how many items
 
-opens_on : (plan : Plan) (call : CallLine) (i : ℕ) → IsCallWithin (length plan.items) (length plan.pool) call
-    → opens_more call i ≡ goes_on_in (Some (asked_by plan call)) i
-opens_on plan (calls.Seal c item) i within = refl
-opens_on plan (calls.Unseal c item) i within = refl
-opens_on plan (calls.UnsealAll c first count) i within =
-    let messages = sealed_messages plan.pool (items_from plan.items first count) in
-    let size : length messages ≡ count = sym (length-map messages unseal) ∙ length-messages plan.items plan.pool first count within.3 in
-    ap (nat_lt (i + 1)) (sym size)
-opens_on plan (calls.Export c exporter size) i within = refl
-opens_on plan (calls.Add name) i within = refl
-opens_on plan (calls.Retire name) i within = refl
+sized_call : (plan : Plan) (call : CallLine) → IsLine plan call → sized (items_asked call) ≡ size_of (asked_by plan call)
+sized_call plan (calls.Seal c item) within = refl
+sized_call plan (calls.Unseal c item) within = refl
+sized_call plan (calls.UnsealAll c first count) within =
+    ap (λ (n : ℕ). record { context = c; count = n }) (sym (length-messages plan.items plan.pool first count within.3))
+sized_call plan (calls.Export c exporter size) within = refl
+sized_call plan (calls.Add name) within = refl
+sized_call plan (calls.Retire name) within = refl
 
-unless_on : (plan : Plan) (call : CallLine) (refusal : Option CallRefusal) (i : ℕ) → IsCallWithin (length plan.items) (length plan.pool) call
-    → more_unless refusal (opens_more call i) ≡ goes_on_in (Some (ask_unless refusal (asked_by plan call))) i
-unless_on plan call None i within = opens_on plan call i within
-unless_on plan call (Some r) i within = refl
+sized_unless : (plan : Plan) (call : CallLine) (refusal : Option CallRefusal) → IsLine plan call
+    → sized (asked_unless refusal (items_asked call)) ≡ size_of (ask_unless refusal (asked_by plan call))
+sized_unless plan call None within = sized_call plan call within
+sized_unless plan call (Some r) within = refl
 
-on_call : (plan : Plan) (contexts : List (Option ContextView)) (call : Option CallLine) (i : ℕ)
-    → ((line : CallLine) → call ≡ Some line → IsCallWithin (length plan.items) (length plan.pool) line)
-    → call_goes_on contexts call i ≡ goes_on_in (option_map (ask_of plan contexts) call) i
-on_call plan contexts None i within = refl
-on_call plan contexts (Some call) i within = unless_on plan call (call_refusal contexts call) i (within call refl)
+-- what a call asks, by its plan's bytes and without them
+pub call_size : (plan : Plan) (contexts : List (Option ContextView)) (call : CallLine) → IsLine plan call
+    → size_in contexts call ≡ size_of (ask_of plan contexts call)
+call_size plan contexts call within = sized_unless plan call (call_refusal contexts call) within
 
--- of each place of a plan within its limits
-pub goes_on_is : (plan : Plan) (contexts : List (Option ContextView)) (p : Place) → IsWithinLimits plan
-    → call_goes_on contexts (slice_get (slice_index_or plan.lanes p.lane []) p.call) p.item ≡ goes_on (batch_of plan contexts) p
-goes_on_is plan contexts p within =
-    let lines = slice_index_or plan.lanes p.lane [] in
-    on_call plan contexts (slice_get lines p.call) p.item (λ line at. line_of_limits plan p.lane p.call line within at)
-    ∙ ap (λ (o : Option Ask). goes_on_in o p.item)
-    (sym (slice_get-map (ask_of plan contexts) lines p.call) ∙ ap (λ (asks : List Ask). slice_get asks p.call) (sym (asks_of_lane plan contexts p.lane)))
+calls_sizes : (plan : Plan) (contexts : List (Option ContextView)) (lines : List CallLine) → All (IsLine plan) lines
+    → map (size_in contexts) lines ≡ map size_of (map (ask_of plan contexts) lines)
+calls_sizes plan contexts [] within = refl
+calls_sizes plan contexts (call ∷ lines) within = (λ i.
+    call_size plan contexts call (All-head (IsLine plan) call lines within) i
+    ∷ calls_sizes plan contexts lines (All-tail (IsLine plan) call lines within) i)
 
--- the same of a place of a list
-pub goes_at : (plan : Plan) (contexts : List (Option ContextView)) (ps : List Place) (i : ℕ) (d : Place) (b : Bool) → IsWithinLimits plan
-    → call_goes_on contexts (slice_get (slice_index_or plan.lanes (get_or ps i d).lane []) (get_or ps i d).call) (get_or ps i d).item ≡ b
-    → goes_on (batch_of plan contexts) (get_or ps i d) ≡ b
-goes_at plan contexts ps i d b within is = sym (goes_on_is plan contexts (get_or ps i d) within) ∙ is
+lanes_sizes : (plan : Plan) (contexts : List (Option ContextView)) (lanes : List (List CallLine)) → All (All (IsLine plan)) lanes
+    → map (map (size_in contexts)) lanes ≡ sizes_of (map (map (ask_of plan contexts)) lanes)
+lanes_sizes plan contexts [] within = refl
+lanes_sizes plan contexts (lines ∷ lanes) within = (λ i.
+    calls_sizes plan contexts lines (All-head (All (IsLine plan)) lines lanes within) i
+    ∷ lanes_sizes plan contexts lanes (All-tail (All (IsLine plan)) lines lanes within) i)
 
--- ---- the spots of a lane
+-- what the calls of a plan ask
+pub plan_sizes : (plan : Plan) (contexts : List (Option ContextView)) → IsWithinLimits plan
+    → map (map (size_in contexts)) plan.lanes ≡ sizes_of (batch_of plan contexts)
+plan_sizes plan contexts within = lanes_sizes plan contexts plan.lanes within.call_lines
 
-asked_spots : (plan : Plan) (lane number : ℕ) (call : CallLine) → IsLine plan call
-    → spots_asked lane number (items_asked call) ≡ asked lane number (asked_by plan call)
-asked_spots plan lane number (calls.Seal c item) within = refl
-asked_spots plan lane number (calls.Unseal c item) within = refl
-asked_spots plan lane number (calls.UnsealAll c first count) within =
-    ap (λ n. spots c (block lane number 0 n)) (sym (length-messages plan.items plan.pool first count within.3))
-asked_spots plan lane number (calls.Export c exporter size) within = refl
-asked_spots plan lane number (calls.Add name) within = refl
-asked_spots plan lane number (calls.Retire name) within = refl
+-- as many lanes, and calls of each
+pub plan_few : (plan : Plan) (contexts : List (Option ContextView)) → IsWithinLimits plan → AreFew (map (map (size_in contexts)) plan.lanes)
+plan_few plan contexts within =
+    let lanes : length (map (map (size_in contexts)) plan.lanes) ≡ length plan.lanes = length-map plan.lanes (map (size_in contexts)) in
+    record {
+      lanes = omega (arith, lanes, within.lanes);
+      calls = λ lane. elim (cases_lt lane (length plan.lanes)) [
+        | inl low ↦
+            let at : get_or (map (map (size_in contexts)) plan.lanes) lane [] ≡ map (size_in contexts) (get_or plan.lanes lane []) = get_or-map (map (size_in contexts)) plan.lanes lane [] [] low in
+            let size : length (map (size_in contexts) (get_or plan.lanes lane [])) ≡ length (get_or plan.lanes lane []) = length-map (get_or plan.lanes lane []) (size_in contexts) in
+            omega (arith, ap length at, size, calls_few plan lane [] within low)
+        | inr high ↦
+            let none : get_or (map (map (size_in contexts)) plan.lanes) lane [] ≡ [] = get_or_past (map (map (size_in contexts)) plan.lanes) lane [] (omega (arith, lanes, high)) in
+            omega (arith, ap length none)
+      ];
+    }
 
-unless_spots : (plan : Plan) (lane number : ℕ) (call : CallLine) (refusal : Option CallRefusal) → IsLine plan call
-    → spots_asked lane number (asked_unless refusal (items_asked call)) ≡ asked lane number (ask_unless refusal (asked_by plan call))
-unless_spots plan lane number call None within = asked_spots plan lane number call within
-unless_spots plan lane number call (Some r) within = refl
+-- ---- asks of these sizes
 
-module _ (plan : Plan) (contexts : List (Option ContextView)) where
-  all_spots : (lane number : ℕ) (lines : List CallLine) → All (IsLine plan) lines
-      → spots_from contexts lane number lines ≡ all_asked lane number (map (ask_of plan contexts) lines)
-  all_spots lane number [] within = refl
-  all_spots lane number (call ∷ lines) within =
-      ap (λ (ss : List Spot). ss ++ spots_from contexts lane (number + 1) lines) (unless_spots plan lane number call (call_refusal contexts call) (All-head (IsLine plan) call lines within))
-      ∙ ap (λ (ss : List Spot). asked lane number (ask_of plan contexts call) ++ ss) (all_spots lane (number + 1) lines (All-tail (IsLine plan) call lines within))
+from_size : (asked : Asked) → size_of (ask_from asked) ≡ asked
+from_size a =
+    let size : length (items_in (ask_from a)) ≡ a.count = length-map (replicate a.count no_message) unseal ∙ length-replicate a.count no_message in
+    ap (λ (n : ℕ). record { context = a.context; count = n }) size
 
-  -- the spots that a lane asks for
-  pub lane_spots_are : (lane : ℕ) (d : List CallLine) → IsWithinLimits plan → lane < length plan.lanes
-      → spots_from contexts lane 0 (get_or plan.lanes lane d) ≡ all_asked lane 0 (lane_of (batch_of plan contexts) lane)
-  lane_spots_are lane d within lt =
-      ap (spots_from contexts lane 0) (get_or_default plan.lanes lane d [] lt)
-      ∙ all_spots lane 0 (slice_index_or plan.lanes lane []) (lines_of_limits plan lane [] within lt)
-      ∙ ap (all_asked lane 0) (sym (asks_of_lane plan contexts lane))
+from_sizes : (sizes : List Asked) → map size_of (map ask_from sizes) ≡ sizes
+from_sizes [] = refl
+from_sizes (a ∷ sizes) = (λ i. from_size a i ∷ from_sizes sizes i)
+
+pub sizes_from : (sizes : List (List Asked)) → sizes_of (batch_from sizes) ≡ sizes
+sizes_from [] = refl
+sizes_from (own ∷ sizes) = (λ i. from_sizes own i ∷ sizes_from sizes i)
+
+-- ---- what depends on sizes alone
+
+pub lane_sizes : (batch : Batch) (lane : ℕ) → slice_index_or (sizes_of batch) lane [] ≡ map size_of (lane_of batch lane)
+lane_sizes [] lane = refl
+lane_sizes (asks ∷ batch) zero = refl
+lane_sizes (asks ∷ batch) (suc lane) = lane_sizes batch lane
+
+spots_by_sizes : (lane number : ℕ) (asks : List Ask) → all_asked lane number asks ≡ spots_from lane number (map size_of asks)
+spots_by_sizes lane number [] = refl
+spots_by_sizes lane number (ask ∷ asks) = ap (λ (ss : List Spot). asked lane number ask ++ ss) (spots_by_sizes lane (number + 1) asks)
+
+-- the places that a lane asks for
+pub lane_by_sizes : (batch : Batch) (lane : ℕ) → all_asked lane 0 (lane_of batch lane) ≡ spots_from lane 0 (slice_index_or (sizes_of batch) lane [])
+lane_by_sizes batch lane = spots_by_sizes lane 0 (lane_of batch lane) ∙ ap (spots_from lane 0) (sym (lane_sizes batch lane))
+
+more_one : (i : ℕ) → false ≡ nat_lt (i + 1) 1
+more_one i = grind arith
+
+more_none : (i : ℕ) → false ≡ nat_lt (i + 1) 0
+more_none i = grind arith
+
+more_asked : (ask : Option Ask) (i : ℕ) → goes_on_in ask i ≡ more_by (option_map size_of ask) i
+more_asked None i = refl
+more_asked (Some Nothing) i = more_none i
+more_asked (Some (ToSeal context aad text)) i = more_one i
+more_asked (Some (ToOpen context aad ct)) i = more_one i
+more_asked (Some (ToOpenAll context messages)) i = ap (λ (n : ℕ). nat_lt (i + 1) n) (sym (length-map messages unseal))
+
+-- whether an opening goes on
+pub on_by_sizes : (batch : Batch) (p : Place) → goes_on batch p ≡ goes_on_by (sizes_of batch) p
+on_by_sizes batch p =
+    more_asked (slice_get (lane_of batch p.lane) p.call) p.item
+    ∙ ap (λ (o : Option Asked). more_by o p.item) (sym (slice_get-map size_of (lane_of batch p.lane) p.call))
+    ∙ ap (λ (own : List Asked). more_by (slice_get own p.call) p.item) (sym (lane_sizes batch p.lane))
+
+-- the same of asks that were made from their sizes
+pub goes_on_is : (sizes : List (List Asked)) (p : Place) → goes_on_by sizes p ≡ goes_on (batch_from sizes) p
+goes_on_is sizes p = sym (on_by_sizes (batch_from sizes) p ∙ ap (λ (s : List (List Asked)). goes_on_by s p) (sizes_from sizes))
+
+-- of a place of a list
+pub goes_at : (sizes : List (List Asked)) (ps : List Place) (i : ℕ) (d : Place) (b : Bool) → goes_on_by sizes (get_or ps i d) ≡ b
+    → goes_on (batch_from sizes) (get_or ps i d) ≡ b
+goes_at sizes ps i d b is = sym (goes_on_is sizes (get_or ps i d)) ∙ is
+
+-- the spots that a lane asks for
+pub lane_spots_are : (sizes : List (List Asked)) (lane : ℕ) (d : List Asked) → lane < length sizes
+    → spots_from lane 0 (get_or sizes lane d) ≡ all_asked lane 0 (lane_of (batch_from sizes) lane)
+lane_spots_are sizes lane d lt =
+    ap (spots_from lane 0) (get_or_default sizes lane d [] lt)
+    ∙ sym (lane_by_sizes (batch_from sizes) lane ∙ ap (λ (s : List (List Asked)). spots_from lane 0 (slice_index_or s lane [])) (sizes_from sizes))

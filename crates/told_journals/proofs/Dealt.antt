@@ -7,7 +7,6 @@ use Rattle.std.proofs.lemmas.List.Folds.{flat_map-map}
 use Rattle.std.proofs.lemmas.Bool.{cases_eq}
 use Rattle.call_places.specs.declared.entries.Place.{Place}
 use Rattle.call_places.specs.declared.entries.Mark.{Mark}
-use Rattle.hpke_context.specs.Contexts.{ContextView}
 use Rattle.legal_journals.specs.Batches.{Batch, Spot, spots, on, all_asked, lane_of, lane_places, own_places}
 use Rattle.legal_journals.specs.Legal.{is_same_place}
 use Rattle.legal_journals.specs.Histories.{mark, marks_at, places, own_spots, stamped_on, journals_of}
@@ -17,12 +16,10 @@ use Rattle.legal_journals.proofs.Members.{In, range_below}
 use Rattle.legal_journals.proofs.Truths.{all_true, true_all}
 use Rattle.legal_journals.proofs.Places.{same, same_places}
 use Rattle.legal_journals.proofs.Checking.{same_list, list_same}
-use Rattle.batch_plans.specs.declared.plan.Plan.{Plan}
-use Rattle.batch_plans.specs.declared.plan.CallLine.{CallLine}
-use Rattle.batch_plans.specs.Limits.{IsWithinLimits}
-use Rattle.due_replies.specs.Asks.{ask_of, batch_of}
 use Rattle.result_lines.proofs.Feeds.{same_truth}
 use Rattle.result_verdicts.specs.Journals.{is_journal, broken_journal, stamps_rise}
+use Rattle.told_journals.specs.declared.asks.Asked.{Asked}
+use Rattle.told_journals.specs.Asks.{ask_from, batch_from}
 use Rattle.told_journals.specs.Histories.{spots_from}
 use Rattle.told_journals.specs.Piles.{put_on, by_context, by_lane, by_context_stamped, joined, spots_told, lanes_from, lanes_told, lanes_asked, in_lanes, asked_on}
 use Rattle.told_journals.proofs.Asking.{lane_spots_are}
@@ -186,30 +183,27 @@ told_on n lanes journals c lt =
 
 -- ---- the spots that lanes ask for
 
-length_lanes : (contexts : List (Option ContextView)) (lane : ℕ) (lanes : List (List CallLine)) → length (lanes_from contexts lane lanes) ≡ length lanes
-length_lanes contexts lane [] = refl
-length_lanes contexts lane (calls ∷ more) = ap suc (length_lanes contexts (lane + 1) more)
+length_lanes : (lane : ℕ) (sizes : List (List Asked)) → length (lanes_from lane sizes) ≡ length sizes
+length_lanes lane [] = refl
+length_lanes lane (own ∷ more) = ap suc (length_lanes (lane + 1) more)
 
-lane_at : (contexts : List (Option ContextView)) (lane : ℕ) (lanes : List (List CallLine)) (i : ℕ) → i < length lanes
-    → slice_index_or (lanes_from contexts lane lanes) i [] ≡ spots_from contexts (lane + i) 0 (get_or lanes i [])
-lane_at contexts lane [] i lt = absurd (omega arith)
-lane_at contexts lane (calls ∷ more) zero lt = ap (λ (k : ℕ). spots_from contexts k 0 calls) (let z : lane ≡ lane + 0 = omega arith in z)
-lane_at contexts lane (calls ∷ more) (suc i) lt =
-    lane_at contexts (lane + 1) more i (omega arith) ∙ ap (λ (k : ℕ). spots_from contexts k 0 (get_or more i [])) (let z : lane + 1 + i ≡ lane + suc i = omega arith in z)
+lane_at : (lane : ℕ) (sizes : List (List Asked)) (i : ℕ) → i < length sizes
+    → slice_index_or (lanes_from lane sizes) i [] ≡ spots_from (lane + i) 0 (get_or sizes i [])
+lane_at lane [] i lt = absurd (omega arith)
+lane_at lane (own ∷ more) zero lt = ap (λ (k : ℕ). spots_from k 0 own) (let z : lane ≡ lane + 0 = omega arith in z)
+lane_at lane (own ∷ more) (suc i) lt =
+    lane_at (lane + 1) more i (omega arith) ∙ ap (λ (k : ℕ). spots_from k 0 (get_or more i [])) (let z : lane + 1 + i ≡ lane + suc i = omega arith in z)
 
-module _ (plan : Plan) (contexts : List (Option ContextView)) (within : IsWithinLimits plan) where
-  abbrev of_batch : Batch
-  of_batch = batch_of plan contexts
+module _ (sizes : List (List Asked)) where
+  as_many : length (batch_from sizes) ≡ length sizes
+  as_many = length-map sizes (map ask_from)
 
-  as_many : length of_batch ≡ length plan.lanes
-  as_many = length-map plan.lanes (map (ask_of plan contexts))
-
-  pub lanes_are : lanes_from contexts 0 plan.lanes ≡ lanes_asked of_batch
+  pub lanes_are : lanes_from 0 sizes ≡ lanes_asked (batch_from sizes)
   lanes_are =
-      listed_to (λ l. all_asked l 0 (lane_of of_batch l)) [] (lanes_from contexts 0 plan.lanes) (length of_batch) (length_lanes contexts 0 plan.lanes ∙ sym as_many)
-      (λ l lt. lane_at contexts 0 plan.lanes l (let many = as_many in omega arith)
-      ∙ ap (λ (k : ℕ). spots_from contexts k 0 (get_or plan.lanes l [])) (let z : 0 + l ≡ l = omega arith in z)
-      ∙ lane_spots_are plan contexts l [] within (let many = as_many in omega arith))
+      listed_to (λ l. all_asked l 0 (lane_of (batch_from sizes) l)) [] (lanes_from 0 sizes) (length (batch_from sizes)) (length_lanes 0 sizes ∙ sym as_many)
+      (λ l lt. lane_at 0 sizes l (let many = as_many in omega arith)
+      ∙ ap (λ (k : ℕ). spots_from k 0 (get_or sizes l [])) (let z : 0 + l ≡ l = omega arith in z)
+      ∙ lane_spots_are sizes l [] (let many = as_many in omega arith))
 
 -- the places that all lanes ask for on a context lie on its pile, lane by lane
 pub asked_lie : (batch : Batch) (n c : ℕ) → c < n → slice_index_or (by_context (replicate n []) (joined (lanes_asked batch))) c [] ≡ asked_on batch c
@@ -344,12 +338,12 @@ pile_is piles i d pile all lt here is = here ∙ get_or_default piles i d [] lt 
 -- ---- what calls leave, where they succeeded
 
 -- lists of lanes that were made one after another
-pub lanes_end : (plan : Plan) (contexts : List (Option ContextView)) (lists : List (List Spot)) (i : ℕ) → IsWithinLimits plan → length plan.lanes ≤ i
-    → lists ++ lanes_from contexts i (drop i plan.lanes) ≡ lanes_from contexts 0 plan.lanes → lists ≡ lanes_asked (batch_of plan contexts)
-lanes_end plan contexts lists i within le so_far =
+pub lanes_end : (sizes : List (List Asked)) (lists : List (List Spot)) (i : ℕ) → length sizes ≤ i
+    → lists ++ lanes_from i (drop i sizes) ≡ lanes_from 0 sizes → lists ≡ lanes_asked (batch_from sizes)
+lanes_end sizes lists i le so_far =
     sym (append-nil lists)
-    ∙ ap (λ (ls : List (List CallLine)). lists ++ lanes_from contexts i ls) (sym (drop_all i plan.lanes le))
-    ∙ so_far ∙ lanes_are plan contexts within
+    ∙ ap (λ (ls : List (List Asked)). lists ++ lanes_from i ls) (sym (drop_all i sizes le))
+    ∙ so_far ∙ lanes_are sizes
 
 -- a journal is judged by its places and its stamps
 pub journal_is : (stamps : Bool) (batch : Batch) (context : ℕ) (marks : List Mark) (legal good : Bool) → legal ≡ is_legal batch context (places marks)

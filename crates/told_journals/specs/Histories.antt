@@ -1,12 +1,10 @@
 -- ---- for the proofs: places that are put where their stamps say
-use Rattle.std.specs.Prelude.{ℕ, ◌≡◌, ◌+◌, ◌&&◌, nat_lt, Bool, List, [], ◌∷◌, ◌++◌, length, slice_get, Option, Some, None}
+use Rattle.std.specs.Prelude.{ℕ, ◌≡◌, ◌+◌, ◌&&◌, nat_lt, Bool, List, [], ◌∷◌, ◌++◌, length, slice_get, Some}
 use Rattle.call_places.specs.declared.entries.Mark.{Mark}
-use Rattle.hpke_context.specs.Contexts.{ContextView}
 use Rattle.legal_journals.specs.Batches.{Spot, block, spots}
 use Rattle.legal_journals.specs.Histories.{marks_at}
 use Rattle.legal_journals.proofs.Members.{In}
-use Rattle.batch_plans.specs.declared.plan.CallLine.{CallLine}
-use Rattle.told_journals.specs.Asks.{asked_in}
+use Rattle.told_journals.specs.declared.asks.Asked.{Asked}
 
 abbrev pub spot_of : ℕ → Mark → Spot
 spot_of context m = record { context = context; place = m.place }
@@ -40,15 +38,14 @@ pub record PutsAll (old new : List Spot) (first : ℕ) (journals : List (List Ma
       → AllAt history first journals → In m (marks_at journals c) → Agree history new m.stamp
 
 -- the places of a call, each with its context
-abbrev pub spots_asked : ℕ → ℕ → Option (ℕ × ℕ) → List Spot
-spots_asked lane number None = []
-spots_asked lane number (Some asked) = spots asked.0 (block lane number 0 asked.1)
+abbrev pub spots_asked : ℕ → ℕ → Asked → List Spot
+spots_asked lane number asked = spots asked.context (block lane number 0 asked.count)
 
 -- those of calls, from this number on
-abbrev pub spots_from : List (Option ContextView) → ℕ → ℕ → List CallLine → List Spot
-spots_from contexts lane number [] = []
-spots_from contexts lane number (call ∷ more) =
-    spots_asked lane number (asked_in contexts call) ++ spots_from contexts lane (number + 1) more
+abbrev pub spots_from : ℕ → ℕ → List Asked → List Spot
+spots_from lane number [] = []
+spots_from lane number (asked ∷ more) =
+    spots_asked lane number asked ++ spots_from lane (number + 1) more
 
 -- a spot is on one of so many contexts, and of one of so many lanes
 abbrev pub is_within : ℕ → ℕ → Spot → Bool

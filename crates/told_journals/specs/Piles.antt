@@ -1,12 +1,11 @@
 -- ---- for the proofs: places that are dealt to piles, by the number of a context or of a lane
-use Rattle.std.specs.Prelude.{ℕ, ◌+◌, List, [], ◌∷◌, ◌++◌, length, map, take, slice_set, slice_index_or, Option}
+use Rattle.std.specs.Prelude.{ℕ, ◌+◌, List, [], ◌∷◌, ◌++◌, length, map, take, slice_set, slice_index_or}
 use Rattle.std.specs.List.{flat_map, range_with_len}
 use Rattle.call_places.specs.declared.entries.Place.{Place}
 use Rattle.call_places.specs.declared.entries.Mark.{Mark}
-use Rattle.hpke_context.specs.Contexts.{ContextView}
 use Rattle.legal_journals.specs.Batches.{Batch, Spot, spots, all_asked, lane_of, lane_places, own_places}
 use Rattle.legal_journals.specs.Histories.{mark, places, own_spots}
-use Rattle.batch_plans.specs.declared.plan.CallLine.{CallLine}
+use Rattle.told_journals.specs.declared.asks.Asked.{Asked}
 use Rattle.told_journals.specs.Histories.{spots_from}
 
 -- an item goes onto the pile of this number, where there is one
@@ -40,10 +39,9 @@ spots_told context [] = []
 spots_told context (marks ∷ more) = spots context (places marks) ++ spots_told (context + 1) more
 
 -- those that lanes ask for, from this lane on
-abbrev pub lanes_from : List (Option ContextView) → ℕ → List (List CallLine) → List (List Spot)
-lanes_from contexts lane [] = []
-lanes_from contexts lane (calls ∷ more) =
-    spots_from contexts lane 0 calls ∷ lanes_from contexts (lane + 1) more
+abbrev pub lanes_from : ℕ → List (List Asked) → List (List Spot)
+lanes_from lane [] = []
+lanes_from lane (calls ∷ more) = spots_from lane 0 calls ∷ lanes_from (lane + 1) more
 
 -- the spots of each of so many lanes in a history
 abbrev pub lanes_told : ℕ → List Spot → List (List Spot)

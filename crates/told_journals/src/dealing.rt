@@ -12,19 +12,18 @@
 
 ghost use Rattle.std.specs.Prelude.{ℕ, ◌≡◌, ◌<◌, ◌++◌, ◌^◌, [], length, replicate, slice_index_or};
 ghost use Rattle.std.specs.Prelude.{IfOk, OnOk};
-ghost use Rattle.batch_plans.specs.Limits.{IsWithinLimits};
-ghost use Rattle.due_replies.specs.Asks.{batch_of};
 ghost use Rattle.legal_journals.specs.Batches.{spots as spots_of};
 ghost use Rattle.legal_journals.specs.Histories.{places, marks_at, journals_of};
+ghost use Rattle.told_journals.specs.Asks.{AreFew, batch_from};
 ghost use Rattle.told_journals.specs.Piles.{by_context, by_lane, by_context_stamped, joined};
 ghost use Rattle.told_journals.specs.Piles.{spots_told as spots_told_of, in_lanes};
 ghost use Rattle.told_journals.specs.Piles.{lanes_told, lanes_asked as lanes_asked_of, asked_on};
 
+use crate::asks::Asked;
 use crate::piles::{Pile, empty_piles, put};
 use crate::spots::{Spot, spots_on};
-use batch_plans::{PlainList, Plan};
+use batch_plans::PlainList;
 use call_places::{Mark, Place};
-use hpke_context::Context;
 use std::alloc::{AllocError, Global};
 
 // Deals places to the piles of their contexts.
@@ -154,16 +153,14 @@ pub(crate) fn places_told(
 /// The spots that each lane asks for.
 pub(crate) fn lanes_asked(
     alloc: Global,
-    plan: &Plan,
-    contexts: &[Option<Context>],
+    asks: &[PlainList<Asked>],
 ) -> Result<Vec<Pile<Spot>>, AllocError>
-    requires { IsWithinLimits plan.now }
-    ensures { IfOk result (λ lanes.
-        lanes.items ≡ lanes_asked_of (batch_of plan.now contexts.now)) }
+    requires { AreFew asks.now }
+    ensures { IfOk result (λ lanes. lanes.items ≡ lanes_asked_of (batch_from asks.now)) }
 {
     let mut lists = Vec::new(alloc);
-    'lanes: for (lane, calls) in plan.lanes.as_slice().iter().enumerate() {
-        let spots = spots_on(alloc, contexts, lane as u32, calls.as_slice())?;
+    'lanes: for (lane, calls) in asks.iter().enumerate() {
+        let spots = spots_on(alloc, lane as u32, calls.as_slice())?;
         lists.push(Pile::from_vec(spots))?;
     }
     Ok(lists)
@@ -172,15 +169,14 @@ pub(crate) fn lanes_asked(
 /// The places that all lanes ask for on each of so many contexts, lane by lane.
 pub(crate) fn places_asked(
     alloc: Global,
-    plan: &Plan,
-    contexts: &[Option<Context>],
+    asks: &[PlainList<Asked>],
     count: usize,
 ) -> Result<Vec<Pile<Place>>, AllocError>
-    requires { IsWithinLimits plan.now }
+    requires { AreFew asks.now }
     ensures size { IfOk result (λ piles. length piles.items ≡ count) }
     ensures each { IfOk result (λ piles. (c : ℕ) → c < count
-        → slice_index_or piles.items c [] ≡ asked_on (batch_of plan.now contexts.now) c) }
+        → slice_index_or piles.items c [] ≡ asked_on (batch_from asks.now) c) }
 {
-    let lists = lanes_asked(alloc, plan, contexts)?;
+    let lists = lanes_asked(alloc, asks)?;
     on_contexts(alloc, &lists, count)
 }

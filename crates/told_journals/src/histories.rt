@@ -8,8 +8,10 @@ ghost use Rattle.legal_journals.specs.Checks.{is_history as is_history_of, is_le
 ghost use Rattle.legal_journals.specs.Checks.{has_lane_spots};
 ghost use Rattle.batch_plans.specs.Limits.{IsWithinLimits};
 ghost use Rattle.due_replies.specs.Asks.{batch_of};
+ghost use Rattle.told_journals.specs.Asks.{AreFew, batch_from};
 ghost use Rattle.told_journals.specs.Histories.{Puts, PutsAll, is_within};
 
+use crate::asks::{Asked, asks_of};
 use crate::dealing::{lanes_asked, lanes_in, marks_of};
 use crate::journals::is_unbroken;
 use crate::same::{are_journals, are_lanes};
@@ -81,19 +83,14 @@ fn has_journals(
 }
 
 // Whether each lane has the places that it asks for, in order.
-fn has_lanes(
-    alloc: Global,
-    plan: &Plan,
-    contexts: &[Option<Context>],
-    history: &[Spot],
-) -> Result<bool, AllocError>
-    requires { IsWithinLimits plan.now }
+fn has_lanes(alloc: Global, asks: &[PlainList<Asked>], history: &[Spot]) -> Result<bool, AllocError>
+    requires { AreFew asks.now }
     ensures { IfOk result (λ good. good
-        ≡ list_all (has_lane_spots (batch_of plan.now contexts.now) history.now)
-        (range_with_len 0 (length plan.now.lanes))) }
+        ≡ list_all (has_lane_spots (batch_from asks.now) history.now)
+        (range_with_len 0 (length asks.now))) }
 {
-    let asked = lanes_asked(alloc, plan, contexts)?;
-    let told = lanes_in(alloc, history, plan.lanes.as_slice().len())?;
+    let asked = lanes_asked(alloc, asks)?;
+    let told = lanes_in(alloc, history, asks.len())?;
     Ok(are_lanes(&told, &asked))
 }
 
@@ -118,46 +115,59 @@ fn places_of(alloc: Global, history: &[Spot]) -> Result<Vec<Place>, AllocError>
 // Whether a list of places of so many contexts is a history of the batch.
 fn is_history(
     alloc: Global,
-    plan: &Plan,
-    contexts: &[Option<Context>],
+    asks: &[PlainList<Asked>],
     count: usize,
     history: &[Spot],
 ) -> Result<bool, AllocError>
-    requires { IsWithinLimits plan.now }
+    requires { AreFew asks.now }
     ensures { IfOk result (λ good. good
-        ≡ is_history_of (batch_of plan.now contexts.now) count history.now) }
+        ≡ is_history_of (batch_from asks.now) count history.now) }
 {
-    if !are_within(history, count, plan.lanes.as_slice().len()) {
+    if !are_within(history, count, asks.len()) {
         return Ok(false);
     }
-    if !has_lanes(alloc, plan, contexts, history)? {
+    if !has_lanes(alloc, asks, history)? {
         return Ok(false);
     }
     let places = places_of(alloc, history)?;
-    Ok(is_unbroken(plan, contexts, &places))
+    Ok(is_unbroken(asks, &places))
 }
 
 // Whether the stamps make one history of all journals. The spots, one for each place, are written
 // over.
 fn judge(
     alloc: Global,
-    plan: &Plan,
-    contexts: &[Option<Context>],
+    asks: &[PlainList<Asked>],
     journals: &[PlainList<Mark>],
     history: &mut [Spot],
 ) -> Result<bool, AllocError>
-    requires within { IsWithinLimits plan.now }
+    requires within { AreFew asks.now }
     requires few { length journals.now < 2 ^ 32 }
     requires size { length history.old ≡ length (all_stamps journals.now) }
     ensures { IfOk result (λ good. good
-        ≡ is_legal_history (batch_of plan.now contexts.now) journals.now) }
+        ≡ is_legal_history (batch_from asks.now) journals.now) }
 {
     put_journals(history, journals);
     let given = has_journals(alloc, history, journals)?;
     if !given {
         return Ok(false);
     }
-    is_history(alloc, plan, contexts, journals.len(), history)
+    is_history(alloc, asks, journals.len(), history)
+}
+
+/// Whether the stamps make one history of all journals.
+pub(crate) fn is_history_by(
+    alloc: Global,
+    asks: &[PlainList<Asked>],
+    journals: &[PlainList<Mark>],
+) -> Result<bool, AllocError>
+    requires within { AreFew asks.now }
+    requires few { length journals.now < 2 ^ 32 }
+    ensures { IfOk result (λ good. good
+        ≡ is_legal_history (batch_from asks.now) journals.now) }
+{
+    let mut history = one_each(alloc, journals)?;
+    judge(alloc, asks, journals, &mut history)
 }
 
 /// Whether the stamps make one history of all journals.
@@ -172,6 +182,6 @@ pub fn is_one_history(
     ensures { IfOk result (λ good. good
         ≡ is_legal_history (batch_of plan.now contexts.now) journals.now) }
 {
-    let mut history = one_each(alloc, journals)?;
-    judge(alloc, plan, contexts, journals, &mut history)
+    let asks = asks_of(alloc, plan, contexts)?;
+    is_history_by(alloc, &asks, journals)
 }

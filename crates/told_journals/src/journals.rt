@@ -13,9 +13,10 @@ ghost use Rattle.due_replies.specs.Asks.{batch_of};
 ghost use Rattle.result_verdicts.specs.Journals.{stamps_rise as stamps_rise_of};
 ghost use Rattle.result_verdicts.specs.Journals.{is_journal as is_journal_of};
 ghost use Rattle.result_verdicts.specs.Journals.{broken_journal as broken_journal_of};
+ghost use Rattle.told_journals.specs.Asks.{AreFew, batch_from};
 ghost use Rattle.told_journals.specs.Piles.{in_lanes, asked_on};
 
-use crate::asks::goes_on;
+use crate::asks::{Asked, asks_of, goes_on};
 use crate::dealing::{places_asked, places_told};
 use crate::piles::Pile;
 use crate::same::{are_places, is_same};
@@ -55,12 +56,11 @@ fn is_next(p: Place, q: Place) -> bool
 }
 
 /// Whether the next item of an opening stands next wherever an opening goes on.
-pub(crate) fn is_unbroken(plan: &Plan, contexts: &[Option<Context>], places: &[Place]) -> bool
-    requires { IsWithinLimits plan.now }
-    ensures { result ≡ is_unbroken_of (batch_of plan.now contexts.now) places.now }
+pub(crate) fn is_unbroken(asks: &[PlainList<Asked>], places: &[Place]) -> bool
+    ensures { result ≡ is_unbroken_of (batch_from asks.now) places.now }
 {
     'places: for i in 0..places.len() {
-        if goes_on(plan, contexts, places[i]) {
+        if goes_on(asks, places[i]) {
             if i + 1 == places.len() || !is_next(places[i], places[i + 1]) {
                 return false;
             }
@@ -78,23 +78,21 @@ fn places_of(alloc: Global, marks: &[Mark]) -> Result<Vec<Place>, AllocError>
 // Whether a journal is legal, by its places and those that are asked for, lane by lane.
 fn is_legal(
     alloc: Global,
-    plan: &Plan,
-    contexts: &[Option<Context>],
+    asks: &[PlainList<Asked>],
     marks: &[Mark],
     told: &[Place],
     asked: &[Place],
 ) -> Result<bool, AllocError>
-    requires within { IsWithinLimits plan.now }
-    requires told { told.now ≡ in_lanes (length plan.now.lanes) (places_in marks.now) }
+    requires { told.now ≡ in_lanes (length asks.now) (places_in marks.now) }
     ensures { IfOk result (λ good. (context : ℕ)
-        → asked.now ≡ asked_on (batch_of plan.now contexts.now) context
-        → good ≡ is_legal_of (batch_of plan.now contexts.now) context (places_in marks.now)) }
+        → asked.now ≡ asked_on (batch_from asks.now) context
+        → good ≡ is_legal_of (batch_from asks.now) context (places_in marks.now)) }
 {
-    if !has_lanes(marks, plan.lanes.as_slice().len(), told, asked) {
+    if !has_lanes(marks, asks.len(), told, asked) {
         return Ok(false);
     }
     let places = places_of(alloc, marks)?;
-    Ok(is_unbroken(plan, contexts, &places))
+    Ok(is_unbroken(asks, &places))
 }
 
 // Whether each stamp is below the next.
@@ -109,56 +107,69 @@ fn stamps_rise(marks: &[Mark]) -> bool
     true
 }
 
-// Whether a journal is legal, and its stamps rise where there are stamps.
-fn is_journal(
+/// Whether a journal is legal, and its stamps rise where there are stamps.
+pub(crate) fn is_journal(
     alloc: Global,
-    plan: &Plan,
-    contexts: &[Option<Context>],
+    asks: &[PlainList<Asked>],
     stamps: bool,
     marks: &[Mark],
     told: &[Place],
     asked: &[Place],
 ) -> Result<bool, AllocError>
-    requires within { IsWithinLimits plan.now }
-    requires told { told.now ≡ in_lanes (length plan.now.lanes) (places_in marks.now) }
+    requires { told.now ≡ in_lanes (length asks.now) (places_in marks.now) }
     ensures { IfOk result (λ good. (context : ℕ)
-        → asked.now ≡ asked_on (batch_of plan.now contexts.now) context
-        → good ≡ is_journal_of stamps (batch_of plan.now contexts.now) context marks.now) }
+        → asked.now ≡ asked_on (batch_from asks.now) context
+        → good ≡ is_journal_of stamps (batch_from asks.now) context marks.now) }
 {
-    let legal = is_legal(alloc, plan, contexts, marks, told, asked)?;
+    let legal = is_legal(alloc, asks, marks, told, asked)?;
     Ok(legal && (!stamps || stamps_rise(marks)))
 }
 
 // The first context whose journal is not, by the places of each, lane by lane.
 fn first_broken(
     alloc: Global,
-    plan: &Plan,
-    contexts: &[Option<Context>],
+    asks: &[PlainList<Asked>],
     stamps: bool,
     journals: &[PlainList<Mark>],
     told: &[Pile<Place>],
     asked: &[Pile<Place>],
 ) -> Result<Option<u32>, AllocError>
-    requires within { IsWithinLimits plan.now }
     requires few { length journals.now < 2 ^ 32 }
     requires told_size { length told.now ≡ length journals.now }
     requires told { (c : ℕ) → c < length journals.now → slice_index_or told.now c []
-        ≡ in_lanes (length plan.now.lanes) (places_in (marks_at journals.now c)) }
+        ≡ in_lanes (length asks.now) (places_in (marks_at journals.now c)) }
     requires asked_size { length asked.now ≡ length journals.now }
     requires asked { (c : ℕ) → c < length journals.now
-        → slice_index_or asked.now c [] ≡ asked_on (batch_of plan.now contexts.now) c }
+        → slice_index_or asked.now c [] ≡ asked_on (batch_from asks.now) c }
     ensures { IfOk result (λ broken. broken
-        ≡ broken_journal_of stamps (batch_of plan.now contexts.now) 0 journals.now) }
+        ≡ broken_journal_of stamps (batch_from asks.now) 0 journals.now) }
 {
     'journals: for (number, marks) in journals.iter().enumerate() {
         let places = told[number].as_slice();
         let due = asked[number].as_slice();
-        let legal = is_journal(alloc, plan, contexts, stamps, marks.as_slice(), places, due)?;
+        let legal = is_journal(alloc, asks, stamps, marks.as_slice(), places, due)?;
         if !legal {
             return Ok(Some(number as u32));
         }
     }
     Ok(None)
+}
+
+// The first context whose journal is not.
+fn broken_by(
+    alloc: Global,
+    asks: &[PlainList<Asked>],
+    stamps: bool,
+    journals: &[PlainList<Mark>],
+) -> Result<Option<u32>, AllocError>
+    requires within { AreFew asks.now }
+    requires few { length journals.now < 2 ^ 32 }
+    ensures { IfOk result (λ broken. broken
+        ≡ broken_journal_of stamps (batch_from asks.now) 0 journals.now) }
+{
+    let asked = places_asked(alloc, asks, journals.len())?;
+    let told = places_told(alloc, asks.len(), journals)?;
+    first_broken(alloc, asks, stamps, journals, &told, &asked)
 }
 
 /// The first context whose journal is not legal, or has stamps that don't rise.
@@ -174,7 +185,6 @@ pub fn broken_journal(
     ensures { IfOk result (λ broken. broken
         ≡ broken_journal_of stamps (batch_of plan.now contexts.now) 0 journals.now) }
 {
-    let asked = places_asked(alloc, plan, contexts, journals.len())?;
-    let told = places_told(alloc, plan.lanes.as_slice().len(), journals)?;
-    first_broken(alloc, plan, contexts, stamps, journals, &told, &asked)
+    let asks = asks_of(alloc, plan, contexts)?;
+    broken_by(alloc, &asks, stamps, journals)
 }

@@ -5,8 +5,10 @@ ghost use Rattle.batch_plans.specs.Limits.{IsWithinLimits};
 ghost use Rattle.due_replies.specs.Asks.{batch_of};
 ghost use Rattle.legal_journals.specs.Histories.{marks_at};
 ghost use Rattle.result_verdicts.specs.Journals.{broken_journal as broken_journal_of};
+ghost use Rattle.told_journals.specs.Asks.{AreFew, batch_from};
 ghost use Rattle.told_journals.specs.Piles.{asked_on, kept_from};
 
+use crate::asks::{Asked, asks_of};
 use crate::dealing::places_asked;
 use batch_plans::{PlainList, Plan};
 use call_places::Mark;
@@ -17,15 +19,14 @@ use std::alloc::{AllocError, Global};
 // Of each journal one place more than are asked for on its context, or all.
 fn first_places(
     alloc: Global,
-    plan: &Plan,
-    contexts: &[Option<Context>],
+    asks: &[PlainList<Asked>],
     journals: &[JournalLines],
 ) -> Result<Vec<PlainList<Mark>>, AllocError>
-    requires { IsWithinLimits plan.now }
+    requires { AreFew asks.now }
     ensures { IfOk result (λ kept.
-        kept.items ≡ kept_from (batch_of plan.now contexts.now) 0 journals.now) }
+        kept.items ≡ kept_from (batch_from asks.now) 0 journals.now) }
 {
-    let asked = places_asked(alloc, plan, contexts, journals.len())?;
+    let asked = places_asked(alloc, asks, journals.len())?;
     let mut kept = Vec::new(alloc);
     'journals: for (number, journal) in journals.iter().enumerate() {
         let most = asked[number].as_slice().len() + 1;
@@ -57,5 +58,6 @@ pub fn kept_journals(
         → broken_journal_of stamps (batch_of plan.now contexts.now) 0 journals.now ≡ None
         → kept.items ≡ journals.now) }
 {
-    first_places(alloc, plan, contexts, journals)
+    let asks = asks_of(alloc, plan, contexts)?;
+    first_places(alloc, &asks, journals)
 }

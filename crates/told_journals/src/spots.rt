@@ -2,13 +2,10 @@
 
 ghost use Rattle.std.specs.Prelude.{◌≡◌, ◌<◌, ◌^◌, ◌++◌, length, IfOk, OnOk};
 ghost use Rattle.legal_journals.specs.Batches.{block, spots as spots_of};
-ghost use Rattle.told_journals.specs.Asks.{asked_in};
 ghost use Rattle.told_journals.specs.Histories.{spots_asked, spots_from};
 
-use crate::asks::asked_of;
-use batch_plans::CallLine;
+use crate::asks::Asked;
 use call_places::Place;
-use hpke_context::Context;
 use std::alloc::{AllocError, Global};
 use std::marker::Model;
 
@@ -64,35 +61,21 @@ fn push_block(
 }
 
 // The places of a call.
-fn push_spots(
-    spots: &mut Vec<Spot>,
-    contexts: &[Option<Context>],
-    lane: u32,
-    number: u32,
-    call: &CallLine,
-) -> Result<(), AllocError>
-    ensures { OnOk result (spots.new.items
-        ≡ spots.old.items ++ spots_asked lane number (asked_in contexts.now call.now)) }
+fn push_spots(spots: &mut Vec<Spot>, lane: u32, number: u32, asked: Asked) -> Result<(), AllocError>
+    ensures { OnOk result
+        (spots.new.items ≡ spots.old.items ++ spots_asked lane number asked) }
 {
-    match asked_of(contexts, call) {
-        Some((context, count)) => push_block(spots, context, lane, number, count),
-        None => Ok(()),
-    }
+    push_block(spots, asked.context, lane, number, asked.count)
 }
 
 /// The places that the calls of a lane ask for, in order.
-pub(crate) fn spots_on(
-    alloc: Global,
-    contexts: &[Option<Context>],
-    lane: u32,
-    calls: &[CallLine],
-) -> Result<Vec<Spot>, AllocError>
+pub(crate) fn spots_on(alloc: Global, lane: u32, calls: &[Asked]) -> Result<Vec<Spot>, AllocError>
     requires { length calls.now < 2 ^ 32 }
-    ensures { IfOk result (λ spots. spots.items ≡ spots_from contexts.now lane 0 calls.now) }
+    ensures { IfOk result (λ spots. spots.items ≡ spots_from lane 0 calls.now) }
 {
     let mut spots = Vec::new(alloc);
-    'calls: for (number, call) in calls.iter().enumerate() {
-        push_spots(&mut spots, contexts, lane, number as u32, call)?;
+    'calls: for (number, asked) in calls.iter().enumerate() {
+        push_spots(&mut spots, lane, number as u32, *asked)?;
     }
     Ok(spots)
 }

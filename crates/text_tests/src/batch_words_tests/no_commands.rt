@@ -127,6 +127,14 @@ check|--mult|fast
 check|--mult|plain|--mult|plain
 check|plain
 check|--help
+check|--live|--live
+check|--live|--mult
+check|--mult|--live
+check|--mult|--live|plain
+check|--live=1
+check|live
+capsules|--live
+run|--live
 capsules|--workers|4
 capsules|--mult
 capsules|--mult|fast

@@ -8,7 +8,7 @@ use call_places::{Item, Span};
 use field_text::{BadBatch, ReadBatchFault, Reason};
 use hkdf_labelled::{Aead, Kdf};
 use key_schedule::{Mode, Role};
-use live_frames::read_live;
+use live_frames::{read_live, read_live_front};
 use std::alloc::{AllocError, Global};
 use std::process::Abort;
 use std::test::Fail;
@@ -171,5 +171,66 @@ fn contexts_are_named_over_all_lanes(rt: HostRuntime) -> Result<(), Fail> {
     assert_same(&rt, plan.lanes.as_slice().len(), 2, "how many lanes");
     expect_calls(&rt, &plan, 0, first.as_slice());
     expect_calls(&rt, &plan, 1, second.as_slice());
+    Ok(())
+}
+
+// How many contexts the batch at the front of a text adds, and where it ends, or its bad line.
+fn front_of(alloc: Global, text: &[u8]) -> Result<(u32, usize), Option<BadBatch>> {
+    match read_live_front(alloc, text) {
+        Ok((plan, end)) => Ok((plan.added, end)),
+        Err(ReadBatchFault::Bad(bad)) => Err(Some(bad)),
+        Err(ReadBatchFault::OutOfMemory) => Err(None),
+    }
+}
+
+struct FrontCase {
+    text: &'static [u8],
+    front: Result<(u32, usize), Option<BadBatch>>,
+    what: &'static str,
+}
+
+// Own, by hand: the ends are counted in bytes.
+const FRONTS: [FrontCase; 5] = [
+    FrontCase {
+        text: b"hpkebatch 2\nlane\nretire +0\nend\n",
+        front: Ok((0, 31)),
+        what: "a retirement",
+    },
+    FrontCase {
+        text: b"hpkebatch 2\nlane\nadd send 32 1 1 5e base 1f - - 9\nend\nhpkebatch 2\n",
+        front: Ok((1, 54)),
+        what: "a reply behind a batch",
+    },
+    FrontCase {
+        text: b"hpkebatch 2\nretire +0\nend\nend\n",
+        front: Err(Some(BadBatch {
+            line: 2,
+            reason: Reason::Order,
+        })),
+        what: "a retirement outside the lanes",
+    },
+    FrontCase {
+        text: b"hpkebatch 2\nlane\nend",
+        front: Err(Some(BadBatch {
+            line: 3,
+            reason: Reason::NoEnd,
+        })),
+        what: "no last line feed",
+    },
+    FrontCase {
+        text: b"hpkebatch 1\nend\n",
+        front: Err(Some(BadBatch {
+            line: 1,
+            reason: Reason::Header,
+        })),
+        what: "version 1",
+    },
+];
+
+#[test]
+fn a_batch_ends_before_what_follows_it(rt: HostRuntime) -> Result<(), Fail> {
+    for case in &FRONTS {
+        assert_same(&rt, front_of(rt.alloc(), case.text), case.front, case.what);
+    }
     Ok(())
 }

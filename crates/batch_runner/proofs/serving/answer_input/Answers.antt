@@ -30,6 +30,11 @@ returns-in-Check g c =
     subst (λ one. Writes g.K.Sink.written g.K.Sink.faults c.args.sink.now c.judge.new.sink
     (MayEnd one c.args.input.now) c.judge.result) (sym c.in-Check.is) c.judge.ensures
 
+pub returns-in-CheckLive : goal.returns-in-CheckLive
+returns-in-CheckLive g c =
+    subst (λ one. Writes g.K.Sink.written g.K.Sink.faults c.args.sink.now c.judge_live.new.sink
+    (MayEnd one c.args.input.now) c.judge_live.result) (sym c.in-CheckLive.is) c.judge_live.ensures
+
 pub returns-in-Capsules : goal.returns-in-Capsules
 returns-in-Capsules g c =
     subst (λ one. Writes g.K.Sink.written g.K.Sink.faults c.args.sink.now c.exchange.new.sink

@@ -1,7 +1,7 @@
 use Rattle.std.proofs.Common.{◌∙◌, Some, ap, subst, sym}
 use Rattle.std.specs.Io.KnownBytes.{Appends}
 use Rattle.batch_serving.specs.Text.{IsReadBy, MayEnd}
-use Rattle.batch_serving.proofs.Ends.{bad_line, broken_result, input_of_bad}
+use Rattle.batch_serving.proofs.Ends.{bad_line, broken_result, input_of_bad, input_of_broken}
 use Rattle.batch_serving.proofs.Endings.{OfInput}
 use Rattle.batch_runner.proofs.Serves.{whole_text}
 use Rattle.batch_runner.proofs.serving.serve_words.Goals as goal
@@ -43,10 +43,10 @@ returns-in-Ok-Some-clause-broken g c = λ verdict e.
     c.args.source.now c.obey.new.source c.args.sink.now c.obey.new.sink command c.obey.result
     c.obey.ensures.serves (subst OfInput (sym e) tt) in
     let broken = broken_result verdict end.2 command end.0 (subst (λ outcome. MayEnd command end.0 outcome end.2) e end.3) in (
-      broken.0,
-      sym c.in-Ok-Some.ensures.command ∙ c.in-Ok-Some.field-0-is ∙ ap (λ one. Some one) broken.1,
+      command,
+      sym c.in-Ok-Some.ensures.command ∙ c.in-Ok-Some.field-0-is,
       end.0,
-      subst (λ one. IsReadBy one (g.S.Source.left c.args.source.now) (g.S.Source.left c.obey.new.source) end.0) broken.1 end.1,
-      broken.2,
-      subst (Appends (g.K.Sink.written c.args.sink.now) (g.K.Sink.written c.obey.new.sink)) broken.3 end.4,
+      input_of_broken _ _ end.0 command verdict broken.0 end.1,
+      broken.0,
+      subst (Appends (g.K.Sink.written c.args.sink.now) (g.K.Sink.written c.obey.new.sink)) broken.1 end.4,
     )

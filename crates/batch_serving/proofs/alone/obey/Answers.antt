@@ -25,6 +25,11 @@ returns-in-Check-clause-writes g c =
     subst (λ one. Writes g.K.Sink.written g.K.Sink.faults c.args.sink.now c.judge.new.sink
     (MayEnd one c.args.input.now) c.judge.result) (sym c.in-Check.is) c.judge.ensures
 
+pub returns-in-CheckLive-clause-writes : goal.returns-in-CheckLive-clause-writes
+returns-in-CheckLive-clause-writes g c =
+    subst (λ one. Writes g.K.Sink.written g.K.Sink.faults c.args.sink.now c.judge_live.new.sink
+    (MayEnd one c.args.input.now) c.judge_live.result) (sym c.in-CheckLive.is) c.judge_live.ensures
+
 pub returns-in-Capsules-clause-writes : goal.returns-in-Capsules-clause-writes
 returns-in-Capsules-clause-writes g c =
     subst (λ one. Writes g.K.Sink.written g.K.Sink.faults c.args.sink.now c.exchange_alone.new.sink

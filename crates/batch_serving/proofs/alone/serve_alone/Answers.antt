@@ -41,7 +41,7 @@ returns-in-Ok-Some-clause-broken g c = λ verdict e.
     let command = c.in-Ok-Some.command in
     let same = sym c.in-Ok-Some.ensures.command ∙ c.in-Ok-Some.field-0-is in
     let broken = broken_told g.K.Sink.written g.K.Sink.faults c.args.sink.now c.obey.new.sink command c.args.input.now verdict (written_at g.K.Sink.written g.K.Sink.faults c.args.sink.now c.obey.new.sink command c.args.input.now c.obey.result c.obey.ensures.writes (Broken verdict) e) in
-    (broken.0, same ∙ ap (λ one. Some one) broken.1, broken.2, broken.3)
+    (command, same, broken.0, broken.1)
 
 pub returns-in-Ok-Some-clause-cut : goal.returns-in-Ok-Some-clause-cut
 returns-in-Ok-Some-clause-cut g c = λ e.

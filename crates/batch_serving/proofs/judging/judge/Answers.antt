@@ -1,4 +1,4 @@
-use Rattle.std.proofs.Common.{◌≤◌, ℕ, List, Err, ap, length, subst, sym}
+use Rattle.std.proofs.Common.{◌≤◌, ℕ, List, Err, ap, length, subst, sym, false}
 use Rattle.batch_plans.specs.Limits.{most_input}
 use Rattle.request_frames.specs.Batch.{front_batch}
 use Rattle.batch_serving.specs.Effects.{Writes}
@@ -8,12 +8,12 @@ use Rattle.batch_serving.proofs.Writing.{fault_told}
 use Rattle.batch_serving.proofs.judging.judge.Goals as goal
 
 pub behind-requires : goal.behind-requires
-behind-requires g c = front_within c.args.input.now c.in-Ok.plan c.in-Ok.end c.in-Ok.ensures.front
+behind-requires g c = front_within c.args.input.now c.in-Ok.plan c.in-Ok.end false c.in-Ok.ensures.front
 
 pub judge_result-outcome-requires-clause-size : goal.judge_result-outcome-requires-clause-size
 judge_result-outcome-requires-clause-size g c =
     subst (λ (rest : List ℕ). length rest ≤ most_input) (sym c.behind.ensures)
-    (rest_small c.args.input.now c.in-Ok.plan c.in-Ok.end c.in-Ok.ensures.front)
+    (rest_small c.args.input.now c.in-Ok.plan c.in-Ok.end false c.in-Ok.ensures.front)
 
 pub returns-in-Ok : goal.returns-in-Ok
 returns-in-Ok g c =
@@ -22,16 +22,16 @@ returns-in-Ok g c =
     let faults = g.K.Sink.faults in
     let old = c.args.sink.now in
     let new = c.judge_result-outcome.new.sink in
-    subst (λ read. Writes written faults old new (Judges read input) c.judge_result-outcome.result)
+    subst (λ read. Writes written faults old new (Judges false read input) c.judge_result-outcome.result)
     (sym c.in-Ok.ensures.front)
-    (subst (λ rest. Writes written faults old new (TellsVerdict c.in-Ok.plan rest) c.judge_result-outcome.result)
+    (subst (λ rest. Writes written faults old new (TellsVerdict false c.in-Ok.plan rest) c.judge_result-outcome.result)
     c.behind.ensures c.judge_result-outcome.ensures)
 
 pub returns-in-Err : goal.returns-in-Err
 returns-in-Err g c =
     let input = c.args.input.now in
     fault_told g.K.Sink.written g.K.Sink.faults c.args.sink.now c.tell_fault.new.sink
-    (Judges (front_batch input) input) c.in-Err.fault c.tell_fault.result
-    (λ bad is due text told. subst (λ read. Judges read input due text)
+    (Judges false (front_batch input) input) c.in-Err.fault c.tell_fault.result
+    (λ bad is due text told. subst (λ read. Judges false read input due text)
     (sym (c.in-Err.ensures.bad bad.line bad.reason (ap (λ fault. Err fault) is))) told)
     c.tell_fault.ensures

@@ -1,3 +1,4 @@
+use Rattle.std.proofs.Common.{false}
 use Rattle.result_verdicts.specs.VerdictText.{verdict_text}
 use Rattle.batch_serving.specs.Effects.{Says}
 use Rattle.batch_serving.specs.Outcomes.{outcome_on}
@@ -9,7 +10,7 @@ pub returns-in-Ok : goal.returns-in-Ok
 returns-in-Ok g c =
     let told = c.in-Ok.verdict in
     due_as g.K.Sink.written g.K.Sink.faults c.args.sink.now c.tell_verdict.new.sink
-    (Says (outcome_on told) (verdict_text told)) (TellsVerdict c.args.plan.now c.args.result_text.now)
+    (Says (outcome_on told) (verdict_text told)) (TellsVerdict false c.args.plan.now c.args.result_text.now)
     c.tell_verdict.result
     (λ due text says. record {
       verdict = told;
@@ -21,4 +22,4 @@ returns-in-Ok g c =
 pub returns-in-Err : goal.returns-in-Err
 returns-in-Err g c =
     unwritten g.K.Sink.written g.K.Sink.faults c.args.sink.now
-    (TellsVerdict c.args.plan.now c.args.result_text.now)
+    (TellsVerdict false c.args.plan.now c.args.result_text.now)

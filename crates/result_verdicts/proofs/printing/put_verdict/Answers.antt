@@ -10,7 +10,10 @@ pub returns-in-Form : goal.returns-in-Form
 returns-in-Form g c = Puts-same (ap verdict_text (sym c.in-Form.is)) c.put_numbered.ensures
 
 pub returns-in-Journal : goal.returns-in-Journal
-returns-in-Journal g c = Puts-same (ap verdict_text (sym c.in-Journal.is)) c.put_numbered-in-Journal.ensures
+returns-in-Journal g c = Puts-same (ap verdict_text (sym c.in-Journal.is)) c.put_journal.ensures
+
+pub returns-in-Table : goal.returns-in-Table
+returns-in-Table g c = Puts-same (ap verdict_text (sym c.in-Table.is)) c.put_text-in-Table.ensures
 
 pub returns-in-Stamps : goal.returns-in-Stamps
 returns-in-Stamps g c = Puts-same (ap verdict_text (sym c.in-Stamps.is)) c.put_text-in-Stamps.ensures

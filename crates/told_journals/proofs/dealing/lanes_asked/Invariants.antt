@@ -3,5 +3,4 @@ use Rattle.told_journals.specs.Piles.{lanes_from}
 use Rattle.told_journals.proofs.dealing.lanes_asked.Given as goal
 
 abbrev pub invariant-lanes : goal.invariant-lanes
-invariant-lanes l =
-    l.lists.items ++ lanes_from l.contexts l.lane (drop l.lane l.plan.lanes) ≡ lanes_from l.contexts 0 l.plan.lanes
+invariant-lanes l = l.lists.items ++ lanes_from l.lane (drop l.lane l.asks) ≡ lanes_from 0 l.asks

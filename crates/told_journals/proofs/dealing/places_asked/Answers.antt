@@ -4,7 +4,7 @@ use Rattle.std.proofs.lemmas.List.{length-replicate}
 use Rattle.std.proofs.lemmas.Result.{IfOk-weaker}
 use Rattle.call_places.specs.declared.entries.Place.{Place}
 use Rattle.legal_journals.specs.Batches.{Spot}
-use Rattle.due_replies.specs.Asks.{batch_of}
+use Rattle.told_journals.specs.Asks.{batch_from}
 use Rattle.told_journals.specs.Piles.{by_context, joined, asked_on}
 use Rattle.told_journals.proofs.Dealt.{length_by_context, asked_lie}
 use Rattle.told_journals.proofs.dealing.places_asked.Goals as goal
@@ -18,7 +18,7 @@ returns-clause-size c =
 
 pub returns-clause-each : goal.returns-clause-each
 returns-clause-each c =
-    let batch = batch_of c.args.plan.now c.args.contexts.now in
+    let batch = batch_from c.args.asks.now in
     let n = c.args.count in
     let lists = c.deref.ensures.value ∙ c.in_ok-lists.ensures in
     IfOk-weaker c.on_contexts.result _ (λ piles. (k : ℕ) → k < n → slice_index_or piles.items k [] ≡ asked_on batch k)

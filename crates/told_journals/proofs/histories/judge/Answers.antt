@@ -1,16 +1,16 @@
 use Rattle.std.proofs.Common.{◌≡◌, Bool, subst, sym, ◌∙◌}
 use Rattle.std.specs.Result.{IfOk}
-use Rattle.due_replies.specs.Asks.{batch_of}
+use Rattle.told_journals.specs.Asks.{batch_from}
 use Rattle.told_journals.proofs.OneHistory.{none_of_these, as_the_history}
 use Rattle.told_journals.proofs.histories.judge.Goals as goal
 
 pub returns-then-not-given : goal.returns-then-not-given
 returns-then-not-given c =
-    none_of_these (batch_of c.args.plan.now c.args.contexts.now) c.args.journals.now c.args.history.now c.put_journals.new.history c.put_journals.ensures c.requires.size
+    none_of_these (batch_from c.args.asks.now) c.args.journals.now c.args.history.now c.put_journals.new.history c.put_journals.ensures c.requires.size
     (sym c.in_ok-given.ensures ∙ c.if-not-given.true)
 
 pub returns : goal.returns
 returns c =
-    let these = as_the_history (batch_of c.args.plan.now c.args.contexts.now) c.args.journals.now c.args.history.now c.put_journals.new.history c.put_journals.ensures c.requires.size
+    let these = as_the_history (batch_from c.args.asks.now) c.args.journals.now c.args.history.now c.put_journals.new.history c.put_journals.ensures c.requires.size
     (sym c.in_ok-given.ensures ∙ c.if-not-given.false) in
     subst (λ (b : Bool). IfOk c.is_history.result (λ good. good ≡ b)) these c.is_history.ensures

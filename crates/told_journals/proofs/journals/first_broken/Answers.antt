@@ -1,12 +1,12 @@
 use Rattle.std.proofs.Common.{◌<◌, length, ◌∙◌, arith}
-use Rattle.due_replies.specs.Asks.{batch_of}
+use Rattle.told_journals.specs.Asks.{batch_from}
 use Rattle.told_journals.specs.Piles.{asked_on}
 use Rattle.told_journals.proofs.Dealt.{broken_here, broken_later, pile_is}
 use Rattle.told_journals.proofs.journals.first_broken.Goals as goal
 
 pub returns-then-not-legal : goal.returns-then-not-legal
 returns-then-not-legal c =
-    let batch = batch_of c.args.plan.now c.args.contexts.now in
+    let batch = batch_from c.args.asks.now in
     let i = c.journals.number in
     let lt = c.journals-test.true in
     let low : i < length c.args.asked.now = omega (arith, lt, c.requires.asked_size) in
@@ -16,7 +16,7 @@ returns-then-not-legal c =
 
 pub journals-preserved : goal.journals-preserved
 journals-preserved c =
-    let batch = batch_of c.args.plan.now c.args.contexts.now in
+    let batch = batch_from c.args.asks.now in
     let i = c.journals.number in
     let lt = c.journals-test.true in
     let low : i < length c.args.asked.now = omega (arith, lt, c.requires.asked_size) in

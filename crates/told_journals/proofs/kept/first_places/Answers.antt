@@ -2,7 +2,7 @@ use Rattle.std.proofs.Common.{◌<◌, ◌+◌, ◌++◌, List, length, drop, ap
 use Rattle.std.specs.Prelude.{take}
 use Rattle.call_places.specs.declared.entries.Mark.{Mark}
 use Rattle.call_places.specs.declared.entries.Place.{Place}
-use Rattle.due_replies.specs.Asks.{batch_of}
+use Rattle.told_journals.specs.Asks.{batch_from}
 use Rattle.told_journals.specs.Piles.{asked_on, kept_from}
 use Rattle.told_journals.proofs.Dealt.{pile_is}
 use Rattle.told_journals.proofs.KeptPlaces.{keep_next}
@@ -10,7 +10,7 @@ use Rattle.told_journals.proofs.kept.first_places.Goals as goal
 
 pub journals-preserved : goal.journals-preserved
 journals-preserved c =
-    let batch = batch_of c.args.plan.now c.args.contexts.now in
+    let batch = batch_from c.args.asks.now in
     let i = c.journals.number in
     let lt = c.journals-test.true in
     let asked = c.in_ok-asked.asked.items in

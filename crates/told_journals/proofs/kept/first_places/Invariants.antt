@@ -1,8 +1,8 @@
 use Rattle.std.proofs.Common.{◌≡◌, ◌++◌, drop}
-use Rattle.due_replies.specs.Asks.{batch_of}
+use Rattle.told_journals.specs.Asks.{batch_from}
 use Rattle.told_journals.specs.Piles.{kept_from}
 use Rattle.told_journals.proofs.kept.first_places.Given as goal
 
 abbrev pub invariant-journals : goal.invariant-journals
 invariant-journals l =
-    l.kept.items ++ kept_from (batch_of l.plan l.contexts) l.number (drop l.number l.journals) ≡ kept_from (batch_of l.plan l.contexts) 0 l.journals
+    l.kept.items ++ kept_from (batch_from l.asks) l.number (drop l.number l.journals) ≡ kept_from (batch_from l.asks) 0 l.journals

@@ -1,16 +1,15 @@
 use Rattle.std.proofs.Common.{◌+◌, ◌++◌, List, drop, sym, ap, append_assoc, ◌∙◌}
-use Rattle.batch_plans.specs.declared.plan.CallLine.{CallLine}
+use Rattle.told_journals.specs.declared.asks.Asked.{Asked}
 use Rattle.told_journals.specs.Histories.{spots_from}
 use Rattle.told_journals.proofs.Walks.{drop_next}
 use Rattle.told_journals.proofs.spots.spots_on.Goals as goal
 
 pub calls-preserved : goal.calls-preserved
 calls-preserved c =
-    let contexts = c.args.contexts.now in
     let calls = c.args.calls.now in
     let i = c.calls.number in
     let so_far = c.calls.spots.items in
     rw c.in_ok-push_spots.ensures
-    (append_assoc so_far _ (spots_from contexts c.args.lane (i + 1) (drop (i + 1) calls))
-    ∙ ap (λ (calls : List CallLine). so_far ++ spots_from contexts c.args.lane i calls) (sym (drop_next calls i _ c.calls-test.true))
+    (append_assoc so_far _ (spots_from c.args.lane (i + 1) (drop (i + 1) calls))
+    ∙ ap (λ (calls : List Asked). so_far ++ spots_from c.args.lane i calls) (sym (drop_next calls i _ c.calls-test.true))
     ∙ c.calls.invariant)

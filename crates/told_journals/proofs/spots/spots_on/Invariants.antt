@@ -4,4 +4,4 @@ use Rattle.told_journals.proofs.spots.spots_on.Given as goal
 
 abbrev pub invariant-calls : goal.invariant-calls
 invariant-calls l =
-    l.spots.items ++ spots_from l.contexts l.lane l.number (drop l.number l.calls) ≡ spots_from l.contexts l.lane 0 l.calls
+    l.spots.items ++ spots_from l.lane l.number (drop l.number l.calls) ≡ spots_from l.lane 0 l.calls

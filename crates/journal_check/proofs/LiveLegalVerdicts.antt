@@ -1,0 +1,47 @@
+-- The verdict is Legal exactly for the replies that a plan may have whose lanes add and retire
+-- contexts.
+use Rattle.std.proofs.Common.{◌≡◌, ◌↔◌, ℕ, List, Option, sym, ◌∙◌, subst}
+use Rattle.hpke_context.specs.Contexts.{ContextView}
+use Rattle.batch_plans.specs.Limits.{IsWithinLimits}
+use Rattle.batch_plans.specs.declared.plan.Plan.{Plan}
+use Rattle.batch_plans.specs.declared.replies.ContextReply.{ContextReply}
+use Rattle.due_replies.specs.Live.{IsAllowedLive, live_run_text}
+use Rattle.context_table.specs.ReplyTo.{IsLiveReply}
+use Rattle.context_table.proofs.OneSetUp.{one_set_up_lem}
+use Rattle.result_verdicts.specs.declared.verdicts.Verdict.{Verdict}
+use Rattle.result_verdicts.specs.declared.verdicts.Verdict.TheVariants.{Legal}
+use Rattle.result_verdicts.specs.LiveVerdicts.{live_of}
+use Rattle.result_verdicts.proofs.LiveTexts.{live_sound, live_complete_texts}
+use Rattle.journal_check.specs.Verdicts.{IsLiveVerdict}
+
+module _ (plan : Plan) (text : List ℕ) (verdict : Verdict) (within : IsWithinLimits plan) (v : IsLiveVerdict plan text verdict) where
+  legal_reply : verdict ≡ Legal → IsLiveReply plan text
+  legal_reply e =
+      let t = live_sound plan v.keys v.contexts v.standing text within (sym v.is ∙ e) in
+      record {
+        keys = v.keys;
+        contexts = v.contexts;
+        standing = v.standing;
+        set_up = v.set_up;
+        journals = t.0;
+        guesses = t.1;
+        notes = t.2;
+        allowed = t.3;
+        text_is = t.4;
+      }
+
+  reply_legal : IsLiveReply plan text → verdict ≡ Legal
+  reply_legal r =
+      let same = one_set_up_lem plan r.keys v.keys r.contexts v.contexts r.standing v.standing r.set_up v.set_up in
+      v.is
+      ∙ live_complete_texts plan v.keys v.contexts v.standing text within (
+        r.journals,
+        r.guesses,
+        r.notes,
+        subst (λ (replies : List ContextReply). IsAllowedLive (live_of plan replies v.standing r.journals r.guesses r.notes)) same.1
+            (subst (λ (standing : List (Option ContextView)). IsAllowedLive (live_of plan r.contexts standing r.journals r.guesses r.notes)) same.2 r.allowed),
+        r.text_is ∙ (λ i. live_run_text (same.0 i) (live_of plan (same.1 i) (same.2 i) r.journals r.guesses r.notes)),
+      )
+
+  pub legal_iff_live_reply : (verdict ≡ Legal) ↔ IsLiveReply plan text
+  legal_iff_live_reply = (legal_reply, reply_legal)
