@@ -20,12 +20,12 @@ ghost use Rattle.batch_words.specs.Words.{command_of, IsWithin};
 use crate::demonstrating::demonstrate;
 use crate::exchanging::exchange;
 use crate::living::answer_live;
+use crate::rehearsing::rehearse_batch;
 use crate::running::run_batch;
 use aes_gcm::MayCheck;
 use batch_io::{Gate, PureSink, PureSource, Sink, Source};
-use batch_serving::{Outcome, ReadStop, judge, judge_live, read_input, rehearse_batch};
+use batch_serving::{Outcome, ReadStop, judge, judge_live, read_input};
 use batch_words::{Command, read_words};
-use speculative_open::OnThreads;
 use std::alloc::Global;
 use std::sync::Wait;
 use std::thread::Threads;
@@ -51,7 +51,7 @@ fn answer_input<R: Threads + Wait + Sync, K: Sink, G: Gate + Sync>(
             answer_live(rt, alloc, input, *workers, *mult, sink, gate)
         }
         Command::Rehearse { schedule } => {
-            rehearse_batch(&OnThreads::new(rt), alloc, input, schedule.as_slice(), sink)
+            rehearse_batch(rt, alloc, input, schedule.as_slice(), sink)
         }
         Command::Check { mult } => { judge(MayCheck::on_threads(rt), alloc, input, *mult, sink) }
         Command::CheckLive { mult } => {
@@ -130,8 +130,8 @@ fn obey<R: Threads + Wait + Sync, S: Source, K: Sink, G: Gate + Sync>(
 /// `run` and `live` serve the lanes by so many workers as the words ask for, on contexts that they
 /// share, and tell `gate` of each draw, each guess and each call that is answered; so does `demo`, by 4
 /// workers. These three may wait. The other commands tell it nothing. `capsules` answers by 16 threads
-/// at most. The tags of a large opening are tested by threads of their own, in `rehearse` too. Whatever
-/// threads a command starts are joined.
+/// at most, and `rehearse` by 4. The tags of a large opening are tested by threads of their own, in
+/// `rehearse` too. Whatever threads a command starts are joined.
 ///
 /// The input is what the source tells, and the text written what the sink tells; over ends that
 /// tell nothing the clauses speak of the outcomes and the counts of faults alone.

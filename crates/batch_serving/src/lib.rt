@@ -41,4 +41,4 @@ pub use reading::{ReadStop, read_input};
 pub use rehearsing::rehearse_batch;
 pub use running::tell_run;
 pub use setting_up::{Begun, begin};
-pub use telling::{tell_fault, tell_live, tell_report};
+pub use telling::{tell_answers, tell_fault, tell_live, tell_report};

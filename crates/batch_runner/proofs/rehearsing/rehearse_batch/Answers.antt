@@ -1,0 +1,17 @@
+use Rattle.std.proofs.Common.{Err, ap, subst, sym}
+use Rattle.request_frames.specs.Batch.{batch}
+use Rattle.batch_serving.specs.Text.{AnswersBy, IsRehearsal}
+use Rattle.batch_serving.specs.Effects.{Writes}
+use Rattle.batch_serving.proofs.Writing.{bad_told}
+use Rattle.batch_runner.proofs.rehearsing.rehearse_batch.Goals as goal
+
+pub returns-in-Ok : goal.returns-in-Ok
+returns-in-Ok g c =
+    subst (λ read. Writes g.K.Sink.written g.K.Sink.faults c.args.sink.now c.reply_to-outcome.new.sink
+    (AnswersBy (IsRehearsal c.args.schedule.now) read) c.reply_to-outcome.result) (sym c.in-Ok.ensures.plan) c.reply_to-outcome.ensures
+
+pub returns-in-Err : goal.returns-in-Err
+returns-in-Err g c =
+    bad_told g.K.Sink.written g.K.Sink.faults c.args.sink.now c.tell_fault.new.sink (IsRehearsal c.args.schedule.now)
+    (batch c.args.input.now) c.in-Err.fault c.tell_fault.result
+    (λ line reason e. c.in-Err.ensures.bad line reason (ap (λ fault. Err fault) e)) c.tell_fault.ensures
