@@ -62,8 +62,8 @@ fn the_calling_thread_writes_the_same_texts(rt: HostRuntime) {
 #[test]
 fn live_and_demo_need_threads(rt: HostRuntime) {
     for case in &OTHERS {
-        let (end, text) = match case.words[0] {
-            "live" | "demo" => (Err(ThreadsNeeded), ""),
+        let (end, text) = match case.words.first().copied() {
+            Some("live") | Some("demo") => (Err(ThreadsNeeded), ""),
             _ => (Ok(case.outcome), case.text),
         };
         assert_alone(
