@@ -1,6 +1,6 @@
 //! Rows that the calling thread serves alone: tests of batch_serving.
 
-use crate::batch_runner_tests::other_runs::BAD;
+use crate::batch_runner_tests::other_runs::{BAD, OTHERS};
 use crate::batch_runner_tests::runs::{OPENINGS_AND_SCHEDULES, RUNS, Run};
 use crate::batch_runner_tests::words_of;
 use crate::expected::assert_same;
@@ -56,5 +56,24 @@ fn the_calling_thread_writes_the_same_texts(rt: HostRuntime) {
             reason: case.reason,
         });
         assert_alone(&rt, alloc, &["run"], case.input, bad, case.reply, case.what);
+    }
+}
+
+#[test]
+fn live_and_demo_need_threads(rt: HostRuntime) {
+    for case in &OTHERS {
+        let (end, text) = match case.words.first().copied() {
+            Some("live") | Some("demo") => (Err(ThreadsNeeded), ""),
+            _ => (Ok(case.outcome), case.text),
+        };
+        assert_alone(
+            &rt,
+            rt.alloc(),
+            case.words,
+            case.input,
+            end,
+            text,
+            case.source,
+        );
     }
 }
