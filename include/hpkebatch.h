@@ -46,7 +46,9 @@ extern "C" {
 #define HPKEBATCH_PSKPAIR 16    /* one of psk and psk_id is missing */
 #define HPKEBATCH_PSKEXTRA 17   /* mode base takes no psk */
 #define HPKEBATCH_PSKMISSING 18 /* mode psk needs a psk */
-#define HPKEBATCH_THREADS 19    /* threads alone serve the command: `live` and `demo` */
+#define HPKEBATCH_SHORT 20      /* a part of the message is missing */
+#define HPKEBATCH_HEADER 21     /* the header names another key, or algorithms that don't encrypt here */
+#define HPKEBATCH_NONCESIZE 22  /* the nonce of the response has another size than its AEAD asks for */
 
 /* ---- AES-128-GCM and AES-256-GCM (NIST SP 800-38D). A key has 16 or 32 bytes, a tag 16. Never seal two texts with
  * one key and nonce. */
@@ -181,6 +183,53 @@ uint32_t hpkebatch_context_seal_all(hpkebatch_context *context, const hpkebatch_
 uint32_t hpkebatch_context_open_all(hpkebatch_context *context, const hpkebatch_bytes *aads, size_t aads_len,
                                     const hpkebatch_bytes *cts, size_t cts_len, uint8_t *out, size_t out_len);
 
+/* ---- Oblivious HTTP (RFC 9458, 4): a client asks, the gateway answers, the client takes. A text has at most 1,048,576
+ * bytes. What a text means is not known here: binary HTTP is the caller's. */
+
+#define HPKEBATCH_SNTRUP761_REQUEST_SIZE 1062 /* of a request beside its text: header, encapsulation and tag */
+#define HPKEBATCH_SNTRUP857_REQUEST_SIZE 1207
+#define HPKEBATCH_AES_128_NONCE_SIZE 16 /* of a response; beside its text a response has this and a tag */
+#define HPKEBATCH_AES_256_NONCE_SIZE 32
+
+/* What a client keeps of a request, to take its response with: a call of ask fills it. Keep it secret, and change
+ * nothing. */
+typedef struct hpkebatch_asked {
+    uint16_t key_id;           /* by which the gateway finds its key */
+    uint16_t kem, kdf, aead;   /* the suite, by the ids of RFC 9180, 7 */
+    uint8_t shared_secret[32]; /* what the KEM gave */
+    uint8_t enc[1184];         /* its encapsulation, and zero bytes behind it */
+} hpkebatch_asked;
+
+/* Reads a seed, the gateway's public key, its identifier, the ids of a KDF and of an AEAD that encrypts, and a text;
+ * writes to request, whose size is that of text and HPKEBATCH_SNTRUP..._REQUEST_SIZE together, and what the client
+ * keeps to asked. Use a stream of a seed for one request. */
+uint32_t hpkebatch_sntrup761_ask(hpkebatch_asked *asked, const uint8_t seed[32], uint64_t stream,
+                                 const uint8_t public_key[1158], uint8_t key_id, uint16_t kdf, uint16_t aead,
+                                 const uint8_t *text, size_t text_len, uint8_t *request, size_t request_len);
+uint32_t hpkebatch_sntrup857_ask(hpkebatch_asked *asked, const uint8_t seed[32], uint64_t stream,
+                                 const uint8_t public_key[1322], uint8_t key_id, uint16_t kdf, uint16_t aead,
+                                 const uint8_t *text, size_t text_len, uint8_t *request, size_t request_len);
+
+/* Reads a secret key, its identifier, a request, a nonce of 16 random bytes for AES-128-GCM or 32 for AES-256-GCM, and
+ * a text; if the request's tag holds, writes what was asked to question, whose size is that of request without
+ * HPKEBATCH_SNTRUP..._REQUEST_SIZE, and the nonce, the text and a tag to response. The first refusal that applies is
+ * answered: HPKEBATCH_SHORT, HPKEBATCH_WRONG_USAGE for sizes, HPKEBATCH_FORM, HPKEBATCH_HEADER, HPKEBATCH_NONCESIZE,
+ * HPKEBATCH_FAILED. To read a request before you answer it, answer it with no text first. Draw a nonce for each answer:
+ * one nonce for two texts gives both away. */
+uint32_t hpkebatch_sntrup761_answer(const uint8_t secret_key[1763], uint8_t key_id, const uint8_t *request,
+                                    size_t request_len, const uint8_t *nonce, size_t nonce_len, const uint8_t *text,
+                                    size_t text_len, uint8_t *question, size_t question_len, uint8_t *response,
+                                    size_t response_len);
+uint32_t hpkebatch_sntrup857_answer(const uint8_t secret_key[1999], uint8_t key_id, const uint8_t *request,
+                                    size_t request_len, const uint8_t *nonce, size_t nonce_len, const uint8_t *text,
+                                    size_t text_len, uint8_t *question, size_t question_len, uint8_t *response,
+                                    size_t response_len);
+
+/* Reads what the client kept, and a response; writes its text to text, whose size is that of response without a nonce
+ * and a tag, if the tag holds. HPKEBATCH_SHORT: the response has no room for these. */
+uint32_t hpkebatch_take(const hpkebatch_asked *asked, const uint8_t *response, size_t response_len, uint8_t *text,
+                        size_t text_len);
+
 /* ---- batches and replies of the command (docs/FORMAT.md) */
 
 /* Reads a text. HPKEBATCH_DONE: it is a batch of `run`, and nothing is written. HPKEBATCH_BAD_BATCH: it isn't; out gets
@@ -192,26 +241,28 @@ uint32_t hpkebatch_read(const uint8_t *input, size_t input_len, uint8_t *out, si
  * HPKEBATCH_BAD_BATCH: the batch isn't one. HPKEBATCH_WRONG_USAGE: the reply has more than 67,108,864 bytes. */
 uint32_t hpkebatch_check(const uint8_t *batch, size_t batch_len, const uint8_t *reply, size_t reply_len);
 
-/* Does on the calling thread what the command does: reads words, those of its command line (`run`, `rehearse`, `check`
- * or `capsules`, with their options), ASCII text with one space between each two, as "run --mult lanes", and its input,
- * of any size. `run` has one of the replies that it may give, however many
- * workers are asked for.
+/* Does on the calling thread what the command does: reads words, those of its command line, ASCII text with one space
+ * between each two, as "run --mult lanes", and its input, of any size. `run` and `live` have one of the replies that they
+ * may give, however many workers are asked for; `demo` takes no input.
  *
  * HPKEBATCH_DONE: out has the text that the command writes, and written its size. HPKEBATCH_BAD_BATCH: out has the line
  * `bad LINE REASON`. HPKEBATCH_BROKEN: `check` told what is wrong with the reply. HPKEBATCH_NO_ROOM: out has fewer bytes
  * than the text, and written gets its size; so a call with no room asks for that. HPKEBATCH_WRONG_USAGE: the words are
- * none of the command's. HPKEBATCH_THREADS: they ask for `live` or `demo`. The bytes of out behind a text stay as they
- * were, and so do all of them where there is none. */
+ * none of the command's. The bytes of out behind a text stay as they were, and so do all of them where there is none. */
 uint32_t hpkebatch_serve(const uint8_t *words, size_t words_len, const uint8_t *input, size_t input_len, uint8_t *out,
                          size_t out_room, size_t *written);
 
-/* The struct is laid out as the library has it. */
+/* The structs are laid out as the library has them. */
 #if defined(__cplusplus) && __cplusplus >= 201103L
 static_assert(sizeof(hpkebatch_context) == 136, "hpkebatch_context has 136 bytes");
 static_assert(offsetof(hpkebatch_context, exporter_secret) == 68, "exporter_secret begins at byte 68");
+static_assert(sizeof(hpkebatch_asked) == 1224, "hpkebatch_asked has 1224 bytes");
+static_assert(offsetof(hpkebatch_asked, enc) == 40, "enc begins at byte 40");
 #elif defined(__STDC_VERSION__) && __STDC_VERSION__ >= 201112L
 _Static_assert(sizeof(hpkebatch_context) == 136, "hpkebatch_context has 136 bytes");
 _Static_assert(offsetof(hpkebatch_context, exporter_secret) == 68, "exporter_secret begins at byte 68");
+_Static_assert(sizeof(hpkebatch_asked) == 1224, "hpkebatch_asked has 1224 bytes");
+_Static_assert(offsetof(hpkebatch_asked, enc) == 40, "enc begins at byte 40");
 #endif
 
 #ifdef __cplusplus

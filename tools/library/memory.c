@@ -62,6 +62,8 @@ static const uint8_t seed[32] = {7};
 static struct {
     uint8_t pk[1322], sk[1999], enc[1184], session[32];
     hpkebatch_context context;
+    hpkebatch_asked asked;
+    uint8_t request[HPKEBATCH_SNTRUP857_REQUEST_SIZE + 3], question[3], response[16 + 4 + 16], reply[4];
     uint8_t out[1024];
     size_t written;
 } lent, before, after;
@@ -89,39 +91,68 @@ static uint32_t call(int which)
     case 4:
         return hpkebatch_sntrup761_recipient(&lent.context, lent.enc, lent.sk, 0, 1, 1, 9, none, 0, none, 0, none, 0);
     case 5:
-        return hpkebatch_sntrup857_keygen(seed, 0, lent.pk, lent.sk);
+        return hpkebatch_sntrup761_ask(&lent.asked, seed, 2, lent.pk, 7, 1, 1, (const uint8_t *)"ask", 3, lent.request,
+                                       HPKEBATCH_SNTRUP761_REQUEST_SIZE + 3);
     case 6:
-        return hpkebatch_sntrup857_encap(seed, 1, lent.pk, lent.enc, lent.session);
+        return hpkebatch_sntrup761_answer(lent.sk, 7, lent.request, HPKEBATCH_SNTRUP761_REQUEST_SIZE + 3, seed, 16,
+                                          (const uint8_t *)"told", 4, lent.question, 3, lent.response,
+                                          sizeof lent.response);
     case 7:
-        return hpkebatch_sntrup857_decap(lent.enc, lent.sk, lent.session);
+        return hpkebatch_take(&lent.asked, lent.response, sizeof lent.response, lent.reply, 4);
     case 8:
-        return hpkebatch_sntrup857_sender(&lent.context, lent.enc, seed, 1, lent.pk, 0, 1, 1, 9, none, 0, none, 0, none, 0);
+        return hpkebatch_sntrup857_keygen(seed, 0, lent.pk, lent.sk);
     case 9:
-        return hpkebatch_sntrup857_recipient(&lent.context, lent.enc, lent.sk, 0, 1, 1, 9, none, 0, none, 0, none, 0);
+        return hpkebatch_sntrup857_encap(seed, 1, lent.pk, lent.enc, lent.session);
     case 10:
+        return hpkebatch_sntrup857_decap(lent.enc, lent.sk, lent.session);
+    case 11:
+        return hpkebatch_sntrup857_sender(&lent.context, lent.enc, seed, 1, lent.pk, 0, 1, 1, 9, none, 0, none, 0, none, 0);
+    case 12:
+        return hpkebatch_sntrup857_recipient(&lent.context, lent.enc, lent.sk, 0, 1, 1, 9, none, 0, none, 0, none, 0);
+    case 13:
+        return hpkebatch_sntrup857_ask(&lent.asked, seed, 2, lent.pk, 7, 1, 1, (const uint8_t *)"ask", 3, lent.request,
+                                       HPKEBATCH_SNTRUP857_REQUEST_SIZE + 3);
+    case 14:
+        return hpkebatch_sntrup857_answer(lent.sk, 7, lent.request, HPKEBATCH_SNTRUP857_REQUEST_SIZE + 3, seed, 16,
+                                          (const uint8_t *)"told", 4, lent.question, 3, lent.response,
+                                          sizeof lent.response);
+    case 15:
+        return hpkebatch_take(&lent.asked, lent.response, sizeof lent.response, lent.reply, 4);
+    case 16:
         return serve("run", seal_batch);
     default:
         return serve("check", judged);
     }
 }
 
-#define CALLS 12
+#define CALLS 18
 
 /* Other bytes where the call will write. */
 static void spoil(int which)
 {
-    if (which % 5 == 0) {
+    int part = which < 16 ? which % 8 : 8;
+    if (part == 0) {
         memset(lent.pk, 7, sizeof lent.pk);
         memset(lent.sk, 7, sizeof lent.sk);
     }
-    if (which % 5 == 1 || which % 5 == 3)
+    if (part == 1 || part == 3)
         memset(lent.enc, 7, sizeof lent.enc);
-    if (which % 5 == 1 || which % 5 == 2)
+    if (part == 1 || part == 2)
         memset(lent.session, 7, sizeof lent.session);
-    if (which >= 10)
-        memset(lent.out, 7, sizeof lent.out);
-    if (which % 5 >= 3)
+    if (part == 3 || part == 4)
         memset(&lent.context, 7, sizeof lent.context);
+    if (part == 5) {
+        memset(&lent.asked, 7, sizeof lent.asked);
+        memset(lent.request, 7, sizeof lent.request);
+    }
+    if (part == 6) {
+        memset(lent.question, 7, sizeof lent.question);
+        memset(lent.response, 7, sizeof lent.response);
+    }
+    if (part == 7)
+        memset(lent.reply, 7, sizeof lent.reply);
+    if (part == 8)
+        memset(lent.out, 7, sizeof lent.out);
 }
 
 static long refusals, survived;

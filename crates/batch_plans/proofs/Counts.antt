@@ -7,7 +7,7 @@ use Rattle.std.proofs.lemmas.List.Sums.{sum_by_more_le_part, sum_by-le-sum_by}
 use Rattle.batch_plans.specs.declared.plan.ContextLine.{ContextLine}
 use Rattle.batch_plans.specs.declared.plan.CallLine.{CallLine}
 use Rattle.batch_plans.specs.Limits.{items_of, all_items}
-use Rattle.batch_plans.specs.Calls.{served_on, items_at, items_on, all_items_on}
+use Rattle.batch_plans.specs.Room.{served_on, items_at, items_on, all_items_on}
 
 -- a call that no context serves adds to no count
 pub not_served : (contexts : List ContextLine) (limits : List ℕ) (call : CallLine) (k : ℕ)

@@ -33,17 +33,12 @@ placed_within plan items pool (calls.UnsealAll context first count) within (is, 
     (position_is_number plan context within is, some, few, there)
 placed_within plan items pool (calls.Export context exporter size) within (is, bytes, short) =
     (position_is_number plan context within is, bytes, short)
-placed_within plan items pool (calls.Add name) within is = is
-placed_within plan items pool (calls.Retire name) within is = is
+placed_within plan items pool call within is = is
 
 placed_most : (plan : Plan) (items : List Item) (call : CallLine)
     → most_room items (at_position plan call) ≡ most_room items call
-placed_most plan items (calls.Seal context item) = refl
-placed_most plan items (calls.Unseal context item) = refl
-placed_most plan items (calls.UnsealAll context first count) = refl
-placed_most plan items (calls.Export context exporter size) = refl
 placed_most plan items (calls.Add name) = refl
-placed_most plan items (calls.Retire name) = refl
+placed_most plan items call = refl
 
 -- a count of each call that stays at its place
 module _ (plan : Plan) (f : CallLine → ℕ) (same : (call : CallLine) → f (at_position plan call) ≡ f call) where
@@ -99,12 +94,8 @@ live_lane_within plan within i d lt =
 -- ---- their items
 
 placed_items : (plan : Plan) (call : CallLine) → items_of (at_position plan call) ≡ items_of call
-placed_items plan (calls.Seal context item) = refl
-placed_items plan (calls.Unseal context item) = refl
-placed_items plan (calls.UnsealAll context first count) = refl
-placed_items plan (calls.Export context exporter size) = refl
 placed_items plan (calls.Add name) = refl
-placed_items plan (calls.Retire name) = refl
+placed_items plan call = refl
 
 -- lanes of calls with their places have as many items
 pub all_placed_items : (plan : Plan) (lanes : List (List CallLine))
@@ -112,21 +103,13 @@ pub all_placed_items : (plan : Plan) (lanes : List (List CallLine))
 all_placed_items plan lanes = all_placed_sum plan items_of (placed_items plan) lanes
 
 placed_size : (plan : Plan) (call : CallLine) → size_of (at_position plan call) ≡ size_of call
-placed_size plan (calls.Seal context item) = refl
-placed_size plan (calls.Unseal context item) = refl
-placed_size plan (calls.UnsealAll context first count) = refl
-placed_size plan (calls.Export context exporter size) = refl
 placed_size plan (calls.Add name) = refl
-placed_size plan (calls.Retire name) = refl
+placed_size plan call = refl
 
 placed_text : (plan : Plan) (items : List Item) (call : CallLine)
     → text_size items (at_position plan call) ≡ text_size items call
-placed_text plan items (calls.Seal context item) = refl
-placed_text plan items (calls.Unseal context item) = refl
-placed_text plan items (calls.UnsealAll context first count) = refl
-placed_text plan items (calls.Export context exporter size) = refl
 placed_text plan items (calls.Add name) = refl
-placed_text plan items (calls.Retire name) = refl
+placed_text plan items call = refl
 
 -- the plan whose calls have their places is within the limits
 pub all_live_within : (plan : Plan) → IsWithinLimits plan → IsWithinLimits (all_live plan)
@@ -176,8 +159,7 @@ plain_call plan (calls.UnsealAll context first count) none plain =
     ap (λ at. calls.UnsealAll at first count) (plain_position plan context none plain)
 plain_call plan (calls.Export context exporter size) none plain =
     ap (λ at. calls.Export at exporter size) (plain_position plan context none plain)
-plain_call plan (calls.Add name) none plain = absurd plain
-plain_call plan (calls.Retire name) none plain = absurd plain
+plain_call plan call none plain = absurd plain
 
 -- a list of which each element stays under f
 map_stays : {X : Type 0} (f : X → X) (xs : List X) → All (λ x. f x ≡ x) xs → map f xs ≡ xs

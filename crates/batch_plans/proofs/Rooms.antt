@@ -17,32 +17,20 @@ use Rattle.batch_plans.specs.Room.{opened_room, served_room, served_batches, ser
 -- the replies to a call that is served: no more bytes than its texts with a tag each, and its LEN
 pub served_room-le : (items : List Item) (call : CallLine)
     → served_room items call ≤ most_room items call
-served_room-le items (calls.Seal context item) = omega arith
-served_room-le items (calls.Unseal context item) = omega arith
 served_room-le items (calls.UnsealAll context first count) =
     let named = items_from items first count in
     omega (arith, sum_by-le-sum_by opened_room (λ item. item.text.len) named (λ item. omega arith))
-served_room-le items (calls.Export context exporter size) = omega arith
-served_room-le items (calls.Add name) = omega arith
-served_room-le items (calls.Retire name) = omega arith
+served_room-le items call = omega arith
 
 -- a call within the limits has an item
 pub has_item : (items pool : ℕ) (call : CallLine) → IsCallWithin items pool call
     → 1 ≤ items_of call
-has_item items pool (calls.Seal context item) within = omega arith
-has_item items pool (calls.Unseal context item) within = omega arith
-has_item items pool (calls.UnsealAll context first count) within = omega arith
-has_item items pool (calls.Export context exporter size) within = omega arith
 has_item items pool (calls.Add name) within = omega arith
-has_item items pool (calls.Retire name) within = omega arith
+has_item items pool call within = omega arith
 
 served_batches-le : (call : CallLine) → served_batches call ≤ 1
-served_batches-le (calls.Seal context item) = omega arith
-served_batches-le (calls.Unseal context item) = omega arith
-served_batches-le (calls.UnsealAll context first count) = omega arith
-served_batches-le (calls.Export context exporter size) = omega arith
 served_batches-le (calls.Add name) = omega arith
-served_batches-le (calls.Retire name) = omega arith
+served_batches-le call = omega arith
 
 -- a choice is within what bounds both
 served_or-le : (refused : Option CallRefusal) (a b most : ℕ) → a ≤ most → b ≤ most

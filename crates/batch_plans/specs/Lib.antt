@@ -1,3 +1,4 @@
+pub mod KeyLines
 pub mod Limits
 pub mod Names
 pub mod Calls

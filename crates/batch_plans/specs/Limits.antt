@@ -6,7 +6,9 @@ use Rattle.call_places.specs.declared.spans.Item.{Item}
 use Rattle.call_places.specs.Spans.{IsInPool}
 use Rattle.batch_plans.specs.declared.plan.Plan.{Plan}
 use Rattle.batch_plans.specs.declared.plan.KeyLine.{KeyLine}
-use Rattle.batch_plans.specs.declared.plan.KeyLine.TheVariants as keys
+use Rattle.batch_plans.specs.declared.plan.KeySource.{KeySource}
+use Rattle.batch_plans.specs.declared.plan.KeySource.TheVariants as sources
+use Rattle.batch_plans.specs.KeyLines.{source_of}
 use Rattle.batch_plans.specs.declared.plan.EncField.{EncField}
 use Rattle.batch_plans.specs.declared.plan.EncField.TheVariants as encs
 use Rattle.batch_plans.specs.declared.plan.ContextKind.{ContextKind}
@@ -14,6 +16,8 @@ use Rattle.batch_plans.specs.declared.plan.ContextKind.TheVariants as kinds
 use Rattle.batch_plans.specs.declared.plan.ContextLine.{ContextLine}
 use Rattle.batch_plans.specs.declared.plan.CallLine.{CallLine}
 use Rattle.batch_plans.specs.declared.plan.CallLine.TheVariants as calls
+use Rattle.batch_plans.specs.Calls.{context_of}
+pub use Rattle.batch_plans.specs.Calls.{items_of, size_of}
 
 -- the whole input
 abbrev pub most_input : ℕ
@@ -56,24 +60,6 @@ most_ciphertext = 1048592
 abbrev pub first_name : ℕ
 first_name = 65536
 
--- the items of a call; a line that adds or retires a context counts as one
-abbrev pub items_of : CallLine → ℕ
-items_of (calls.Seal context item) = 1
-items_of (calls.Unseal context item) = 1
-items_of (calls.UnsealAll context first count) = count
-items_of (calls.Export context exporter size) = 1
-items_of (calls.Add name) = 1
-items_of (calls.Retire name) = 1
-
--- the LEN of a call
-abbrev pub size_of : CallLine → ℕ
-size_of (calls.Seal context item) = 0
-size_of (calls.Unseal context item) = 0
-size_of (calls.UnsealAll context first count) = 0
-size_of (calls.Export context exporter size) = size
-size_of (calls.Add name) = 0
-size_of (calls.Retire name) = 0
-
 -- so many of the plan's items, from this one on
 abbrev pub items_from : List Item → ℕ → ℕ → List Item
 items_from items first count = take count (drop first items)
@@ -84,9 +70,7 @@ text_size items (calls.Seal context item) = item.text.len
 text_size items (calls.Unseal context item) = item.text.len
 text_size items (calls.UnsealAll context first count) =
     sum_by (λ item. item.text.len) (items_from items first count)
-text_size items (calls.Export context exporter size) = 0
-text_size items (calls.Add name) = 0
-text_size items (calls.Retire name) = 0
+text_size items call = 0
 
 -- the items in all lanes
 abbrev pub all_items : List (List CallLine) → ℕ
@@ -112,14 +96,15 @@ pub record IsItemWithin (most pool : ℕ) (item : Item) : Type 0 where
   pub aad : IsField most_field pool item.aad
   pub text : IsField most pool item.text
 
--- a key line over a pool of this length; a pair is made from a seed
+-- where a key comes from, over a pool of this length; a pair is made from a seed
+abbrev pub IsSourceWithin : Option (List ℕ) → ℕ → KeySource → Type 0
+IsSourceWithin seed pool sources.Generate = IsSome seed
+IsSourceWithin seed pool (sources.Secret bytes) = IsField most_field pool bytes
+IsSourceWithin seed pool (sources.Peer bytes) = IsField most_field pool bytes
+
+-- a key line over a pool of this length
 abbrev pub IsKeyWithin : Option (List ℕ) → ℕ → KeyLine → Type 0
-IsKeyWithin seed pool keys.Generate = IsSome seed
-IsKeyWithin seed pool (keys.Secret bytes) = IsField most_field pool bytes
-IsKeyWithin seed pool (keys.Peer bytes) = IsField most_field pool bytes
-IsKeyWithin seed pool keys.Generate857 = IsSome seed
-IsKeyWithin seed pool (keys.Secret857 bytes) = IsField most_field pool bytes
-IsKeyWithin seed pool (keys.Peer857 bytes) = IsField most_field pool bytes
+IsKeyWithin seed pool line = IsSourceWithin seed pool (source_of line)
 
 -- ENC over a pool of this length
 abbrev pub IsEncWithin : ℕ → EncField → Type 0
@@ -146,7 +131,8 @@ pub record IsContextWithin (seed : Option (List ℕ)) (pool : ℕ) (line : Conte
 abbrev pub IsNumber : ℕ → Type 0
 IsNumber context = context < 2 * first_name
 
--- a call line over so many items and a pool of this length
+-- a call line over so many items and a pool of this length; the K of one that adds or retires a
+-- context
 abbrev pub IsCallWithin : ℕ → ℕ → CallLine → Type 0
 IsCallWithin items pool (calls.Seal context item) =
     IsNumber context × IsItemWithin most_plaintext pool item
@@ -156,8 +142,7 @@ IsCallWithin items pool (calls.UnsealAll context first count) =
     IsNumber context × (1 ≤ count) × (count ≤ most_opening) × (first + count ≤ items)
 IsCallWithin items pool (calls.Export context exporter size) =
     IsNumber context × IsField most_field pool exporter × (size ≤ 65535)
-IsCallWithin items pool (calls.Add name) = name < first_name
-IsCallWithin items pool (calls.Retire name) = name < first_name
+IsCallWithin items pool call = context_of call < first_name
 
 -- the counts of a plan, and each of its lines. The texts of its calls share no byte of the pool
 pub record IsWithinLimits (plan : Plan) : Type 0 where
@@ -180,12 +165,9 @@ pub record IsWithinLimits (plan : Plan) : Type 0 where
 
 -- a call on the context of a context line
 abbrev pub IsPlainCall : CallLine → Type 0
-IsPlainCall (calls.Seal context item) = context < first_name
-IsPlainCall (calls.Unseal context item) = context < first_name
-IsPlainCall (calls.UnsealAll context first count) = context < first_name
-IsPlainCall (calls.Export context exporter size) = context < first_name
 IsPlainCall (calls.Add name) = ⊥
 IsPlainCall (calls.Retire name) = ⊥
+IsPlainCall call = context_of call < first_name
 
 -- no line adds or retires a context, and no call names one that is added
 pub record IsPlain (plan : Plan) : Type 0 where

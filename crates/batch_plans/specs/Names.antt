@@ -3,7 +3,7 @@
 use Rattle.std.specs.Prelude.{ℕ, ◌+◌, ◌-◌, nat_lt, length, map, if◌then◌else◌}
 use Rattle.batch_plans.specs.declared.plan.Plan.{Plan}
 use Rattle.batch_plans.specs.declared.plan.CallLine.{CallLine}
-use Rattle.batch_plans.specs.declared.plan.CallLine.TheVariants.{Seal, Unseal, UnsealAll, Export, Add, Retire}
+use Rattle.batch_plans.specs.declared.plan.CallLine.TheVariants.{Seal, Unseal, UnsealAll, Export}
 use Rattle.batch_plans.specs.Limits.{first_name}
 
 -- the context lines of a plan: all contexts but those that are added
@@ -24,8 +24,7 @@ at_position plan (Seal context item) = Seal (position plan context) item
 at_position plan (Unseal context item) = Unseal (position plan context) item
 at_position plan (UnsealAll context first count) = UnsealAll (position plan context) first count
 at_position plan (Export context exporter size) = Export (position plan context) exporter size
-at_position plan (Add name) = Add name
-at_position plan (Retire name) = Retire name
+at_position plan call = call
 
 -- the plan where each context that is named may be called
 abbrev pub all_live : Plan → Plan

@@ -1,12 +1,14 @@
 -- The room for the replies and the journals of a plan. Sizes are in bytes.
-use Rattle.std.specs.Prelude.{ℕ, ◌+◌, ◌-◌, ◌*◌, ◌<◌, ◌^◌, List, length, map, sum_by, replicate, All, Option, Some, None, []}
+use Rattle.std.specs.Prelude.{ℕ, ◌+◌, ◌-◌, ◌*◌, ◌<◌, ◌^◌, ◌==◌, Bool, true, false, List, length, map, sum_by, replicate, All, Option, Some, None, [], if◌then◌else◌}
 use Rattle.std.specs.List.{range_with_len}
 use Rattle.call_places.specs.declared.spans.Item.{Item}
 use Rattle.call_places.specs.declared.entries.Mark.{Mark}
 use Rattle.batch_plans.specs.declared.plan.Plan.{Plan}
 use Rattle.batch_plans.specs.declared.plan.ContextLine.{ContextLine}
 use Rattle.batch_plans.specs.declared.plan.CallLine.{CallLine}
-use Rattle.batch_plans.specs.declared.plan.CallLine.TheVariants.{Seal, Unseal, UnsealAll, Export, Add, Retire}
+use Rattle.batch_plans.specs.declared.plan.CallKind.{CallKind}
+use Rattle.batch_plans.specs.declared.plan.CallKind.TheVariants as kinds
+use Rattle.batch_plans.specs.declared.plan.CallLine.TheVariants.{Seal, Unseal, UnsealAll}
 use Rattle.batch_plans.specs.declared.replies.KeyReply.{KeyReply}
 use Rattle.batch_plans.specs.declared.replies.ContextReply.{ContextReply}
 use Rattle.batch_plans.specs.declared.replies.CallRefusal.{CallRefusal}
@@ -15,7 +17,7 @@ use Rattle.batch_plans.specs.declared.replies.Batch.{Batch}
 use Rattle.batch_plans.specs.declared.replies.LaneAnswers.{LaneAnswers}
 use Rattle.batch_plans.specs.declared.replies.Answers.{Answers}
 use Rattle.batch_plans.specs.Limits.{items_of, items_from, size_of, text_size, IsCallWithin}
-use Rattle.batch_plans.specs.Calls.{refusal, all_items_on}
+use Rattle.batch_plans.specs.Calls.{kind_of, context_of, keeps_guess, refusal}
 
 -- Nt of both AES-GCM suites (RFC 9180, 7.3)
 abbrev pub tag_size : ℕ
@@ -33,18 +35,11 @@ served_room items (Seal context item) = item.text.len + tag_size
 served_room items (Unseal context item) = opened_room item
 served_room items (UnsealAll context first count) =
     sum_by opened_room (items_from items first count)
-served_room items (Export context exporter size) = size
-served_room items (Add name) = 0
-served_room items (Retire name) = 0
+served_room items call = size_of call
 
--- an opening of several messages keeps a guess
+-- the guesses of a call that is served
 abbrev pub served_batches : CallLine → ℕ
-served_batches (Seal context item) = 0
-served_batches (Unseal context item) = 0
-served_batches (UnsealAll context first count) = 1
-served_batches (Export context exporter size) = 0
-served_batches (Add name) = 0
-served_batches (Retire name) = 0
+served_batches call = if keeps_guess call then 1 else 0
 
 -- what a call has where it is served, and what it has where it is refused
 abbrev pub served_or : Option CallRefusal → ℕ → ℕ → ℕ
@@ -65,6 +60,40 @@ call_replies plan export_limits call =
 abbrev pub call_batches : Plan → List ℕ → CallLine → ℕ
 call_batches plan export_limits call =
     served_or (refusal plan.contexts export_limits call) (served_batches call) 0
+
+-- ---- the seals and opens of a context
+
+-- a seal and an open take a sequence number of their context for each item (RFC 9180, 5.2)
+abbrev pub takes_numbers : CallKind → Bool
+takes_numbers kinds.Seal = true
+takes_numbers kinds.Open = true
+takes_numbers kind = false
+
+-- a value, where a call is not refused
+abbrev pub if_served : {A : Type 0} → Option CallRefusal → A → Option A
+if_served None value = Some value
+if_served (Some refused) value = None
+
+-- the number of the context that serves a seal or an open
+abbrev pub served_on : List ContextLine → List ℕ → CallLine → Option ℕ
+served_on contexts export_limits call =
+    if takes_numbers (kind_of call)
+    then if_served (refusal contexts export_limits call) (context_of call) else None
+
+-- so many items, where the context that serves them has this number
+abbrev pub items_at : Option ℕ → ℕ → ℕ → ℕ
+items_at None number items = 0
+items_at (Some context) number items = if context == number then items else 0
+
+-- how many items of a call the context of this number seals or opens
+abbrev pub items_on : List ContextLine → List ℕ → ℕ → CallLine → ℕ
+items_on contexts export_limits number call =
+    items_at (served_on contexts export_limits call) number (items_of call)
+
+-- the same, of the calls of all lanes
+abbrev pub all_items_on : List ContextLine → List ℕ → ℕ → List (List CallLine) → ℕ
+all_items_on contexts export_limits number lanes =
+    sum_by (λ lane. sum_by (items_on contexts export_limits number) lane) lanes
 
 -- ---- all of a plan
 

@@ -1,14 +1,68 @@
-//! Which calls are served.
+//! What a call is and has, and which calls are served.
 
 ghost use Rattle.std.specs.Prelude.{◌≡◌, ◌<◌, length, None, MatchOption, IfSome, Some, slice_index};
+ghost use Rattle.batch_plans.specs.Calls.{kind_of, context_of, items_of, size_of, keeps_guess};
 ghost use Rattle.batch_plans.specs.Calls.{cipher_refusal, seal_refusal, open_refusal};
-ghost use Rattle.batch_plans.specs.Calls.{refusal_by, context_of, standing_line, refusal};
-ghost use Rattle.batch_plans.specs.Calls.{served_on};
+ghost use Rattle.batch_plans.specs.Calls.{refusal_by, standing_line, refusal};
+ghost use Rattle.batch_plans.specs.Room.{served_on};
 
-use crate::plan::{CallLine, ContextLine};
+use crate::plan::{CallKind, CallLine, ContextLine};
 use crate::replies::CallRefusal;
 use hkdf_labelled::Aead;
 use key_schedule::Role;
+
+/// What a call does, whatever its form.
+pub fn kind_of(call: &CallLine) -> CallKind
+    ensures { result ≡ kind_of call.now }
+{
+    match *call {
+        CallLine::Seal { .. } => CallKind::Seal,
+        CallLine::Unseal { .. } | CallLine::UnsealAll { .. } => CallKind::Open,
+        CallLine::Export { .. } => CallKind::Export,
+        CallLine::Add { .. } => CallKind::Add,
+        CallLine::Retire { .. } => CallKind::Retire,
+    }
+}
+
+/// CTX, the number of the context that a call names; of an `add` or a `retire`, its K.
+pub fn context_of(call: &CallLine) -> u32
+    ensures { result ≡ context_of call.now }
+{
+    match *call {
+        CallLine::Seal { context, .. }
+        | CallLine::Unseal { context, .. }
+        | CallLine::UnsealAll { context, .. }
+        | CallLine::Export { context, .. } => context,
+        CallLine::Add { name } | CallLine::Retire { name } => name,
+    }
+}
+
+/// How many items a call has. Adding and retiring a context count as one.
+pub fn items_of(call: &CallLine) -> u32
+    ensures { result ≡ items_of call.now }
+{
+    match *call {
+        CallLine::UnsealAll { count, .. } => count,
+        _ => 1,
+    }
+}
+
+/// LEN, how many bytes a call exports; of one that isn't an export 0.
+pub fn size_of(call: &CallLine) -> u32
+    ensures { result ≡ size_of call.now }
+{
+    match *call {
+        CallLine::Export { size, .. } => size,
+        _ => 0,
+    }
+}
+
+/// Whether a call keeps a guess where it is served, as an opening of several messages does.
+pub fn keeps_guess(call: &CallLine) -> bool
+    ensures { result ≡ keeps_guess call.now }
+{
+    matches!(call, CallLine::UnsealAll { .. })
+}
 
 /// Why a call is refused from the batch and its set-up alone; without a refusal it is served.
 ///
@@ -36,12 +90,12 @@ pub fn call_refusal(
 pub fn refusal_by(role: Role, aead: Aead, export_limit: u32, call: &CallLine) -> Option<CallRefusal>
     ensures { result ≡ refusal_by role aead export_limit call.now }
 {
-    match *call {
-        CallLine::Seal { .. } => seal_refusal(role, aead),
-        CallLine::Unseal { .. } | CallLine::UnsealAll { .. } => open_refusal(role, aead),
-        CallLine::Export { size, .. } if size > export_limit => Some(CallRefusal::ExportSize),
-        CallLine::Export { .. } => None,
-        CallLine::Add { .. } | CallLine::Retire { .. } => Some(CallRefusal::NoContext),
+    match kind_of(call) {
+        CallKind::Seal => seal_refusal(role, aead),
+        CallKind::Open => open_refusal(role, aead),
+        CallKind::Export if size_of(call) > export_limit => Some(CallRefusal::ExportSize),
+        CallKind::Export => None,
+        CallKind::Add | CallKind::Retire => Some(CallRefusal::NoContext),
     }
 }
 
@@ -54,29 +108,12 @@ pub(crate) fn served_on(
     ensures number { result ≡ served_on contexts.now export_limits.now call.now }
     ensures there { IfSome result (λ number. number < length contexts.now) }
 {
-    match *call {
-        CallLine::Export { .. } | CallLine::Add { .. } | CallLine::Retire { .. } => None,
-        CallLine::Seal { context, .. }
-        | CallLine::Unseal { context, .. }
-        | CallLine::UnsealAll { context, .. } => {
-            match call_refusal(contexts, export_limits, call) {
-                None => Some(context),
-                Some(_) => None,
-            }
-        }
+    if !kind_of(call).takes_numbers() {
+        return None;
     }
-}
-
-/// CTX, the number of the context that a call names; of an `add` or a `retire`, its K.
-pub fn context_of(call: &CallLine) -> u32
-    ensures { result ≡ context_of call.now }
-{
-    match *call {
-        CallLine::Seal { context, .. }
-        | CallLine::Unseal { context, .. }
-        | CallLine::UnsealAll { context, .. }
-        | CallLine::Export { context, .. } => context,
-        CallLine::Add { name } | CallLine::Retire { name } => name,
+    match call_refusal(contexts, export_limits, call) {
+        None => Some(context_of(call)),
+        Some(_) => None,
     }
 }
 

@@ -4,14 +4,13 @@ ghost use Rattle.std.specs.Prelude.{◌≡◌, ◌+◌, ◌<◌, ◌^◌, ℕ, l
 ghost use Rattle.std.specs.Prelude.{replicate, sum_by, slice_index, IfOk};
 ghost use Rattle.std.specs.List.{range_with_len};
 ghost use Rattle.batch_plans.specs.Limits.{items_of, all_items};
-ghost use Rattle.batch_plans.specs.Calls.{items_on, all_items_on};
+ghost use Rattle.batch_plans.specs.Room.{items_on, all_items_on};
 ghost use Rattle.batch_plans.specs.Room.{blank_mark, journal_room};
 
-use crate::calls::served_on;
-use crate::items::items_of;
-use crate::lists::PlainList;
+use crate::calls::{items_of, served_on};
 use crate::plan::{CallLine, ContextLine, LaneLines};
 use crate::replies::JournalList;
+use byte_strings::PlainList;
 use call_places::{Mark, Place};
 use std::alloc::{AllocError, Global};
 

@@ -4,6 +4,9 @@
 //! lanes of calls (RFC 9180, 5.2 and 5.3). The bytes of its fields, except the seed's, are spans of
 //! one pool. `IsWithinLimits` of `specs/Limits.antt` holds for every plan that a text spells.
 //!
+//! A [`CallLine`] is taken apart in one place: [`kind_of`], [`context_of`], [`items_of`], [`size_of`]
+//! and [`keeps_guess`] say what a call is and has, whatever its form.
+//!
 //! [`call_refusal`] says which calls are served by the contexts that were set up, as `refusal` of
 //! `specs/Calls.antt` defines it. [`Answers`] have room for all replies, guesses and journals
 //! before the first call is answered (`specs/Room.antt`), and a [`LaneProgress`] fills those of one
@@ -19,20 +22,19 @@ mod calls;
 mod items;
 mod journals;
 pub mod limits;
-mod lists;
 mod names;
 mod plan;
 mod progress;
 mod replies;
 mod room;
 
-pub use calls::{call_refusal, context_of, refusal_by};
-pub use items::{items_from, items_of};
-pub use lists::PlainList;
+pub use byte_strings::{ByteList, PlainList};
+pub use calls::{call_refusal, context_of, items_of, keeps_guess, kind_of, refusal_by, size_of};
+pub use items::items_from;
 pub use names::FIRST_NAME;
 pub use plan::{
-    ByteList, CallLine, ContextKind, ContextLine, ContextLines, EncField, ItemList, KeyLine,
-    KeyLines, LaneLines, Plan,
+    CallKind, CallLine, ContextKind, ContextLine, ContextLines, EncField, ItemList, KeyLine,
+    KeyLines, KeySet, KeySource, LaneLines, Plan,
 };
 pub use progress::LaneProgress;
 pub use replies::{

@@ -4,8 +4,8 @@ ghost use Rattle.std.specs.Prelude.{◌≡◌, ◌≤◌, length, map, IfOk};
 ghost use Rattle.batch_plans.specs.Limits.{most_contexts};
 ghost use Rattle.batch_plans.specs.Names.{position, at_position, all_live};
 
-use crate::lists::PlainList;
 use crate::plan::{CallLine, LaneLines, Plan};
+use byte_strings::PlainList;
 use std::alloc::{AllocError, Global};
 
 /// CTX of a context line is below this number, and a call names the context of `add` line K by it
@@ -64,7 +64,7 @@ impl Plan {
                 exporter,
                 size,
             },
-            CallLine::Add { .. } | CallLine::Retire { .. } => *call,
+            _ => *call,
         }
     }
 

@@ -2,14 +2,13 @@
 
 ghost use Rattle.std.specs.Prelude.{◌≡◌};
 ghost use Rattle.batch_plans.specs.Calls.{context_role};
+ghost use Rattle.batch_plans.specs.KeyLines.{key_line, set_of, source_of};
+ghost use Rattle.batch_plans.specs.Room.{takes_numbers};
 
-use crate::lists::PlainList;
+use byte_strings::{ByteList, PlainList};
 use call_places::{Item, Span};
 use hkdf_labelled::{Aead, Kdf};
 use key_schedule::{Mode, Role};
-
-/// Bytes.
-pub type ByteList = PlainList<u8>;
 
 /// The key lines of a batch, which are numbered from 0.
 pub type KeyLines = PlainList<KeyLine>;
@@ -56,6 +55,61 @@ pub enum KeyLine {
     Secret857(Span),
     /// Another's public key of sntrup857.
     Peer857(Span),
+}
+
+/// Where a key comes from.
+#[derive(Clone, Copy, Debug, PartialEq, Eq)]
+pub enum KeySource {
+    /// A pair made from the seed.
+    Generate,
+    /// The pair of this private key.
+    Secret(Span),
+    /// Another's public key.
+    Peer(Span),
+}
+
+/// A parameter set of Streamlined NTRU Prime.
+#[derive(Clone, Copy, Debug, PartialEq, Eq)]
+pub enum KeySet {
+    Sntrup761,
+    Sntrup857,
+}
+
+impl KeyLine {
+    /// The line of a key of this set, from this source.
+    pub fn of(set: KeySet, source: KeySource) -> KeyLine
+        ensures { result ≡ key_line set source }
+    {
+        match (set, source) {
+            (KeySet::Sntrup761, KeySource::Generate) => KeyLine::Generate,
+            (KeySet::Sntrup761, KeySource::Secret(bytes)) => KeyLine::Secret(bytes),
+            (KeySet::Sntrup761, KeySource::Peer(bytes)) => KeyLine::Peer(bytes),
+            (KeySet::Sntrup857, KeySource::Generate) => KeyLine::Generate857,
+            (KeySet::Sntrup857, KeySource::Secret(bytes)) => KeyLine::Secret857(bytes),
+            (KeySet::Sntrup857, KeySource::Peer(bytes)) => KeyLine::Peer857(bytes),
+        }
+    }
+
+    /// The set of the key.
+    pub fn set(&self) -> KeySet
+        ensures { result ≡ set_of self.now }
+    {
+        match *self {
+            KeyLine::Generate857 | KeyLine::Secret857(_) | KeyLine::Peer857(_) => KeySet::Sntrup857,
+            KeyLine::Generate | KeyLine::Secret(_) | KeyLine::Peer(_) => KeySet::Sntrup761,
+        }
+    }
+
+    /// Where the key comes from.
+    pub fn source(&self) -> KeySource
+        ensures { result ≡ source_of self.now }
+    {
+        match *self {
+            KeyLine::Generate | KeyLine::Generate857 => KeySource::Generate,
+            KeyLine::Secret(bytes) | KeyLine::Secret857(bytes) => KeySource::Secret(bytes),
+            KeyLine::Peer(bytes) | KeyLine::Peer857(bytes) => KeySource::Peer(bytes),
+        }
+    }
 }
 
 /// Where a line finds a message: the encapsulation of a recipient's context, or a capsule.
@@ -141,4 +195,28 @@ pub enum CallLine {
     Retire {
         name: u32,
     },
+}
+
+/// What a call does, whatever its form.
+#[derive(Clone, Copy, Debug, PartialEq, Eq)]
+pub enum CallKind {
+    /// `ContextS.Seal` (RFC 9180, 5.2).
+    Seal,
+    /// `ContextR.Open` (RFC 9180, 5.2), of one item or of several.
+    Open,
+    /// `Context.Export` (RFC 9180, 5.3).
+    Export,
+    /// A context may be called from here on.
+    Add,
+    /// A context may not be called from here on.
+    Retire,
+}
+
+impl CallKind {
+    /// Whether each item takes a sequence number of the context, as a seal and an open do.
+    pub fn takes_numbers(self) -> bool
+        ensures { result ≡ takes_numbers self }
+    {
+        matches!(self, CallKind::Seal | CallKind::Open)
+    }
 }

@@ -4,8 +4,8 @@ ghost use Rattle.std.specs.Prelude.{◌≡◌, ◌≤◌, ◌<◌, ◌+◌, ◌^
 ghost use Rattle.std.specs.Borrow.{sem};
 ghost use Rattle.batch_plans.specs.Replies.{IsInRange, IsPrintable};
 
-use crate::lists::PlainList;
 use crate::replies::{Batch, LaneAnswers, Reply};
+use byte_strings::PlainList;
 use call_places::Span;
 use std::marker::Model;
 

@@ -1,7 +1,6 @@
 //! What a batch is answered with.
 
-use crate::lists::PlainList;
-use crate::plan::ByteList;
+use byte_strings::{ByteList, PlainList};
 use call_places::{Entry, Mark, Span};
 
 /// The replies to the key lines, in their order.

@@ -3,22 +3,21 @@
 ghost use Rattle.std.specs.Prelude.{◌≡◌, ◌<◌, ◌^◌, length, map, sum_by, IfOk};
 ghost use Rattle.batch_plans.specs.Limits.{IsCallWithin, IsPlain, IsWithinLimits};
 ghost use Rattle.batch_plans.specs.Names.{all_live};
-ghost use Rattle.batch_plans.specs.Room.{opened_room, served_room, served_batches};
+ghost use Rattle.batch_plans.specs.Room.{opened_room, served_room};
 ghost use Rattle.batch_plans.specs.Room.{call_room, call_replies, call_batches, lane_room};
 ghost use Rattle.batch_plans.specs.Room.{room_for, most_room, IsLaneWithin};
 
-use crate::calls::call_refusal;
-use crate::items::{items_from, items_of};
+use crate::calls::{call_refusal, items_of, keeps_guess, size_of};
+use crate::items::items_from;
 use crate::journals::journals_room;
-use crate::lists::PlainList;
+use crate::limits::TAG_SIZE;
 use crate::plan::{CallLine, LaneLines, Plan};
 use crate::replies::{
     Answers, Batch, ContextReplies, KeyReplies, LaneAnswerList, LaneAnswers, Reply,
 };
+use byte_strings::PlainList;
 use call_places::Item;
 use std::alloc::{AllocError, Global};
-
-const TAG_SIZE: usize = 16;
 
 const BLANK_BATCH: Batch = Batch {
     guess: 0,
@@ -52,22 +51,7 @@ fn served_room(plan: &Plan, call: &CallLine) -> usize
         CallLine::UnsealAll { first, count, .. } => {
             opening_room(items_from(plan.items.as_slice(), first, count))
         }
-        CallLine::Export { size, .. } => size as usize,
-        CallLine::Add { .. } | CallLine::Retire { .. } => 0,
-    }
-}
-
-// How many guesses a call keeps that is served.
-fn served_batches(call: &CallLine) -> usize
-    ensures { result ≡ served_batches call.now }
-{
-    match *call {
-        CallLine::UnsealAll { .. } => 1,
-        CallLine::Seal { .. }
-        | CallLine::Unseal { .. }
-        | CallLine::Export { .. }
-        | CallLine::Add { .. }
-        | CallLine::Retire { .. } => 0,
+        _ => size_of(call) as usize,
     }
 }
 
@@ -90,7 +74,7 @@ fn call_needs(plan: &Plan, export_limits: &[u32], call: &CallLine) -> Needs
         None => Needs {
             room: served_room(plan, call),
             replies: items_of(call) as usize,
-            batches: served_batches(call),
+            batches: usize::from(keeps_guess(call)),
         },
         Some(_) => Needs {
             room: 0,

@@ -136,12 +136,8 @@ abbrev AreBelow : ℕ → List ℕ → Type 0
 AreBelow added names = (n : ℕ) → Contains names n → n < added
 
 one_of : (added : ℕ) (call : CallLine) → AreBelow added (name_added call) → AddsOneOf added call
-one_of added (calls.Seal context item) below = tt
-one_of added (calls.Unseal context item) below = tt
-one_of added (calls.UnsealAll context first count) below = tt
-one_of added (calls.Export context exporter size) below = tt
 one_of added (calls.Add name) below = below name (All-contains_itself (name ∷ []) 0 name (omega arith))
-one_of added (calls.Retire name) below = tt
+one_of added call below = tt
 
 lane_adds : (added : ℕ) (lines : List CallLine) → AreBelow added (flat_map name_added lines)
     → All (AddsOneOf added) lines

@@ -6,7 +6,7 @@ ghost use Rattle.batch_serving.specs.Text.{Demonstrates};
 
 use batch_io::{Gate, Sink};
 use batch_serving::{Outcome, tell_report};
-use demo_runs::demo;
+use demo_workers::demo;
 use std::alloc::Global;
 use std::sync::Wait;
 use std::thread::Threads;

@@ -15,16 +15,16 @@ use Rattle.live_frames.specs.Live.{front_live, live, live_lines}
 use Rattle.capsule_frames.specs.Capsules.{capsules, capsule_lines}
 use Rattle.capsule_runs.specs.Replies.{IsCapsuleReply}
 use Rattle.context_table.specs.ReplyTo.{IsLiveReply, IsReply}
-use Rattle.result_verdicts.specs.declared.verdicts.Verdict.{Verdict}
-use Rattle.result_verdicts.specs.declared.verdicts.Verdict.TheVariants.{Legal}
-use Rattle.result_verdicts.specs.VerdictText.{verdict_text}
+use Rattle.result_lines.specs.declared.verdicts.Verdict.{Verdict}
+use Rattle.result_lines.specs.declared.verdicts.Verdict.TheVariants.{Legal}
+use Rattle.result_lines.specs.VerdictText.{verdict_text}
 use Rattle.batch_words.specs.declared.commands.Command.{Command}
 use Rattle.batch_words.specs.declared.commands.Command.TheVariants as commands
 use Rattle.batch_serving.specs.declared.outcomes.Outcome.{Outcome}
 use Rattle.batch_serving.specs.declared.outcomes.Outcome.TheVariants as outcomes
 use Rattle.batch_serving.specs.Input.{IsInput}
 use Rattle.batch_serving.proofs.Endings.{IsNoBadLine, IsOfBroken, OfInput, broken_by, no_bad_verdict, on_verdict, told_bad}
-use Rattle.batch_serving.specs.Text.{AnswersBy, IsBadFor, IsBroken, IsBrokenFor, IsJudged, IsReadBy, IsRehearsal, IsTold, Judges, MayEnd, NeedsThreads, ReadsInput, front_by}
+use Rattle.batch_serving.specs.Text.{AnswersBy, IsBadFor, IsBroken, IsBrokenFor, IsJudged, IsReadBy, IsRehearsal, IsTold, Judges, MayEnd, ReadsInput, front_by}
 
 -- ---- an input that is too large
 
@@ -132,16 +132,6 @@ module _ (old new : Option (List ℕ)) (input : List ℕ) where
   input_of_broken (commands.Check mult) verdict broken is = is
   input_of_broken (commands.CheckLive mult) verdict broken is = is
   input_of_broken (commands.Capsules mult) verdict broken is = absurd broken
-
--- what needs no threads reads its input
-pub reads_alone : (command : Command) → ¬ NeedsThreads command → ReadsInput command
-reads_alone (commands.Run workers mult) none = tt
-reads_alone (commands.Live workers mult) none = absurd (none tt)
-reads_alone (commands.Rehearse schedule) none = tt
-reads_alone (commands.Demo seed messages lanes) none = absurd (none tt)
-reads_alone (commands.Check mult) none = tt
-reads_alone (commands.CheckLive mult) none = tt
-reads_alone (commands.Capsules mult) none = tt
 
 -- ---- which outcomes there are
 

@@ -6,3 +6,4 @@ pub mod Rooms
 pub mod Replied
 pub mod Writing
 pub mod Told
+pub mod Lived

@@ -6,8 +6,8 @@ use Rattle.context_core.specs.Rehearsals.{rehearsed}
 use Rattle.context_core.proofs.Allowed.{allowed}
 use Rattle.context_table.specs.ReplyTo.{IsReply, IsLiveReply}
 use Rattle.context_table.proofs.Scheduling.{of_lines}
-use Rattle.result_verdicts.specs.declared.verdicts.Verdict.{Verdict}
-use Rattle.result_verdicts.specs.declared.verdicts.Verdict.TheVariants.{Legal}
+use Rattle.result_lines.specs.declared.verdicts.Verdict.{Verdict}
+use Rattle.result_lines.specs.declared.verdicts.Verdict.TheVariants.{Legal}
 use Rattle.batch_serving.specs.Text.{IsJudged, IsRehearsal}
 
 pub rehearsal_replies : (plan : Plan) (schedule text : List ℕ) → IsWithinLimits plan → IsRehearsal schedule plan text → IsReply plan text

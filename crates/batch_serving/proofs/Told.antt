@@ -1,15 +1,15 @@
 -- What is told of an input that was served: the text of each outcome.
-use Rattle.std.proofs.Common.{◌≡◌, ◌⊎◌, ℕ, List, Option, Result, Ok, Err, ap, refl, subst, sym, inl, inr}
-use Rattle.std.specs.Prelude.{◌≢◌, IfOk, IsErr}
+use Rattle.std.proofs.Common.{◌≡◌, ◌⊎◌, ℕ, List, Option, subst, inl, inr}
+use Rattle.std.specs.Prelude.{◌≢◌}
 use Rattle.std.specs.Io.KnownBytes.{Appends}
 use Rattle.batch_io.specs.Outside.{Rose}
 use Rattle.field_text.specs.declared.reasons.Reason.{Reason}
 use Rattle.reply_texts.specs.ReplyText.{bad_text}
-use Rattle.result_verdicts.specs.declared.verdicts.Verdict.{Verdict}
-use Rattle.result_verdicts.specs.VerdictText.{verdict_text}
+use Rattle.result_lines.specs.declared.verdicts.Verdict.{Verdict}
+use Rattle.result_lines.specs.VerdictText.{verdict_text}
 use Rattle.batch_words.specs.declared.commands.Command.{Command}
 use Rattle.batch_serving.specs.declared.outcomes.Outcome.{Outcome}
-use Rattle.batch_serving.specs.declared.outcomes.Outcome.TheVariants.{Usage, BadBatch, ReadFault, WriteFault, OutOfMemory, Broken}
+use Rattle.batch_serving.specs.declared.outcomes.Outcome.TheVariants.{Usage, BadBatch, ReadFault, OutOfMemory, Broken}
 use Rattle.batch_serving.specs.Effects.{Writes}
 use Rattle.batch_serving.specs.Text.{IsBadFor, IsBrokenFor, MayEnd}
 use Rattle.batch_serving.proofs.Ends.{bad_line, broken_result, of_input}
@@ -56,30 +56,3 @@ module _ {K : Type 0} (written : K → Option (List ℕ)) (faults : K → ℕ) (
     | inr (inl want) ↦ inr want
     | inr (inr others) ↦ let end = w.whole others.0 others.1 in inl (end.0, end.1)
   ]
-
-  -- of a call that may have refused the command
-  module _ {E : Type 0} (r : Result Outcome E) (w : IfOk r Written) where
-    pub written_at : (outcome : Outcome) → r ≡ Ok outcome → Written outcome
-    written_at outcome e = subst (λ one. IfOk one Written) e w
-
-    pub no_fault_at : (IsErr r → new ≡ old) → r ≢ Ok WriteFault → faults new ≡ faults old
-    no_fault_at kept none = go r refl
-      where
-        go : (one : Result Outcome E) → r ≡ one → faults new ≡ faults old
-        go (Ok outcome) is =
-            (written_at outcome is).no_fault (λ fault. none (subst (λ o. r ≡ Ok o) fault is))
-        go (Err e) is = ap faults (kept (subst IsErr (sym is) refl))
-
-    pub whole_at : ¬ IsErr r → ¬ Rose (faults old) (faults new)
-        → ((outcome : Outcome) × (text : List ℕ) × (r ≡ Ok outcome) × MayEnd command input outcome text)
-        ⊎ (r ≡ Ok OutOfMemory)
-    whole_at served none = go r refl
-      where
-        go : (one : Result Outcome E) → r ≡ one
-            → ((outcome : Outcome) × (text : List ℕ) × (r ≡ Ok outcome) × MayEnd command input outcome text)
-            ⊎ (r ≡ Ok OutOfMemory)
-        go (Ok outcome) is = elim (told_whole outcome (written_at outcome is) none) [
-          | inl end ↦ inl (outcome, end.0, is, end.1)
-          | inr want ↦ inr (subst (λ o. r ≡ Ok o) want is)
-        ]
-        go (Err e) is = absurd (served (subst IsErr (sym is) refl))

@@ -1,7 +1,7 @@
 -- How a verdict ends a run, and the exit statuses.
 use Rattle.std.specs.Prelude.{ℕ}
-use Rattle.result_verdicts.specs.declared.verdicts.Verdict.{Verdict}
-use Rattle.result_verdicts.specs.declared.verdicts.Verdict.TheVariants.{Legal}
+use Rattle.result_lines.specs.declared.verdicts.Verdict.{Verdict}
+use Rattle.result_lines.specs.declared.verdicts.Verdict.TheVariants.{Legal}
 use Rattle.batch_serving.specs.declared.outcomes.Outcome.{Outcome}
 use Rattle.batch_serving.specs.declared.outcomes.Outcome.TheVariants as outcomes
 

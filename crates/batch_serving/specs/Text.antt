@@ -14,9 +14,9 @@ use Rattle.context_table.specs.ReplyTo.{IsReply, IsLiveReply}
 use Rattle.live_frames.specs.Live.{live, front_live}
 use Rattle.live_frames.specs.Live.{BadAt as BadLiveAt, FrontBadAt as FrontBadLiveAt}
 use Rattle.context_core.specs.Rehearsals.{rehearsed}
-use Rattle.result_verdicts.specs.declared.verdicts.Verdict.{Verdict}
-use Rattle.result_verdicts.specs.declared.verdicts.Verdict.TheVariants.{Legal}
-use Rattle.result_verdicts.specs.VerdictText.{verdict_text}
+use Rattle.result_lines.specs.declared.verdicts.Verdict.{Verdict}
+use Rattle.result_lines.specs.declared.verdicts.Verdict.TheVariants.{Legal}
+use Rattle.result_lines.specs.VerdictText.{verdict_text}
 use Rattle.journal_check.specs.Verdicts.{IsVerdict, IsLiveVerdict}
 use Rattle.capsule_frames.specs.Capsules.{capsules}
 use Rattle.capsule_frames.specs.Capsules.{BadAt as BadCapsulesAt}
@@ -25,7 +25,6 @@ use Rattle.demo_texts.specs.declared.reports.DemoReport.{DemoReport}
 use Rattle.demo_texts.specs.Demo.{IsDemo, report_text}
 use Rattle.batch_words.specs.declared.commands.Command.{Command}
 use Rattle.batch_words.specs.declared.commands.Command.TheVariants as commands
-use Rattle.batch_words.specs.Words.{command_of}
 use Rattle.batch_serving.specs.declared.outcomes.Outcome.{Outcome}
 use Rattle.batch_serving.specs.declared.outcomes.Outcome.TheVariants.{Done, BadBatch as IsBad}
 use Rattle.batch_serving.specs.Input.{IsInput}
@@ -158,14 +157,3 @@ IsBrokenFor (commands.CheckLive mult) input verdict = IsBroken true input verdic
 IsBrokenFor _ input verdict = ⊥
 
 -- ---- who serves them
-
--- a command that threads alone serve, and not the calling thread
-abbrev pub NeedsThreads : Command → Type 0
-NeedsThreads (commands.Live workers mult) = Unit {0}
-NeedsThreads (commands.Demo seed messages lanes) = Unit {0}
-NeedsThreads _ = ⊥
-
--- the words, each the list of its bytes, ask for such a command
-abbrev pub AskForThreads : List (List ℕ) → Type 0
-AskForThreads words =
-    (command : Command) × (command_of words ≡ Some command) × NeedsThreads command

@@ -2,8 +2,8 @@
 //!
 //! `MayEnd` of `specs/Text.antt` says how a command may end for an input, and with which text. Here
 //! are the definitions of that, the steps of all commands that need no threads (reading the input,
-//! setting up, judging, writing), and [`serve_alone`], which serves `run`, `rehearse`, `check` and
-//! `capsules` on the calling thread. batch_runner has the other half: lanes that threads serve, and
+//! setting up, judging, writing), and [`serve_alone`], which serves every command on the calling
+//! thread. batch_runner has the other half: lanes that threads serve, and
 //! the program's top call.
 //!
 //! `run` and `rehearse` work in this order: read the batch by its grammar; set up the keys and
@@ -20,9 +20,11 @@
 #![tactic(auto)]
 
 mod alone;
+mod demonstrating;
 mod exchanging;
 mod judging;
 mod laws;
+mod living;
 mod multipliers;
 mod outcomes;
 mod reading;
@@ -31,7 +33,7 @@ mod running;
 mod setting_up;
 mod telling;
 
-pub use alone::{ThreadsNeeded, serve_alone};
+pub use alone::serve_alone;
 pub use exchanging::tell_exchange;
 pub use judging::{judge, judge_live};
 pub use laws::written_replies_are_legal;

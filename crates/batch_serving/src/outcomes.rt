@@ -4,7 +4,7 @@ ghost use Rattle.std.specs.Prelude.{◌≡◌};
 ghost use Rattle.batch_serving.specs.Outcomes.{outcome_on, status_of};
 
 use request_frames::Reason;
-use result_verdicts::Verdict;
+use result_lines::Verdict;
 
 /// How a run ends, in the order of the exit statuses.
 #[derive(Clone, Copy, Debug, PartialEq, Eq)]

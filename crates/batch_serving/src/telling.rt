@@ -6,7 +6,7 @@
 ghost use Rattle.std.specs.Prelude.{◌≡◌, ◌≤◌};
 ghost use Rattle.reply_texts.specs.ReplyText.{IsAnswered, answers_text};
 ghost use Rattle.reply_texts.specs.LiveText.{live_text};
-ghost use Rattle.result_verdicts.specs.VerdictText.{verdict_text};
+ghost use Rattle.result_lines.specs.VerdictText.{verdict_text};
 ghost use Rattle.capsule_frames.specs.Text.{capsules_text};
 ghost use Rattle.demo_texts.specs.Demo.{report_text};
 ghost use Rattle.batch_serving.specs.Effects.{Says, SaysFault, Writes, end_of};
@@ -20,7 +20,7 @@ use capsule_runs::CapsuleAnswers;
 use demo_texts::{DemoReport, print_report};
 use live_frames::print_live;
 use request_frames::{Answers, BadBatch, Plan, Printed, ReadBatchFault, print_answers, print_bad};
-use result_verdicts::{Verdict, print_verdict};
+use result_lines::{Verdict, print_verdict};
 
 // How a run ends whose text was printed so.
 fn end_of(printed: Printed, due: Outcome) -> Outcome

@@ -2,7 +2,7 @@
 use Rattle.std.proofs.Common.{◌≡◌, ◌∙◌, ℕ, Bool, true, false, refl, sym, ap, List, [], ◌∷◌, Option, None, Some}
 use Rattle.std.specs.Prelude.{◌==◌, ◌&&◌, not, option_and_then, option_map}
 use Rattle.std.proofs.lemmas.Bool.{eqb-true}
-use Rattle.decimal_text.specs.Decimals.{decimal_from_to}
+use Rattle.byte_strings.specs.Decimals.{decimal_from_to}
 use Rattle.batch_words.specs.Parses.{are_operands, is_operand}
 use Rattle.batch_words.specs.Words.{demo, numbers}
 use Rattle.batch_words.specs.declared.commands.Command.{Command}

@@ -4,7 +4,7 @@ use Rattle.std.specs.Prelude.{option_map, option_and_then, nat_le, if◌then◌e
 use Rattle.std.specs.List.{slice_split}
 use Rattle.std.specs.Str.{bytes_eq}
 use Rattle.std.proofs.lemmas.Bool.{le-leb, lt-leb}
-use Rattle.decimal_text.specs.Decimals.{decimal_from_to}
+use Rattle.byte_strings.specs.Decimals.{decimal_from_to}
 use Rattle.batch_words.specs.Words.{is_comma, lanes, schedule}
 
 -- a first lane before the others

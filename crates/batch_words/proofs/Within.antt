@@ -6,7 +6,7 @@ use Rattle.std.specs.Str.{bytes_eq}
 use Rattle.std.specs.Str.Parse.{digits_value}
 use Rattle.std.proofs.lemmas.Bool.{leb-true}
 use Rattle.std.proofs.lemmas.List.Elements.{All-cons, All-nil}
-use Rattle.decimal_text.specs.Decimals.{decimal_from_to, is_decimal}
+use Rattle.byte_strings.specs.Decimals.{decimal_from_to, is_decimal}
 use Rattle.batch_words.specs.Words.{IsWithin, Setting, are_of, beside_live, capsules, check, check_beside, demo, is_comma, lanes, live, mult, numbers, only_mult, options, options_with, rehearse, run, schedule, settings, value_of, workers}
 use Rattle.batch_words.specs.declared.commands.Command.{Command}
 use Rattle.batch_words.specs.declared.commands.Command.TheVariants.{Capsules, Check, CheckLive, Demo, Live, Rehearse, Run}

@@ -7,7 +7,7 @@ use Rattle.batch_words.specs.declared.commands.Command.TheVariants.{Run, Live, R
 use Rattle.batch_words.specs.declared.commands.Mult.{Mult}
 use Rattle.batch_words.specs.declared.commands.Mult.TheVariants.{Plain, Karatsuba, Lanes}
 use Rattle.batch_words.specs.declared.options.Options.{Options}
-use Rattle.decimal_text.specs.Decimals.{decimal_from_to}
+use Rattle.byte_strings.specs.Decimals.{decimal_from_to}
 
 -- ---- settings: the name of an option, with its hyphens, and a value
 

@@ -11,7 +11,7 @@ ghost use Rattle.batch_words.specs.Words.{options_with as options_said};
 
 use crate::commands::Mult;
 use crate::parsing::parse_options;
-use decimal_text::decimal_from_to;
+use byte_strings::decimal_from_to;
 use std::alloc::{AllocError as OutOfMemory, Global};
 
 /// The workers where the words name none.

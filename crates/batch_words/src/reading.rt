@@ -12,8 +12,8 @@ use crate::commands::{Command, Mult};
 use crate::options::read_options;
 use crate::parsing::parse_operands;
 use crate::schedules::read_schedule;
+use byte_strings::decimal_from_to;
 use clap::ArgMatches;
-use decimal_text::decimal_from_to;
 use std::alloc::{AllocError as OutOfMemory, Global};
 
 /// The most messages of a demonstration.

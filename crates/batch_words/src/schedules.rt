@@ -4,7 +4,7 @@ ghost use Rattle.std.specs.Prelude.{◌≡◌, [], false, codes, IfOk, Some, Non
 ghost use Rattle.std.specs.Str.{bytes_eq};
 ghost use Rattle.batch_words.specs.Words.{schedule};
 
-use decimal_text::decimal_from_to;
+use byte_strings::decimal_from_to;
 use std::alloc::{AllocError, Global};
 use std::marker::Model;
 

@@ -9,9 +9,9 @@ use Rattle.field_text.specs.Fields.{number, bytes}
 use Rattle.field_text.proofs.Spellings.{ok_same, step_ok, word_ok, next_ok, exactly_ok, number_ok, bytes_ok, IsFront, IsFront-then}
 use Rattle.field_text.proofs.SpelledLines.{no_piece}
 use Rattle.batch_plans.specs.Limits.{most_field}
-use Rattle.key_frames.specs.Words.{kdf}
-use Rattle.key_frames.specs.Forms.{message}
-use Rattle.key_frames.proofs.SpelledFields.{kdf_ok, message_ok, piece_is, front_length, field_within}
+use Rattle.request_frames.specs.KeyWords.{kdf}
+use Rattle.request_frames.specs.KeyForms.{message}
+use Rattle.request_frames.proofs.SpelledKeyFields.{kdf_ok, message_ok, piece_is, front_length, field_within}
 use Rattle.capsule_frames.specs.declared.words.LineWord.{LineWord}
 use Rattle.capsule_frames.specs.declared.words.LineWord.TheVariants.{Capsule}
 use Rattle.capsule_frames.specs.declared.words.CapsuleWord.{CapsuleWord}

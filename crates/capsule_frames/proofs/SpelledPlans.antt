@@ -12,12 +12,12 @@ use Rattle.field_text.specs.Lines.{front, whole}
 use Rattle.field_text.proofs.Spellings.{ok_same, step_ok, word_ok, IsFront, IsFront-same, IsFront-then}
 use Rattle.field_text.proofs.SpelledLines.{IsSpelling, text_read}
 use Rattle.batch_plans.specs.Limits.{most_input, most_keys}
-use Rattle.key_frames.specs.declared.words.KeyWord.{KeyWord}
-use Rattle.key_frames.specs.Forms.{rand, key}
-use Rattle.key_frames.specs.KeyText.{seed_text, key_text}
-use Rattle.key_frames.proofs.SpelledFields.{front_length}
-use Rattle.key_frames.proofs.SpelledKeys.{rand_ok, key_ok}
-use Rattle.key_frames.proofs.MoreLines.{field_grown, message_grown, last_more, before_none, texts_none, counted_ok, seed_given, no_seed}
+use Rattle.request_frames.specs.declared.key_words.KeyWord.{KeyWord}
+use Rattle.request_frames.specs.KeyForms.{rand, key}
+use Rattle.request_frames.specs.KeyText.{seed_text, key_text}
+use Rattle.request_frames.proofs.SpelledKeyFields.{front_length}
+use Rattle.request_frames.proofs.SpelledKeys.{rand_ok, key_ok}
+use Rattle.request_frames.proofs.MoreLines.{field_grown, message_grown, last_more, before_none, texts_none, counted_ok, seed_given, no_seed}
 use Rattle.request_frames.proofs.Growth as growth
 use Rattle.capsule_frames.specs.declared.words.LineWord.{LineWord}
 use Rattle.capsule_frames.specs.declared.words.LineWord.TheVariants.{Rand, Key, Capsule}

@@ -9,8 +9,8 @@ use Rattle.field_text.specs.Fields.{◌>>=◌}
 use Rattle.field_text.specs.Lines.{Grammar, bad, front, whole}
 use Rattle.field_text.specs.declared.faults.BadBatch.{BadBatch}
 use Rattle.batch_plans.specs.Limits.{most_input, most_keys}
-use Rattle.key_frames.specs.declared.words.KeyWord.{KeyWord}
-use Rattle.key_frames.specs.Forms.{rand, key, at_most}
+use Rattle.request_frames.specs.declared.key_words.KeyWord.{KeyWord}
+use Rattle.request_frames.specs.KeyForms.{rand, key, at_most}
 use Rattle.request_frames.specs.Batch.{empty_plan}
 use Rattle.capsule_frames.specs.declared.words.LineWord.{LineWord}
 use Rattle.capsule_frames.specs.declared.words.LineWord.TheVariants.{Rand, Key, Capsule}

@@ -6,8 +6,8 @@ use Rattle.hkdf_labelled.specs.declared.suites.Aead.TheVariants.{Aes128, Aes256}
 use Rattle.field_text.specs.declared.reasons.Reason.{Reason}
 use Rattle.field_text.specs.Fields.{◌>>=◌, next, exactly, number, bytes}
 use Rattle.batch_plans.specs.Limits.{most_field}
-use Rattle.key_frames.specs.Words.{kdf}
-use Rattle.key_frames.specs.Forms.{message}
+use Rattle.request_frames.specs.KeyWords.{kdf}
+use Rattle.request_frames.specs.KeyForms.{message}
 use Rattle.capsule_frames.specs.declared.words.CapsuleWord.{CapsuleWord}
 use Rattle.capsule_frames.specs.declared.words.CapsuleWord.TheVariants as words
 use Rattle.capsule_frames.specs.declared.lines.CapsuleLine.{CapsuleLine}

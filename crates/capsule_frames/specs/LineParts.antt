@@ -4,7 +4,7 @@ use Rattle.hkdf_labelled.specs.declared.suites.Kdf.{Kdf}
 use Rattle.hkdf_labelled.specs.declared.suites.Aead.{Aead}
 use Rattle.field_text.specs.declared.reasons.Reason.{Reason}
 use Rattle.field_text.specs.Fields.{◌>>=◌, next, exactly, number}
-use Rattle.key_frames.specs.Words.{kdf}
+use Rattle.request_frames.specs.KeyWords.{kdf}
 use Rattle.capsule_frames.specs.Forms.{cipher}
 
 -- `KEY ID` of five pieces

@@ -5,7 +5,7 @@ use Rattle.std.specs.Prelude.{ℕ, List, [], ◌∷◌, ◌++◌, codes, decimal
 use Rattle.std.specs.List.{flat_map}
 use Rattle.hkdf_labelled.specs.Suites.{kdf_id, aead_id}
 use Rattle.field_text.specs.Cuts.{line_text}
-use Rattle.key_frames.specs.KeyText.{span_text, enc_text, seed_text, key_text}
+use Rattle.request_frames.specs.KeyText.{span_text, enc_text, seed_text, key_text}
 use Rattle.capsule_frames.specs.declared.lines.CapsuleLine.{CapsuleLine}
 use Rattle.capsule_frames.specs.declared.lines.CapsuleLine.TheVariants.{Ask, Answer, Take}
 use Rattle.capsule_frames.specs.declared.lines.CapsulePlan.{CapsulePlan}

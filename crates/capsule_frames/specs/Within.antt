@@ -2,7 +2,7 @@
 use Rattle.std.specs.Prelude.{◌≢◌, ℕ, ◌≤◌, List, length, All, Option, IsSome}
 use Rattle.hkdf_labelled.specs.declared.suites.Aead.TheVariants.{ExportOnly}
 use Rattle.batch_plans.specs.Limits.{most_field, IsField, IsWithinLimits}
-pub use Rattle.key_frames.specs.Forms.{IsMessageWithin}
+pub use Rattle.request_frames.specs.KeyForms.{IsMessageWithin}
 use Rattle.capsule_frames.specs.declared.words.CapsuleWord.{CapsuleWord}
 use Rattle.capsule_frames.specs.declared.lines.CapsuleLine.{CapsuleLine}
 use Rattle.capsule_frames.specs.declared.lines.CapsuleLine.TheVariants.{Ask, Answer, Take}

@@ -1,10 +1,10 @@
 -- The words that begin the lines of a batch of capsules, other than `end`.
-use Rattle.std.specs.Prelude.{ℕ, Bool, true, false, List, [], ◌∷◌, codes, Result, Ok, Err, if◌then◌else◌}
+use Rattle.std.specs.Prelude.{ℕ, Bool, true, false, List, [], ◌∷◌, ◌++◌, map, codes, Result, Ok, Err, if◌then◌else◌}
 use Rattle.std.specs.Str.{bytes_eq}
 use Rattle.field_text.specs.declared.reasons.Reason.{Reason}
 use Rattle.field_text.specs.declared.reasons.Reason.TheVariants.{Word}
-use Rattle.key_frames.specs.declared.words.KeyWord.TheVariants.{Generate, Secret, Peer, Generate857, Secret857, Peer857}
-use Rattle.key_frames.specs.Words.{key_word_text, key_draws}
+use Rattle.batch_plans.specs.declared.plan.KeySet.TheVariants.{Sntrup761, Sntrup857}
+use Rattle.request_frames.specs.KeyWords.{key_word_text, key_words, key_draws}
 use Rattle.capsule_frames.specs.declared.words.LineWord.{LineWord}
 use Rattle.capsule_frames.specs.declared.words.LineWord.TheVariants.{Rand, Key, Capsule}
 use Rattle.capsule_frames.specs.declared.words.CapsuleWord.TheVariants.{Ask, Answer, Take}
@@ -21,16 +21,8 @@ word_text (Capsule Take) = codes "take"
 abbrev pub line_words : List LineWord
 line_words =
     Rand
-    ∷ Key Generate
-    ∷ Key Secret
-    ∷ Key Peer
-    ∷ Key Generate857
-    ∷ Key Secret857
-    ∷ Key Peer857
-    ∷ Capsule Ask
-    ∷ Capsule Answer
-    ∷ Capsule Take
-    ∷ []
+    ∷ (map Key (key_words Sntrup761 ++ key_words Sntrup857)
+    ++ (Capsule Ask ∷ Capsule Answer ∷ Capsule Take ∷ []))
 
 -- which of these words a piece is
 abbrev pub word_among : List LineWord → List ℕ → Result LineWord Reason

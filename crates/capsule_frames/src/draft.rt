@@ -3,7 +3,7 @@
 ghost use Rattle.std.specs.Prelude.{◌≡◌, ◌+◌, ◌≤◌, ◌++◌, ◌∷◌, [], length, vec_len, sum_by, OnOk};
 ghost use Rattle.field_text.specs.Fields.{Gives};
 ghost use Rattle.batch_plans.specs.Limits.{most_input};
-ghost use Rattle.key_frames.specs.Forms.{at_most};
+ghost use Rattle.request_frames.specs.KeyForms.{at_most};
 ghost use Rattle.capsule_frames.specs.Capsules.{has_place as place_of, empty, is_of as kind_test};
 ghost use Rattle.capsule_frames.specs.Capsules.{count_of as count_in, with_rand as rand_of};
 ghost use Rattle.capsule_frames.specs.Capsules.{with_key as key_of, with_capsule as capsule_of};
@@ -15,7 +15,7 @@ use crate::{forms, words};
 use batch_plans::limits::{MOST_INPUT, MOST_KEYS};
 use batch_plans::{KeyLine, PlainList, Plan};
 use field_text::{Draft, Pieces, Reason, Stop};
-use key_frames::{KeyWord, read_key, read_rand};
+use request_frames::{KeyWord, read_key, read_rand};
 use std::alloc::Global;
 
 /// The capsule lines of each kind.

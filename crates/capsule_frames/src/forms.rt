@@ -12,7 +12,7 @@ use crate::words::CapsuleWord;
 use batch_plans::limits::MOST_FIELD;
 use field_text::{Pieces, Reason, Stop};
 use hkdf_labelled::{Aead, Kdf};
-use key_frames::{read_kdf, read_message};
+use request_frames::{read_kdf, read_message};
 
 /// TEXT.
 const MOST_TEXT: usize = 1_048_576;

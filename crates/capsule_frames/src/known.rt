@@ -3,10 +3,10 @@
 //! A reply may give a text of a megabyte to each of many lines, and mostly it is one that a line of
 //! the batch has: so it is held there.
 
-ghost use Rattle.std.specs.Prelude.{◌≡◌, true, length, IfOk};
+ghost use Rattle.std.specs.Prelude.{◌≡◌, true, length};
 
-use batch_plans::ByteList;
-use std::alloc::{AllocError, Global};
+use byte_strings::ByteList;
+use std::alloc::Global;
 use std::borrow::CowSlice;
 use std::marker::Model;
 
@@ -50,22 +50,16 @@ impl<'a> KnownText<'a> {
         }
     }
 
-    /// These bytes: held in `known` where they are the same, and copied where they aren't.
-    pub fn held_in(
-        alloc: Global,
-        known: &'a [u8],
-        bytes: &[u8],
-    ) -> Result<KnownText<'a>, AllocError>
-        ensures { IfOk result (λ text. text ≡ bytes.now) }
+    /// These bytes: held in `known` where they are the same, and else kept.
+    pub fn held_in(known: &'a [u8], bytes: ByteList) -> KnownText<'a>
+        ensures { result ≡ bytes }
     {
-        if are_same(known, bytes) {
-            return Ok(KnownText {
+        if are_same(known, bytes.as_slice()) {
+            return KnownText {
                 bytes: CowSlice::Borrowed(known),
-            });
+            };
         }
-        Ok(KnownText {
-            bytes: CowSlice::Owned(Vec::from_slice(alloc, bytes)?),
-        })
+        KnownText::own(bytes)
     }
 
     /// The bytes.

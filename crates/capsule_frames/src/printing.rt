@@ -11,8 +11,7 @@ ghost use Rattle.capsule_frames.specs.Text.{capsules_text};
 use crate::replies::{CapsuleRefusal, CapsuleReply};
 use batch_io::Sink;
 use field_text::{Buffer, Printed};
-use key_frames::put_keys;
-use request_frames::KeyReplies;
+use request_frames::{KeyReplies, put_keys};
 
 fn word_of_refusal(refusal: CapsuleRefusal) -> &'static [u8]
     ensures { result.now ≡ refusal_word refusal }

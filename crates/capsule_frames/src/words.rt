@@ -6,9 +6,10 @@ ghost use Rattle.field_text.specs.Fields.{Reads, next};
 ghost use Rattle.capsule_frames.specs.Words.{line_word as line_word_of, draws};
 ghost use Rattle.capsule_frames.specs.Forms.{cipher as cipher_field};
 
+use batch_plans::KeySet;
 use field_text::{Pieces, Reason, read_number};
 use hkdf_labelled::Aead;
-use key_frames::KeyWord;
+use request_frames::KeyWord;
 
 /// The first word of a line, other than `end`, by what the line is for.
 #[derive(Clone, Copy, Debug, PartialEq, Eq)]
@@ -51,17 +52,17 @@ pub fn line_word(piece: &[u8]) -> Result<LineWord, Reason>
     if is_word(piece, b"rand") {
         Ok(LineWord::Rand)
     } else if is_word(piece, b"keygen") {
-        Ok(LineWord::Key(KeyWord::Generate))
+        Ok(LineWord::Key(KeyWord::Generate(KeySet::Sntrup761)))
     } else if is_word(piece, b"secret") {
-        Ok(LineWord::Key(KeyWord::Secret))
+        Ok(LineWord::Key(KeyWord::Secret(KeySet::Sntrup761)))
     } else if is_word(piece, b"peer") {
-        Ok(LineWord::Key(KeyWord::Peer))
+        Ok(LineWord::Key(KeyWord::Peer(KeySet::Sntrup761)))
     } else if is_word(piece, b"keygen857") {
-        Ok(LineWord::Key(KeyWord::Generate857))
+        Ok(LineWord::Key(KeyWord::Generate(KeySet::Sntrup857)))
     } else if is_word(piece, b"secret857") {
-        Ok(LineWord::Key(KeyWord::Secret857))
+        Ok(LineWord::Key(KeyWord::Secret(KeySet::Sntrup857)))
     } else if is_word(piece, b"peer857") {
-        Ok(LineWord::Key(KeyWord::Peer857))
+        Ok(LineWord::Key(KeyWord::Peer(KeySet::Sntrup857)))
     } else if is_word(piece, b"ask") {
         Ok(LineWord::Capsule(CapsuleWord::Ask))
     } else if is_word(piece, b"answer") {

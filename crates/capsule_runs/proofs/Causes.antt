@@ -8,12 +8,14 @@ use Rattle.call_places.specs.Spans.{span_bytes}
 use Rattle.hkdf_labelled.specs.declared.suites.Kdf.{Kdf}
 use Rattle.hkdf_labelled.specs.declared.suites.Aead.{Aead}
 use Rattle.batch_plans.specs.declared.plan.KeyLine.{KeyLine}
-use Rattle.batch_plans.specs.declared.plan.KeyLine.TheVariants as lines
+use Rattle.batch_plans.specs.declared.plan.KeySet.{KeySet}
+use Rattle.batch_plans.specs.declared.plan.KeySet.TheVariants.{Sntrup761, Sntrup857}
+use Rattle.batch_plans.specs.KeyLines.{set_of, source_of}
 use Rattle.batch_plans.specs.declared.plan.EncField.{EncField}
 use Rattle.batch_plans.specs.declared.plan.EncField.TheVariants.{Bytes, Of}
 use Rattle.batch_plans.specs.declared.replies.KeyReply.{KeyReply}
 use Rattle.batch_plans.specs.declared.replies.KeyReply.TheVariants as replied
-use Rattle.context_table.specs.Keys.{Kem, KeyView, kem_of, given_bytes, key_by, key_in, key_at}
+use Rattle.context_table.specs.Keys.{Kem, KeyView, kem_with, kem_of, given_bytes, key_by, key_in, key_at}
 use Rattle.context_table.specs.Streams.{context_words}
 use Rattle.context_table.proofs.Lists.{same_some, some_within}
 use Rattle.ohttp_capsule.specs.declared.faults.CapsuleFault.{CapsuleFault}
@@ -175,14 +177,10 @@ no_request p keys i field =
 
 -- ---- the key
 
-agree_by : BothEndsAgree sntrup761 → BothEndsAgree sntrup857 → (line : KeyLine)
-    → BothEndsAgree (kem_of line).set
-agree_by a b lines.Generate = a
-agree_by a b (lines.Secret bytes) = a
-agree_by a b (lines.Peer bytes) = a
-agree_by a b lines.Generate857 = b
-agree_by a b (lines.Secret857 bytes) = b
-agree_by a b (lines.Peer857 bytes) = b
+agree_by : BothEndsAgree sntrup761 → BothEndsAgree sntrup857 → (set : KeySet)
+    → BothEndsAgree (kem_with set).set
+agree_by a b Sntrup761 = a
+agree_by a b Sntrup857 = b
 
 kem_by : (kem : Kem) (bytes : List ℕ) (reply : KeyReply) (view : KeyView)
     → key_by kem bytes reply ≡ Some view → kem ≡ view.kem
@@ -200,7 +198,7 @@ agree_in a b pool None reply view e = absurd (let no : None ≡ Some view = e in
 agree_in a b pool (Some line) None view e = absurd (let no : None ≡ Some view = e in cc)
 agree_in a b pool (Some line) (Some reply) view e =
     subst (λ (k : Kem). BothEndsAgree k.set)
-    (kem_by (kem_of line) (given_bytes pool line) reply view e) (agree_by a b line)
+    (kem_by (kem_of line) (given_bytes pool (source_of line)) reply view e) (agree_by a b (set_of line))
 
 -- ---- answers
 

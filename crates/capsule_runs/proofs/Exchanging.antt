@@ -14,12 +14,16 @@ use Rattle.ohttp_capsule.specs.Laws.{Asks, WholeExchange}
 use Rattle.ohttp_capsule.specs.Replies.{taken}
 use Rattle.batch_plans.specs.declared.plan.Plan.{Plan}
 use Rattle.batch_plans.specs.declared.plan.KeyLine.{KeyLine}
-use Rattle.batch_plans.specs.declared.plan.KeyLine.TheVariants as lines
+use Rattle.batch_plans.specs.declared.plan.KeySource.{KeySource}
+use Rattle.batch_plans.specs.declared.plan.KeySource.TheVariants as sources
+use Rattle.batch_plans.specs.declared.plan.KeySet.{KeySet}
+use Rattle.batch_plans.specs.declared.plan.KeySet.TheVariants.{Sntrup761, Sntrup857}
+use Rattle.batch_plans.specs.KeyLines.{set_of, source_of}
 use Rattle.batch_plans.specs.declared.plan.EncField.TheVariants.{Of}
 use Rattle.batch_plans.specs.declared.replies.KeyReply.{KeyReply}
 use Rattle.batch_plans.specs.declared.replies.KeyReply.TheVariants.{Generated}
 use Rattle.context_table.specs.Streams.{key_words, context_words}
-use Rattle.context_table.specs.Keys.{Kem, KeyView, kem761, kem857, IsKeyReply, key_in, key_at}
+use Rattle.context_table.specs.Keys.{Kem, KeyView, kem761, kem857, kem_with, kem_of, IsSourceReply, IsKeyReply, key_in, key_at}
 use Rattle.context_table.proofs.Lists.{some_within}
 use Rattle.context_table.proofs.Sizes.{length-enc_of}
 use Rattle.capsule_frames.specs.declared.words.CapsuleWord.TheVariants as words
@@ -52,33 +56,31 @@ record Made (plan : Plan) (keys : List KeyReply) (k : ℕ) (public secret : List
   generated : IsGenerated kem.set word 0 j public secret
   key : key_at plan keys k ≡ Some (record { kem = kem; public = public; secret = Some secret })
 
+carries_by : Carries kem761 → Carries kem857 → (set : KeySet) → Carries (kem_with set)
+carries_by a b Sntrup761 = a
+carries_by a b Sntrup857 = b
+
 -- which line it is of
 made_by : (plan : Plan) (keys : List KeyReply) (k : ℕ) (public secret : List ℕ) (line : KeyLine)
     → Carries kem761 → Carries kem857
     → slice_get plan.keys k ≡ Some line → slice_get keys k ≡ Some (Generated public secret)
     → IsKeyReply plan k line (Generated public secret) → Made plan keys k public secret
-made_by plan keys k public secret lines.Generate a b el er is = record {
-  kem = kem761;
-  word = key_words plan k;
-  j = is.1.0;
-  carries = a;
-  generated = is.1.2;
-  key = ap (λ o. key_in plan.pool o (slice_get keys k)) el
-      ∙ ap (key_in plan.pool (Some lines.Generate)) er;
-}
-made_by plan keys k public secret lines.Generate857 a b el er is = record {
-  kem = kem857;
-  word = key_words plan k;
-  j = is.1.0;
-  carries = b;
-  generated = is.1.2;
-  key = ap (λ o. key_in plan.pool o (slice_get keys k)) el
-      ∙ ap (key_in plan.pool (Some lines.Generate857)) er;
-}
-made_by plan keys k public secret (lines.Secret bytes) a b el er is = absurd is
-made_by plan keys k public secret (lines.Peer bytes) a b el er is = absurd is
-made_by plan keys k public secret (lines.Secret857 bytes) a b el er is = absurd is
-made_by plan keys k public secret (lines.Peer857 bytes) a b el er is = absurd is
+made_by plan keys k public secret line a b el er = made (source_of line)
+  where
+    made : (source : KeySource)
+        → IsSourceReply plan k (kem_of line).set source (Generated public secret)
+        → Made plan keys k public secret
+    made sources.Generate is = record {
+      kem = kem_of line;
+      word = key_words plan k;
+      j = is.1.0;
+      carries = carries_by a b (set_of line);
+      generated = is.1.2;
+      key = ap (λ o. key_in plan.pool o (slice_get keys k)) el
+          ∙ ap (key_in plan.pool (Some line)) er;
+    }
+    made (sources.Secret bytes) is = absurd is
+    made (sources.Peer bytes) is = absurd is
 
 -- ---- the ask
 

@@ -13,7 +13,7 @@ use crate::jobs::{AnswerJob, jobs};
 use crate::results::{AnswerResult, AskResult, Given};
 use aes_gcm::MayCheck;
 use batch_plans::{EncField, Plan};
-use capsule_frames::{CapsulePlan, CapsuleRefusal};
+use capsule_frames::{CapsulePlan, CapsuleRefusal, KnownText};
 use context_table::{Key, KeyPair, KeyTable};
 use ohttp_capsule::answer_by;
 use ring_core::Multiplier;
@@ -72,9 +72,8 @@ fn given_with<'p, S: KemParams, M: Multiplier>(
     };
     match answer_by(permission, alloc, mult, secret, id, request, nonce, text) {
         Ok((question, response)) => {
-            let (question, response) = (question.as_slice(), response.as_slice());
-            let given = Given::copied(alloc, known, question, response, text)?;
-            Ok(Ok(given))
+            let question = KnownText::held_in(known, question);
+            Ok(Ok(Given::new(question, response, text)))
         }
         Err(fault) => Ok(Err(refusal_of(fault)?)),
     }

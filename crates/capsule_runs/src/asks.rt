@@ -9,7 +9,7 @@ ghost use Rattle.capsule_frames.specs.Within.{IsWithin};
 ghost use Rattle.capsule_runs.specs.Lines.{sent_to, sent};
 ghost use Rattle.capsule_runs.specs.Orders.{asks_from};
 
-use crate::results::{AskResult, Sent, copied};
+use crate::results::{AskResult, Sent};
 use batch_plans::Plan;
 use call_places::Span;
 use capsule_frames::{CapsuleLine, CapsulePlan, CapsuleRefusal};
@@ -40,7 +40,7 @@ fn sent_to<'p, S: KemParams, M: Multiplier>(
         (⟦<SeedStream as Words>⟧.word words) text.now) }
 {
     let (asked, request) = ask(alloc, &mut words, mult, key.public(), id, kdf, aead, text)?;
-    Ok(Sent::new(asked, copied(alloc, request.as_slice())?, text))
+    Ok(Sent::new(asked, request, text))
 }
 
 // The same to a key of either parameter set.

@@ -1,11 +1,10 @@
 //! What capsule lines leave for later ones.
 
-ghost use Rattle.std.specs.Prelude.{◌≡◌, IfOk};
+ghost use Rattle.std.specs.Prelude.{◌≡◌};
 
-use batch_plans::{ByteList, PlainList};
+use byte_strings::ByteList;
 use capsule_frames::{CapsuleRefusal, KnownText};
 use ohttp_capsule::Asked;
-use std::alloc::{AllocError as OutOfMemory, Global};
 use std::marker::Model;
 
 /// What a client has of an ask that was made: what it keeps, and the request. They are within the
@@ -97,26 +96,18 @@ impl<'p> Model for Given<'p> {
 }
 
 impl<'p> Given<'p> {
-    ghost use Rattle.std.specs.Prelude.{◌≡◌, ◌≤◌, length, IfOk};
+    ghost use Rattle.std.specs.Prelude.{◌≡◌, ◌≤◌, length};
 
-    /// A text, which may be one that is known, and a response, which is copied.
-    pub(crate) fn copied(
-        alloc: Global,
-        known: &'p [u8],
-        text: &[u8],
-        response: &[u8],
-        said: &'p [u8],
-    ) -> Result<Given<'p>, OutOfMemory>
-        requires { length response.now ≤ 1048624 }
-        ensures { IfOk result (λ g. g ≡ record { text = text.now; response = response.now }) }
+    /// A text, a response, and what it says.
+    pub(crate) fn new(text: KnownText<'p>, response: ByteList, said: &'p [u8]) -> Given<'p>
+        requires { length response ≤ 1048624 }
+        ensures { result ≡ record { text = text.entry; response = response } }
     {
-        let text = KnownText::held_in(alloc, known, text)?;
-        let response = copied(alloc, response)?;
-        Ok(Given {
+        Given {
             text,
             response,
             said,
-        })
+        }
     }
 
     /// The text that was answered with, in the plan.
@@ -145,10 +136,3 @@ pub(crate) type AskResult<'p> = Result<Sent<'p>, CapsuleRefusal>;
 pub(crate) type AnswerResult<'p> = Result<Given<'p>, CapsuleRefusal>;
 
 pub(crate) type TakeResult<'p> = Result<KnownText<'p>, CapsuleRefusal>;
-
-/// The same bytes in memory of their own.
-pub(crate) fn copied(alloc: Global, bytes: &[u8]) -> Result<ByteList, OutOfMemory>
-    ensures { IfOk result (λ b. b ≡ bytes.now) }
-{
-    Ok(PlainList::from_vec(Vec::from_slice(alloc, bytes)?))
-}

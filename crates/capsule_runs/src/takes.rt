@@ -63,7 +63,7 @@ fn took<'p>(
         return Ok(Err(CapsuleRefusal::NoAnswer));
     };
     match take_by(permission, alloc, sent.asked(), response) {
-        Ok(text) => Ok(Ok(KnownText::held_in(alloc, known, text.as_slice())?)),
+        Ok(text) => Ok(Ok(KnownText::held_in(known, text))),
         Err(fault) => Ok(Err(refusal_of(fault)?)),
     }
 }

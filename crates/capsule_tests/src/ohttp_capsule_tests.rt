@@ -7,6 +7,7 @@ mod refusals;
 use self::calls::taken;
 use crate::expected::assert_same;
 use aes_gcm::Checks;
+use byte_strings::PlainList;
 use hex::FromHex;
 use hkdf_labelled::{Aead, Kdf, Suite};
 use key_schedule::Role;
@@ -14,7 +15,6 @@ use ohttp_capsule::firsts::opened_first;
 use ohttp_capsule::headers::{header, suite_named};
 use ohttp_capsule::setups::context_of;
 use ohttp_capsule::{Asked, CapsuleFault};
-use radix_pack::ByteList;
 use std::test::Fail;
 
 // RFC 9458, appendix A, with DHKEM(X25519, HKDF-SHA256) and the shared secret that
@@ -55,7 +55,7 @@ fn the_exchange_of_the_rfc_is_read(rt: HostRuntime) -> Result<(), Fail> {
     );
     let asked = Asked {
         context: context_of(alloc, Role::Sender, 1, suite, &shared_secret)?,
-        enc: ByteList::from_vec(Vec::from_slice(alloc, &request[7..39])?),
+        enc: PlainList::from_vec(Vec::from_slice(alloc, &request[7..39])?),
     };
     let reply = taken(&rt, alloc, &asked, &response).expect(&rt, "a response");
     assert_same(&rt, reply.as_slice(), &[0x01, 0x40, 0xc8][..], "reply");

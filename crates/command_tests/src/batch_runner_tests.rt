@@ -15,7 +15,7 @@ use crate::expected::assert_same;
 use batch_io::{FreeGate, Gate, MemorySink, MemorySource, PureSink, PureSource};
 use batch_runner::{Outcome, serve_pure, serve_words, status};
 use request_frames::Reason;
-use result_verdicts::Verdict;
+use result_lines::Verdict;
 use std::alloc::{AllocError, Global};
 use std::process::Abort;
 use std::sync::Wait;

@@ -2,7 +2,7 @@
 
 ghost use Rattle.std.specs.Prelude.{◌≡◌, ◌+◌, ◌-◌, ◌<◌, ◌≤◌, [], All, IfOk, OnOk, length, vec_len};
 ghost use Rattle.turn_lock.specs.Passes.{AllOf};
-ghost use Rattle.stamped_lists.specs.Stamps.{IsNote};
+ghost use Rattle.stamp_counter.specs.Stamps.{IsNote};
 ghost use Rattle.command_tests.specs.Passes.{MayDraw};
 
 use crate::expected::assert_same;

@@ -5,7 +5,7 @@ ghost use Rattle.hpke_context.specs.Contexts.{HasCipher, CanSeal, CanOpen};
 ghost use Rattle.call_places.specs.Spans.{ItemIsInPool};
 ghost use Rattle.context_books.specs.Openings.{IsTableFor};
 ghost use Rattle.turn_lock.specs.Passes.{AllOf};
-ghost use Rattle.stamped_lists.specs.Stamps.{IsNote};
+ghost use Rattle.stamp_counter.specs.Stamps.{IsNote};
 ghost use Rattle.command_tests.specs.Passes.{MayDraw};
 
 use crate::expected::assert_same;

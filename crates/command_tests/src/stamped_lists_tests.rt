@@ -1,8 +1,7 @@
 //! Stamps for two lists, drawn by one lane.
 
 use crate::expected::assert_same;
-use stamp_counter::StampCounter;
-use stamped_lists::draw_stamps;
+use stamp_counter::{StampCounter, draw_stamps};
 use std::test::Fail;
 
 #[test]

@@ -6,8 +6,9 @@ use Rattle.call_places.specs.declared.entries.Entry.{Entry}
 use Rattle.call_places.specs.declared.entries.Step.{Step}
 use Rattle.call_places.specs.declared.entries.Step.TheVariants.{Sealed, SealLimit, Opened, Failed, OpenLimit, Note}
 use Rattle.call_places.specs.Entries.{own, seq_of, StampsBelow, StampsRise}
-use Rattle.legal_journals.specs.Entries.{number_after, AtNumbers}
-use Rattle.legal_journals.proofs.EntryNumbers.{EachFrom, to_each, from_each, last_number, last_is, seq_of-push}
+use Rattle.context_books.specs.Entries.{number_after, AtNumbers}
+use Rattle.context_books.proofs.EntryNumbers.{to_each, from_each, last_number, last_is, seq_of-push}
+use Rattle.context_books.specs.Lists.{EachFrom}
 use Rattle.context_books.specs.Books.{IsBook, MayStand, KeepsLimit}
 use Rattle.call_places.specs.Quotas.{AreLeft}
 use Rattle.call_places.proofs.Stamps.{StampsRise-push}

@@ -4,8 +4,8 @@ use Rattle.std.specs.List.{range_with_len}
 use Rattle.call_places.specs.declared.entries.Entry.{Entry}
 use Rattle.call_places.specs.declared.entries.Step.{Step}
 use Rattle.call_places.specs.Entries.{IsOwn, CallsWithin, PlacesRise, stamps_of, StampsBelow}
-use Rattle.legal_journals.specs.Batches.{place, block}
-use Rattle.legal_journals.specs.Entries.{entry, entries_from}
+use Rattle.context_books.specs.Batches.{place, block}
+use Rattle.context_books.specs.Entries.{entry, entries_from}
 
 pub IsOwn-entries : (lane call item stamp : ℕ) (steps : List Step) → IsOwn lane (entries_from lane call item stamp steps)
 IsOwn-entries lane call item stamp [] = tt

@@ -9,9 +9,9 @@ use Rattle.call_places.specs.declared.entries.Step.{Step}
 use Rattle.call_places.specs.declared.entries.Step.TheVariants.{Opened, Failed, OpenLimit}
 use Rattle.call_places.specs.declared.spans.Item as spans
 use Rattle.hpke_context.specs.Answers.{Item, Unseal, Cipher, Opened_at, Failed_at, At_limit, answer, next}
-use Rattle.legal_journals.specs.Batches.{place}
-use Rattle.legal_journals.specs.Entries.{entry, entries_from, step_for, steps_from, numbers_from}
-use Rattle.legal_journals.specs.Guesses.{is_in_window, missed}
+use Rattle.context_books.specs.Batches.{place}
+use Rattle.context_books.specs.Entries.{entry, entries_from, step_for, steps_from, numbers_from}
+use Rattle.context_books.specs.Guesses.{is_in_window, missed}
 use Rattle.aes_gcm.specs.Gcm.{Holds}
 use Rattle.call_places.specs.Messages.{SealedMessage, sealed_message, sealed_messages}
 use Rattle.speculative_open.specs.Tables.{IsChecked}

@@ -5,7 +5,7 @@ use Rattle.call_places.specs.declared.entries.Step.{Step}
 use Rattle.call_places.specs.declared.entries.Step.TheVariants.{Sealed, SealLimit, Opened, Failed, OpenLimit, Note}
 use Rattle.call_places.specs.Entries.{own, seq_of, StampsRise}
 use Rattle.call_places.specs.Quotas.{AreLeft}
-use Rattle.legal_journals.specs.Entries.{AtNumbers}
+use Rattle.context_books.specs.Entries.{AtNumbers}
 use Rattle.context_books.specs.declared.book.Draw.{Draw}
 use Rattle.context_books.specs.declared.book.Draw.TheVariants.{Number, Limit}
 

@@ -1,2 +1,10 @@
 pub mod Books
 pub mod Openings
+pub mod Batches
+pub mod Legal
+pub mod Entries
+pub mod Guesses
+pub mod Histories
+pub mod Checks
+pub mod Rows
+pub mod Lists

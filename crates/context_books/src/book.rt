@@ -2,7 +2,7 @@
 
 ghost use Rattle.std.specs.Prelude.{ℕ, ◌≡◌, ◌↔◌, ◌+◌, ◌<◌, ◌≤◌, ◌++◌, ◌∷◌, [], length, slice_index, sum, IfOk};
 ghost use Rattle.call_places.specs.Entries.{own, seq_of, last_of, StampsBelow, StampsRise};
-ghost use Rattle.legal_journals.specs.Entries.{entry};
+ghost use Rattle.context_books.specs.Entries.{entry};
 ghost use Rattle.context_books.specs.Books.{SameTerms, drawn_step, opened_at, MayStand, KeepsLimit, KeepsQuotas};
 
 use call_places::{Entry, Listed, Place, Step};

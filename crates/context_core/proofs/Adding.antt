@@ -7,15 +7,15 @@ use Rattle.call_places.specs.declared.entries.Place.{Place}
 use Rattle.call_places.specs.declared.entries.Step.{Step}
 use Rattle.call_places.specs.Entries.{own, seq_of, mark_of, StampsBelow}
 use Rattle.hpke_context.specs.Contexts.{ContextView, cipher_of}
-use Rattle.legal_journals.specs.Batches.{Ask, Spot, spots, block, asked, all_asked, items_in, context_in, lane_of, lane_places, on}
-use Rattle.legal_journals.specs.Histories.{stamped_on, own_spots}
-use Rattle.legal_journals.specs.Entries.{entries_from, steps_from, Fits, FitsAt}
-use Rattle.legal_journals.proofs.Lists.{on-append, on-spots, on-spots_same, all_asked-append, append-nil}
-use Rattle.legal_journals.proofs.OneLane.{parted, taken_more, few_taken}
-use Rattle.legal_journals.proofs.EntryNumbers.{length-steps_from}
-use Rattle.core_schedules.proofs.Lists.{one_value}
-use Rattle.core_schedules.proofs.Steps.{Fresh, HasPlaces, placed}
-use Rattle.core_schedules.proofs.Matching.{drop_at}
+use Rattle.context_books.specs.Batches.{Ask, Spot, spots, block, asked, all_asked, items_in, context_in, lane_of, lane_places, on}
+use Rattle.context_books.specs.Histories.{stamped_on, own_spots}
+use Rattle.context_books.specs.Entries.{entries_from, steps_from, Fits, FitsAt}
+use Rattle.context_books.proofs.Lists.{on-append, on-spots, on-spots_same, all_asked-append, append-nil}
+use Rattle.context_books.proofs.OneLane.{parted, taken_more, few_taken}
+use Rattle.context_books.proofs.EntryNumbers.{length-steps_from}
+use Rattle.context_core.proofs.ScheduleLists.{one_value}
+use Rattle.context_core.specs.CoreStages.{Fresh, HasPlaces, placed}
+use Rattle.context_core.proofs.Matching.{drop_at}
 use Rattle.context_books.specs.Books.{BookView}
 use Rattle.context_books.proofs.Blocks.{length-block}
 use Rattle.batch_plans.specs.declared.plan.Plan.{Plan}
@@ -161,7 +161,7 @@ module _ (plan : Plan) (contexts : List (Option ContextView)) (h : List Spot) (o
               ∙ sym (stamped_on-append c 0 h (asked l k a));
           fits = subst (Fits (batch_of plan contexts) c (cipher_of view)) (sym entries)
               (fits_more (batch_of plan contexts) c (cipher_of view) book.entries added of.fits
-              (subst (λ ss. Rattle.legal_journals.proofs.EntryNumbers.EachFrom
+              (subst (λ ss. Rattle.context_books.specs.Lists.EachFrom
               (FitsAt (batch_of plan contexts) c (cipher_of view))
               (seq_of book.entries) (entries_from l k 0 old.places ss)) (sym steps_are)
               (steps_fit (batch_of plan contexts) (cipher_of view) (seq_of book.entries) l k

@@ -7,14 +7,14 @@ use Rattle.std.proofs.lemmas.List.FromFn.{length-map-range_with_len}
 use Rattle.call_places.specs.declared.entries.Place.{Place}
 use Rattle.hpke_context.specs.Answers.{Item}
 use Rattle.hpke_context.specs.Contexts.{ContextView}
-use Rattle.legal_journals.specs.Batches.{Batch, Ask, Nothing, ToSeal, ToOpen, ToOpenAll, Spot, item_of, item_in, item_in_call, context_in, lane_of, on, IsServed}
-use Rattle.legal_journals.specs.Legal.{Legal}
-use Rattle.legal_journals.specs.Guesses.{AllGuessed, Guessed, guess_at}
-use Rattle.legal_journals.specs.Histories.{journals_of}
-use Rattle.legal_journals.proofs.Members.{got, none_in, contains_in}
-use Rattle.core_schedules.specs.Core as core
-use Rattle.core_schedules.specs.Core.{Core, journal}
-use Rattle.core_schedules.proofs.Schedules.{journals_legal, lane_count, all_guessed, legal_together}
+use Rattle.context_books.specs.Batches.{Batch, Ask, Nothing, ToSeal, ToOpen, ToOpenAll, Spot, item_of, item_in, item_in_call, context_in, lane_of, on, IsServed}
+use Rattle.context_books.specs.Legal.{Legal}
+use Rattle.context_books.specs.Guesses.{AllGuessed, Guessed, guess_at}
+use Rattle.context_books.specs.Histories.{journals_of}
+use Rattle.context_books.proofs.Members.{got, none_in, contains_in}
+use Rattle.context_core.specs.Core as core
+use Rattle.context_core.specs.Core.{Core, journal}
+use Rattle.context_core.proofs.Schedules.{journals_legal, lane_count, all_guessed, legal_together}
 use Rattle.batch_plans.specs.declared.plan.Plan.{Plan}
 use Rattle.batch_plans.specs.declared.plan.CallLine.{CallLine}
 use Rattle.batch_plans.specs.declared.plan.CallLine.TheVariants as calls
@@ -56,7 +56,7 @@ module _ (plan : Plan) (contexts : List (Option ContextView)) where
       within_contexts contexts c t.0 (ap (standing_at contexts) (sym (same call at)) ∙ t.1)
     where
       context_is : (o : Option Item) (d : ℕ)
-          → Rattle.legal_journals.specs.Batches.with_context d o ≡ Some (c, x) → d ≡ c
+          → Rattle.context_books.specs.Batches.with_context d o ≡ Some (c, x) → d ≡ c
       context_is None d e = absurd (let f : None ≡ Some (c, x) = e in cc)
       context_is (Some y) d e = ap pair e
         where
@@ -68,9 +68,7 @@ module _ (plan : Plan) (contexts : List (Option ContextView)) where
       same (calls.Seal context item) e = context_is _ context e
       same (calls.Unseal context item) e = context_is _ context e
       same (calls.UnsealAll context first count) e = context_is _ context e
-      same (calls.Export context exporter size) e = absurd (let f : None ≡ Some (c, x) = e in cc)
-      same (calls.Add name) e = absurd (let f : None ≡ Some (c, x) = e in cc)
-      same (calls.Retire name) e = absurd (let f : None ≡ Some (c, x) = e in cc)
+      same call e = absurd (let f : None ≡ Some (c, x) = e in cc)
 
   calls_there : (calls : List CallLine) (k i c : ℕ) (x : Item)
       → item_in_call (slice_get (map (ask_of plan contexts) calls) k) i ≡ Some (c, x)

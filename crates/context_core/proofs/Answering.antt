@@ -9,11 +9,11 @@ use Rattle.call_places.specs.declared.spans.Span.{Span}
 use Rattle.call_places.specs.Spans.{span_bytes}
 use Rattle.hpke_context.specs.Answers.{Cipher, Seal, Unseal, answer, run}
 use Rattle.hpke_context.specs.Contexts.{ContextView, cipher_of, exported_by}
-use Rattle.legal_journals.specs.Batches.{Ask, Nothing, lane_of}
-use Rattle.legal_journals.specs.Legal.{due_after}
-use Rattle.legal_journals.specs.Guesses.{guess_of, guess_at, guess_count, missed}
-use Rattle.legal_journals.specs.Entries.{steps_from, numbers_from}
-use Rattle.core_schedules.specs.Core.{Core}
+use Rattle.context_books.specs.Batches.{Ask, Nothing, lane_of}
+use Rattle.context_books.specs.Legal.{due_after}
+use Rattle.context_books.specs.Guesses.{guess_of, guess_at, guess_count, missed}
+use Rattle.context_books.specs.Entries.{steps_from, numbers_from}
+use Rattle.context_core.specs.Core.{Core}
 use Rattle.context_books.specs.declared.book.Draw.{Draw}
 use Rattle.context_books.specs.Openings.{unseals}
 use Rattle.batch_plans.specs.declared.plan.Plan.{Plan}
@@ -33,7 +33,8 @@ use Rattle.due_replies.specs.Standing.{standing_at, call_refusal, AreOfLines}
 use Rattle.due_replies.specs.Asks.{asked_by, ask_unless, ask_of, batch_of, cipher_at, cipher_in}
 use Rattle.due_replies.specs.Runs as runs
 use Rattle.due_replies.specs.Runs.{answer_line, call_lines, guesses_of}
-use Rattle.due_replies.proofs.CallLines.{StandsBehind, export_lines, seal_lines, unseal_lines, unseal_all_lines}
+use Rattle.due_replies.proofs.CallLines.{export_lines, seal_lines, unseal_lines, unseal_all_lines}
+use Rattle.due_replies.specs.Lanes.{StandsBehind}
 use Rattle.lane_replies.specs.LaneCalls.{lane_calls, opening_items, IsOpening}
 use Rattle.lane_replies.specs.Writing.{due_at, PutsReplies}
 use Rattle.lane_replies.specs.Answered.{KeepsUp}
@@ -172,11 +173,6 @@ module _ (plan : Plan) (contexts : List (Option ContextView)) (w : Core) (l numb
         → PutsReplies p mid (served_room plan.items call) opened
         → new ≡ with_guess mid x (record { guess = guess; missed = misses })
         → KeepsUp all l (number + 1) new
-    by_kind (calls.Seal c item) is new mid puts kept = absurd (subst IsOpening is has.opens.opening)
-    by_kind (calls.Export c exporter size) is new mid puts kept =
-        absurd (subst IsOpening is has.opens.opening)
-    by_kind (calls.Add name) is new mid puts kept = absurd (subst IsOpening is has.opens.opening)
-    by_kind (calls.Retire name) is new mid puts kept = absurd (subst IsOpening is has.opens.opening)
     by_kind (calls.Unseal c item) is new mid puts kept =
         let aad = span_bytes plan.pool item.aad in
         let ct = span_bytes plan.pool item.text in
@@ -234,6 +230,7 @@ module _ (plan : Plan) (contexts : List (Option ContextView)) (w : Core) (l numb
         kept_guess may.keeps_up free
         (subst (λ y. PutsReplies p mid (served_room plan.items y) opened) is puts)
         (omega arith) each kept lines
+    by_kind call is new mid puts kept = absurd (subst IsOpening is has.opens.opening)
 
     pub opened_on : (new mid : Progress) → PutsReplies p mid (sum_by opened_room items) opened
         → new ≡ with_guess mid call (record { guess = guess; missed = misses })

@@ -7,12 +7,12 @@ use Rattle.std.proofs.lemmas.List.{length-map, length-replicate, get_or_past, ge
 use Rattle.std.proofs.lemmas.List.FromFn.{get_or-map-range_with_len, length-map-range_with_len}
 use Rattle.std.proofs.lemmas.Option.{slice_get-map, slice_get_within, slice_get-get_or, get_or_from_slice_get}
 use Rattle.hpke_context.specs.Contexts.{ContextView}
-use Rattle.legal_journals.specs.Batches.{Batch, Ask, all_asked, lane_of, on}
-use Rattle.core_schedules.specs.Core as core
-use Rattle.core_schedules.specs.Core.{Core, all_tasks, at_first, start}
-use Rattle.core_schedules.proofs.Steps as core_steps
-use Rattle.core_schedules.proofs.Steps.{tasks_at, placed}
-use Rattle.core_schedules.proofs.Matching.{lane_at}
+use Rattle.context_books.specs.Batches.{Batch, Ask, all_asked, lane_of, on}
+use Rattle.context_core.specs.Core as core
+use Rattle.context_core.specs.Core.{Core, all_tasks, at_first, start}
+use Rattle.context_core.specs.CoreStages as core_steps
+use Rattle.context_core.specs.CoreStages.{tasks_at, placed}
+use Rattle.context_core.specs.CoreStages.{lane_at}
 use Rattle.context_books.specs.Books.{BookView}
 use Rattle.batch_plans.specs.declared.plan.Plan.{Plan}
 use Rattle.batch_plans.specs.declared.replies.LaneAnswers.{LaneAnswers}
@@ -27,11 +27,11 @@ use Rattle.context_core.specs.declared.lanes.Lane.{Lane}
 use Rattle.context_core.specs.Books.{book_at}
 use Rattle.lane_replies.specs.LaneCalls.{lane_calls}
 use Rattle.context_core.specs.Following.{core_stage, opened_count, unsettled, AreBooks, IsLane, IsAt, IsRehearsal}
-use Rattle.lane_quotas.specs.Quotas.{lane_quota}
+use Rattle.lane_replies.specs.Quotas.{lane_quota}
 use Rattle.context_core.specs.Preparing.{fresh_in, fresh_at, IsFresh, AreFresh, with_answers}
 use Rattle.context_core.proofs.Allowed.{within_contexts}
 use Rattle.context_core.proofs.Adding.{nothing_placed}
-use Rattle.lane_quotas.proofs.Places.{quota_is}
+use Rattle.lane_replies.proofs.Places.{quota_is}
 
 -- ---- the start
 
@@ -122,7 +122,7 @@ module _ (plan : Plan) (contexts : List (Option ContextView)) (within : IsWithin
         own = sym (nothing_placed l 0 (drop 0 asks))
             ∙ (λ i. all_asked l 0 (take (sym call i) asks)
             ++ placed (core_stage (sym stage i)) l (sym call i) (drop (sym call i) asks));
-        count = ap (λ n. Rattle.legal_journals.specs.Guesses.guess_count (take n asks)) (sym call);
+        count = ap (λ n. Rattle.context_books.specs.Guesses.guess_count (take n asks)) (sym call);
         within = omega arith;
         progress = progress;
         tools = record {

@@ -5,8 +5,8 @@ use Rattle.std.proofs.lemmas.List.{length-map, length-take}
 use Rattle.std.proofs.lemmas.List.Sums.{sum_by-cons, sum_by-take-drop}
 use Rattle.hpke_context.specs.Contexts.{ContextView}
 use Rattle.call_places.specs.Messages.{sealed_message, sealed_messages}
-use Rattle.legal_journals.specs.Batches.{Ask, unseal, asked, all_asked, items_in}
-use Rattle.core_schedules.proofs.Steps.{Stage, Fresh, HasGuess, HasTests, HasPlaces, placed}
+use Rattle.context_books.specs.Batches.{Ask, unseal, asked, all_asked, items_in}
+use Rattle.context_core.specs.CoreStages.{Stage, Fresh, HasGuess, HasTests, HasPlaces, placed}
 use Rattle.batch_plans.specs.declared.plan.Plan.{Plan}
 use Rattle.batch_plans.specs.declared.plan.CallLine.{CallLine}
 use Rattle.batch_plans.specs.declared.plan.CallLine.TheVariants as calls
@@ -52,8 +52,6 @@ module _ (plan : Plan) (contexts : List (Option ContextView)) where
   ask_size : (call : CallLine) (refusal : Option CallRefusal)
       → size (ask_unless refusal (asked_by plan call)) ≤ items_of call
   ask_size call (Some why) = omega arith
-  ask_size (calls.Seal context item) None = omega arith
-  ask_size (calls.Unseal context item) None = omega arith
   ask_size (calls.UnsealAll context first count) None =
       let items = items_from plan.items first count in
       omega (
@@ -62,9 +60,7 @@ module _ (plan : Plan) (contexts : List (Option ContextView)) where
         length-map items (sealed_message plan.pool),
         length-take count (drop first plan.items),
       )
-  ask_size (calls.Export context exporter size) None = omega arith
-  ask_size (calls.Add name) None = omega arith
-  ask_size (calls.Retire name) None = omega arith
+  ask_size call None = omega arith
 
   pub asks_size : (calls : List CallLine)
       → sum_by size (map (ask_of plan contexts) calls) ≤ sum_by items_of calls

@@ -5,28 +5,28 @@ use Rattle.std.specs.List.{All, range_with_len, refill}
 use Rattle.std.proofs.lemmas.List.{length-map, length-replicate, take_all, take-append-le, nil_from_length}
 use Rattle.std.proofs.lemmas.List.FromFn.{fill_by_all, get_or-map-range_with_len, length-map-range_with_len}
 use Rattle.std.proofs.lemmas.Option.{slice_get_within, slice_get-get_or, get_or_from_slice_get}
+use Rattle.std.proofs.Math.Seq.{take-length}
 use Rattle.call_places.specs.declared.entries.Mark.{Mark}
 use Rattle.call_places.specs.declared.entries.Entry.{Entry}
 use Rattle.hpke_context.specs.Answers.{Cipher}
 use Rattle.hpke_context.specs.Contexts.{ContextView}
-use Rattle.legal_journals.specs.Batches.{Batch, Ask, Nothing, ToSeal, ToOpen, ToOpenAll, lane_of, on}
-use Rattle.legal_journals.specs.Histories.{stamped_on, journals_of}
-use Rattle.legal_journals.proofs.Lists.{own_places-on}
-use Rattle.legal_journals.proofs.Members.{got}
-use Rattle.legal_journals.proofs.Legals.{lane_is}
-use Rattle.legal_journals.proofs.HistoryJournals.{places-stamped_on}
-use Rattle.core_schedules.specs.Core as core
-use Rattle.core_schedules.specs.Core.{Core, Task, start, all_happen}
-use Rattle.core_schedules.proofs.Ends.{all_happen-append}
-use Rattle.core_schedules.proofs.Steps.{Stage, Fresh, HasGuess, HasTests, HasPlaces, tasks_at}
-use Rattle.core_schedules.proofs.Schedules.{journals_legal, all_ended}
+use Rattle.context_books.specs.Batches.{Batch, Ask, Nothing, ToSeal, ToOpen, ToOpenAll, lane_of, on}
+use Rattle.context_books.specs.Histories.{stamped_on, journals_of}
+use Rattle.context_books.proofs.Lists.{own_places-on}
+use Rattle.context_books.proofs.Members.{got}
+use Rattle.context_books.proofs.Legals.{lane_is}
+use Rattle.context_books.proofs.HistoryJournals.{places-stamped_on}
+use Rattle.context_core.specs.Core as core
+use Rattle.context_core.specs.Core.{Core, Task, start, all_happen}
+use Rattle.context_core.proofs.ScheduleEnds.{all_happen-append}
+use Rattle.context_core.specs.CoreStages.{Stage, Fresh, HasGuess, HasTests, HasPlaces, tasks_at}
+use Rattle.context_core.proofs.Schedules.{journals_legal, all_ended}
 use Rattle.context_books.specs.Books.{BookView}
 use Rattle.batch_plans.specs.declared.plan.Plan.{Plan}
 use Rattle.batch_plans.specs.declared.replies.LaneAnswers.{LaneAnswers}
 use Rattle.batch_plans.specs.Limits.{IsWithinLimits}
-use Rattle.batch_plans.specs.Calls.{all_items_on}
-use Rattle.batch_plans.specs.Room.{lane_room, journal_room, blank_mark}
-use Rattle.reply_texts.specs.ReplyText.{answered_lines, lanes_lines, numbered}
+use Rattle.batch_plans.specs.Room.{all_items_on, lane_room, journal_room, blank_mark}
+use Rattle.reply_texts.specs.ReplyText.{answered_lines, lanes_lines, numbered, UsesUp}
 use Rattle.reply_texts.proofs.Lanes.{lanes_lines-numbered}
 use Rattle.due_replies.specs.Standing.{standing_at, export_limits, AreOfLines}
 use Rattle.due_replies.specs.Asks.{batch_of, cipher_at, ask_of}
@@ -40,11 +40,11 @@ use Rattle.context_core.specs.Rehearsals.{rehearsed}
 use Rattle.context_core.specs.Books.{book_at}
 use Rattle.lane_replies.specs.LaneCalls.{lane_calls}
 use Rattle.context_core.specs.Following.{run_of, long_ends, core_stage, IsBookOf, IsDone, AreDone, AreAnswered, IsRehearsal}
-use Rattle.lane_quotas.specs.Journals.{written, HasRoom}
+use Rattle.lane_replies.specs.Journals.{written, HasRoom}
 use Rattle.context_core.specs.Preparing.{answers_of, IsEnded}
 use Rattle.context_core.proofs.Histories.{places_are}
 use Rattle.context_core.proofs.Runs.{guesses_are}
-use Rattle.lane_quotas.proofs.Places.{journal_count}
+use Rattle.lane_replies.proofs.Places.{journal_count}
 use Rattle.context_core.proofs.Events.{ends_are}
 
 -- a list of the same length put over another
@@ -172,6 +172,25 @@ module _ (plan : Plan) (contexts : List (Option ContextView)) (schedule : List �
           ∙ (at_last i x.0 x.1).2
           ∙ ap (lane_call_lines (rehearsed plan contexts schedule) i) (sym calls_are)
           ∙ ap (λ n. lane_call_lines (rehearsed plan contexts schedule) n calls) start)
+
+      -- each reply and each guess is a call's
+      pub used : (answers : List LaneAnswers) → length answers ≡ length after
+          → ((l : ℕ) (lane : Lane) (given : LaneAnswers) → l < length after
+          → get_or answers l given ≡ answers_of (get_or after l lane).progress)
+          → (l : ℕ) (one : LaneAnswers) → slice_get answers l ≡ Some one
+          → UsesUp (lane_calls plan l) one.replies one.batches
+      used answers count given l one at =
+          let low : l < length after =
+          (let within = slice_get_within answers l one at in omega arith) in
+          let x = got after l low in
+          let lane_is : get_or after l x.0 ≡ x.0 = get_or_from_slice_get after l x.0 x.0 x.1 in
+          let is : one ≡ answers_of x.0.progress =
+          sym (get_or_from_slice_get answers l one one at) ∙ given l x.0 one low
+          ∙ ap (λ (y : Lane). answers_of y.progress) lane_is in
+          let t = answered l x.0 x.1 in
+          subst (λ (y : LaneAnswers). UsesUp (lane_calls plan l) y.replies y.batches) (sym is)
+          (subst (λ cs. UsesUp cs x.0.progress.replies x.0.progress.batches)
+          (take-length (lane_calls plan l)) t.answered.uses)
 
     -- ---- journals
 

@@ -7,18 +7,20 @@ use Rattle.std.proofs.lemmas.List.Sums.{sum_by-cons}
 use Rattle.std.proofs.lemmas.Option.{slice_get_within, slice_get-get_or, get_or_from_slice_get}
 use Rattle.hpke_context.specs.Answers.{Cipher}
 use Rattle.hpke_context.specs.Contexts.{ContextView}
-use Rattle.legal_journals.specs.Batches.{Batch, Ask, Nothing, ToSeal, ToOpen, ToOpenAll, Spot, lane_of}
-use Rattle.legal_journals.specs.Histories.{own_spots}
-use Rattle.legal_journals.proofs.Members.{In, got}
-use Rattle.legal_journals.proofs.Lists.{own_spots-append, append-nil}
-use Rattle.legal_journals.proofs.Spots.{spot_own}
-use Rattle.legal_journals.proofs.OneLane.{taken_more, few_taken}
-use Rattle.core_schedules.specs.Core as core
-use Rattle.core_schedules.specs.Core.{Core, Moved, Phase, phases, all_tasks, tasks, step, due_in, with_moved, happens_at, happens, all_happen, at_first, start, to_the_ends}
-use Rattle.core_schedules.proofs.Lists.{one_value, slice_get-set_same, slice_get-set_other}
-use Rattle.core_schedules.proofs.Steps.{tasks_at, gives_own}
-use Rattle.core_schedules.proofs.Ends.{left_of, left_at, one_less, no_more_after, start_left, all_happen-append}
-use Rattle.core_schedules.proofs.Idle.{at_end, not_there}
+use Rattle.context_books.specs.Batches.{Batch, Ask, Nothing, ToSeal, ToOpen, ToOpenAll, Spot, lane_of}
+use Rattle.context_books.specs.Histories.{own_spots}
+use Rattle.context_books.proofs.Members.{got}
+use Rattle.context_books.specs.Lists.{In}
+use Rattle.context_books.proofs.Lists.{own_spots-append, append-nil}
+use Rattle.context_books.proofs.Spots.{spot_own}
+use Rattle.context_books.proofs.OneLane.{taken_more, few_taken}
+use Rattle.context_core.specs.Core as core
+use Rattle.context_core.specs.Core.{Core, Moved, Phase, phases, all_tasks, tasks, step, due_in, with_moved, happens_at, happens, all_happen, at_first, start, to_the_ends}
+use Rattle.context_core.proofs.ScheduleLists.{one_value, slice_get-set_same, slice_get-set_other}
+use Rattle.context_core.proofs.ScheduleSteps.{gives_own}
+use Rattle.context_core.specs.CoreStages.{tasks_at}
+use Rattle.context_core.proofs.ScheduleEnds.{left_of, left_at, one_less, no_more_after, start_left, all_happen-append}
+use Rattle.context_core.proofs.Idle.{at_end, not_there}
 use Rattle.batch_plans.specs.declared.plan.Plan.{Plan}
 use Rattle.batch_plans.specs.declared.plan.CallLine.{CallLine}
 use Rattle.batch_plans.specs.Limits.{items_of, IsWithinLimits}
@@ -29,7 +31,7 @@ use Rattle.context_core.specs.declared.lanes.Lane.{Lane}
 use Rattle.lane_replies.specs.LaneCalls.{lane_calls}
 use Rattle.context_core.specs.Following.{run_of, long_ends, core_stage, IsLane, Follows, IsRehearsal}
 use Rattle.context_core.proofs.Going.{lane_stays}
-use Rattle.lane_quotas.proofs.Sums.{count_parts, sum_numbers-le}
+use Rattle.lane_replies.proofs.Sums.{count_parts, sum_numbers-le}
 use Rattle.context_core.proofs.Counting.{own-le, asks_size}
 
 module _ (plan : Plan) (contexts : List (Option ContextView)) where
@@ -90,7 +92,7 @@ module _ (plan : Plan) (contexts : List (Option ContextView)) where
       let asks = lane_of batch l in
       let all = lane_asks (run_of plan contexts w) l in
       let size = ap (sum_by (λ (a : Ask). length
-      (Rattle.legal_journals.specs.Batches.items_in a))) all in
+      (Rattle.context_books.specs.Batches.items_in a))) all in
       omega (
         arith,
         ap length of.own,

@@ -14,12 +14,8 @@ use Rattle.context_core.specs.Following.{opened_count}
 use Rattle.context_core.specs.Preparing.{IsFresh}
 
 opened-le : (call : CallLine) → opened_count call ≤ items_of call
-opened-le (calls.Seal context item) = omega arith
-opened-le (calls.Unseal context item) = omega arith
-opened-le (calls.UnsealAll context first count) = omega arith
-opened-le (calls.Export context exporter size) = omega arith
 opened-le (calls.Add name) = omega arith
-opened-le (calls.Retire name) = omega arith
+opened-le call = omega arith
 
 all_opened-le : (lane : List CallLine) → sum_by opened_count lane ≤ sum_by items_of lane
 all_opened-le [] = omega arith

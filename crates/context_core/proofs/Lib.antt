@@ -11,3 +11,9 @@ pub mod Fresh
 pub mod Begun
 pub mod Ended
 pub mod Answering
+pub mod ScheduleLists
+pub mod ScheduleSteps
+pub mod ScheduleEnds
+pub mod Idle
+pub mod Schedules
+pub mod Matching

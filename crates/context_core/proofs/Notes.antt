@@ -6,8 +6,8 @@ use Rattle.std.proofs.Math.Seq.{drop-append_seam}
 use Rattle.std.proofs.lemmas.List.Sums.{sum_by-cons}
 use Rattle.call_places.specs.declared.entries.Step.{Step}
 use Rattle.hpke_context.specs.Contexts.{ContextView}
-use Rattle.legal_journals.specs.Batches.{Spot}
-use Rattle.core_schedules.specs.Core.{Core}
+use Rattle.context_books.specs.Batches.{Spot}
+use Rattle.context_core.specs.Core.{Core}
 use Rattle.batch_plans.specs.declared.plan.Plan.{Plan}
 use Rattle.batch_plans.specs.declared.plan.CallLine.{CallLine}
 use Rattle.due_replies.specs.Asks.{asked_by}

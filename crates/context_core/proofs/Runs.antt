@@ -6,15 +6,15 @@ use Rattle.std.proofs.lemmas.List.{get_or_past}
 use Rattle.std.proofs.lemmas.List.FromFn.{get_or-map-range_with_len, length-map-range_with_len}
 use Rattle.call_places.specs.declared.entries.Place.{Place}
 use Rattle.hpke_context.specs.Contexts.{ContextView}
-use Rattle.legal_journals.specs.Batches.{Ask, Spot, block, items_in, context_in, on}
-use Rattle.legal_journals.specs.Histories.{places, marks_at, journals_of, stamped_on}
-use Rattle.legal_journals.proofs.Lists.{on-append}
-use Rattle.legal_journals.proofs.HistoryJournals.{places-stamped_on}
-use Rattle.core_schedules.specs.Core.{Core}
-use Rattle.core_schedules.specs.Core as core
+use Rattle.context_books.specs.Batches.{Ask, Spot, block, items_in, context_in, on}
+use Rattle.context_books.specs.Histories.{places, marks_at, journals_of, stamped_on}
+use Rattle.context_books.proofs.Lists.{on-append}
+use Rattle.context_books.proofs.HistoryJournals.{places-stamped_on}
+use Rattle.context_core.specs.Core.{Core}
+use Rattle.context_core.specs.Core as core
 use Rattle.batch_plans.specs.declared.plan.Plan.{Plan}
 use Rattle.due_replies.specs.Runs.{journal_of, guesses_of}
-use Rattle.due_replies.proofs.CallLines.{StandsBehind}
+use Rattle.due_replies.specs.Lanes.{StandsBehind}
 use Rattle.context_core.specs.Following.{run_of}
 
 marks_there : (n c : ℕ) (h : List Spot) → c < n → marks_at (journals_of n h) c ≡ stamped_on c 0 h

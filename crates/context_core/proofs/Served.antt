@@ -9,17 +9,18 @@ use Rattle.call_places.specs.Spans.{span_bytes}
 use Rattle.call_places.specs.Entries.{seq_of}
 use Rattle.hpke_context.specs.Answers.{Cipher}
 use Rattle.hpke_context.specs.Contexts.{ContextView, cipher_of}
-use Rattle.legal_journals.specs.Batches.{Batch, Ask, Nothing, ToSeal, Spot, asked, all_asked, block, place, items_in, context_in, lane_of, on}
-use Rattle.legal_journals.specs.Legal.{due_after}
-use Rattle.legal_journals.specs.Guesses.{guess_of, guess_count, missed}
-use Rattle.legal_journals.specs.Histories.{own_spots}
-use Rattle.legal_journals.specs.Entries.{steps_from, numbers_from}
-use Rattle.legal_journals.proofs.Lists.{own_spots-append, own_spots-asked, own_places-on, on-append, on-spots_same, append-nil}
-use Rattle.core_schedules.specs.Core.{Core, step, due_in, happens}
-use Rattle.core_schedules.proofs.Lists.{one_value, slice_get-set_same}
-use Rattle.core_schedules.proofs.Steps as core_steps
-use Rattle.core_schedules.proofs.Steps.{placed}
-use Rattle.core_schedules.proofs.Matching.{lane_at, moved_to, nothing_asked, draws, guesses_one, guesses_all, checks, commits, finishes}
+use Rattle.context_books.specs.Batches.{Batch, Ask, Nothing, ToSeal, Spot, asked, all_asked, block, place, items_in, context_in, lane_of, on}
+use Rattle.context_books.specs.Legal.{due_after}
+use Rattle.context_books.specs.Guesses.{guess_of, guess_count, missed}
+use Rattle.context_books.specs.Histories.{own_spots}
+use Rattle.context_books.specs.Entries.{steps_from, numbers_from}
+use Rattle.context_books.proofs.Lists.{own_spots-append, own_spots-asked, own_places-on, on-append, on-spots_same, append-nil}
+use Rattle.context_core.specs.Core.{Core, step, due_in, happens}
+use Rattle.context_core.proofs.ScheduleLists.{one_value, slice_get-set_same}
+use Rattle.context_core.specs.CoreStages as core_steps
+use Rattle.context_core.specs.CoreStages.{placed}
+use Rattle.context_core.proofs.Matching.{moved_to, nothing_asked, draws, guesses_one, guesses_all, checks, commits, finishes}
+use Rattle.context_core.specs.CoreStages.{lane_at}
 use Rattle.context_books.specs.declared.book.Draw.{Draw}
 use Rattle.context_books.specs.declared.book.Draw.TheVariants.{Number, Limit}
 use Rattle.context_books.specs.Books.{BookView, drawn_step}
@@ -33,7 +34,8 @@ use Rattle.batch_plans.specs.Calls.{context_of}
 use Rattle.speculative_open.specs.Tables.{TableView}
 use Rattle.due_replies.specs.Standing.{standing_at, call_refusal, AreOfLines}
 use Rattle.due_replies.specs.Asks.{asked_by, ask_unless, ask_of, batch_of, cipher_at, cipher_in}
-use Rattle.due_replies.proofs.CallLines.{StandsBehind, not_yet}
+use Rattle.due_replies.proofs.CallLines.{not_yet}
+use Rattle.due_replies.specs.Lanes.{StandsBehind}
 use Rattle.lane_replies.specs.Writing.{due_at}
 use Rattle.lane_replies.proofs.Items.{length-unseals}
 use Rattle.context_core.specs.declared.books.Books.{Books}
@@ -61,12 +63,9 @@ none_of None is = refl
 none_of (Some x) is = absurd (let f : true ≡ false = is in cc)
 
 opened_items : (call : CallLine) → IsOpening call → items_of call ≡ opened_count call
-opened_items (calls.Seal context item) opening = absurd opening
 opened_items (calls.Unseal context item) opening = refl
 opened_items (calls.UnsealAll context first count) opening = refl
-opened_items (calls.Export context exporter size) opening = absurd opening
-opened_items (calls.Add name) opening = absurd opening
-opened_items (calls.Retire name) opening = absurd opening
+opened_items call opening = absurd opening
 
 module _ (plan : Plan) (contexts : List (Option ContextView)) (within : IsWithinLimits plan)
     (standing : AreOfLines plan.contexts contexts) (l : ℕ) (lane : Lane) (books : Books)
@@ -474,16 +473,13 @@ module _ (plan : Plan) (contexts : List (Option ContextView)) (within : IsWithin
             → step due l (lane_at asks k core_steps.Fresh of.guess of.guesses)
             (lane_at asks k core_steps.Fresh of.guess of.guesses).to_come
             ≡ moved_to (lane_at asks k core_steps.HasGuess (due (context_in a)) of.guesses) []
-        from (calls.Seal c item) o at same = absurd o
         from (calls.Unseal c item) o at same =
             guesses_one due l asks k of.guess of.guesses c _ _ at
             ∙ ap (λ n. moved_to (lane_at asks k core_steps.HasGuess (due n) of.guesses) []) same
         from (calls.UnsealAll c first count) o at same =
             guesses_all due l asks k of.guess of.guesses c _ at
             ∙ ap (λ n. moved_to (lane_at asks k core_steps.HasGuess (due n) of.guesses) []) same
-        from (calls.Export c exporter size) o at same = absurd o
-        from (calls.Add name) o at same = absurd o
-        from (calls.Retire name) o at same = absurd o
+        from call o at same = absurd o
 
     pub guessed_follows : (new : Lane) (guess : ℕ) → lane.stage ≡ Fresh
         → IsNext new (Guessed guess)

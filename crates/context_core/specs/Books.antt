@@ -5,7 +5,7 @@ use Rattle.call_places.specs.declared.entries.Step.{Step}
 use Rattle.call_places.specs.declared.spans.Item.{Item}
 use Rattle.call_places.specs.Entries.{own, seq_of, StampsBelow}
 use Rattle.hpke_context.specs.Contexts.{ContextView}
-use Rattle.legal_journals.specs.Entries.{entry, entries_from}
+use Rattle.context_books.specs.Entries.{entry, entries_from}
 use Rattle.context_books.specs.declared.book.Draw.{Draw}
 use Rattle.context_books.specs.declared.book.Draw.TheVariants.{Number, Limit}
 use Rattle.context_books.specs.Books.{BookView, SameTerms, drawn_step}

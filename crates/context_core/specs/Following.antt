@@ -6,17 +6,17 @@ use Rattle.call_places.specs.declared.entries.Step.{Step}
 use Rattle.call_places.specs.Entries.{mark_of}
 use Rattle.hpke_context.specs.Answers.{Cipher}
 use Rattle.hpke_context.specs.Contexts.{ContextView, cipher_of}
-use Rattle.legal_journals.specs.Batches.{Batch, Nothing, Spot, all_asked, lane_of, lane_places, on}
-use Rattle.legal_journals.specs.Legal.{due_after}
-use Rattle.legal_journals.specs.Guesses as guesses
-use Rattle.legal_journals.specs.Guesses.{guess_count, guess_of}
-use Rattle.legal_journals.specs.Histories.{journals_of, stamped_on, own_spots}
-use Rattle.legal_journals.specs.Entries.{steps_from, numbers_from, Fits}
-use Rattle.core_schedules.specs.Core as core
-use Rattle.core_schedules.specs.Core.{Core, happens}
-use Rattle.core_schedules.proofs.Steps as core_steps
-use Rattle.core_schedules.proofs.Steps.{placed}
-use Rattle.core_schedules.proofs.Matching.{lane_at}
+use Rattle.context_books.specs.Batches.{Batch, Nothing, Spot, all_asked, lane_of, lane_places, on}
+use Rattle.context_books.specs.Legal.{due_after}
+use Rattle.context_books.specs.Guesses as guesses
+use Rattle.context_books.specs.Guesses.{guess_count, guess_of}
+use Rattle.context_books.specs.Histories.{journals_of, stamped_on, own_spots}
+use Rattle.context_books.specs.Entries.{steps_from, numbers_from, Fits}
+use Rattle.context_core.specs.Core as core
+use Rattle.context_core.specs.Core.{Core, happens}
+use Rattle.context_core.specs.CoreStages as core_steps
+use Rattle.context_core.specs.CoreStages.{placed}
+use Rattle.context_core.specs.CoreStages.{lane_at}
 use Rattle.context_books.specs.declared.book.Draw.{Draw}
 use Rattle.context_books.specs.declared.book.Draw.TheVariants.{Number}
 use Rattle.context_books.specs.Books.{BookView}
@@ -32,7 +32,7 @@ use Rattle.batch_plans.specs.Progress.{Progress, begun, with_batch}
 use Rattle.due_replies.specs.Standing.{standing_at, call_refusal, export_limits, AreOfLines}
 use Rattle.due_replies.specs.Asks.{asked_by, ask_of, batch_of, cipher_at}
 use Rattle.due_replies.specs.Runs.{Run}
-use Rattle.due_replies.proofs.CallLines.{StandsBehind}
+use Rattle.due_replies.specs.Lanes.{StandsBehind}
 use Rattle.due_replies.specs.Runs.{guesses_of}
 use Rattle.lane_replies.specs.LaneCalls.{lane_calls, opening_items, IsOpening}
 use Rattle.lane_replies.specs.Writing.{due_at}
@@ -52,29 +52,18 @@ long_ends l (calls ∷ lanes) = replicate (4 * length calls) l ++ long_ends (l +
 
 abbrev pub IsSeal : CallLine → Type 0
 IsSeal (calls.Seal context item) = Unit {0}
-IsSeal (calls.Unseal context item) = ⊥
-IsSeal (calls.UnsealAll context first count) = ⊥
-IsSeal (calls.Export context exporter size) = ⊥
-IsSeal (calls.Add name) = ⊥
-IsSeal (calls.Retire name) = ⊥
+IsSeal call = ⊥
 
 -- an opening of several messages keeps its guess
 abbrev pub with_guess : Progress → CallLine → Guess → Progress
-with_guess p (calls.Seal context item) guess = p
-with_guess p (calls.Unseal context item) guess = p
 with_guess p (calls.UnsealAll context first count) guess = with_batch p guess
-with_guess p (calls.Export context exporter size) guess = p
-with_guess p (calls.Add name) guess = p
-with_guess p (calls.Retire name) guess = p
+with_guess p call guess = p
 
 -- how many items an opening names
 abbrev pub opened_count : CallLine → ℕ
-opened_count (calls.Seal context item) = 0
 opened_count (calls.Unseal context item) = 1
 opened_count (calls.UnsealAll context first count) = count
-opened_count (calls.Export context exporter size) = 0
-opened_count (calls.Add name) = 0
-opened_count (calls.Retire name) = 0
+opened_count call = 0
 
 -- ---- the run of a state of the core
 

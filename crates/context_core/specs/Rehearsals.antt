@@ -1,11 +1,12 @@
 -- The run of a plan whose lanes take their steps by a schedule, and answers that are those of a run.
-use Rattle.std.specs.Prelude.{ℕ, ◌≡◌, List, length, map, Option}
+use Rattle.std.specs.Prelude.{ℕ, ◌≡◌, List, [], length, map, Option, Some, slice_get, slice_index_or}
 use Rattle.hpke_context.specs.Contexts.{ContextView}
-use Rattle.legal_journals.specs.Histories.{journals_of}
-use Rattle.core_schedules.specs.Core.{Lane, core}
+use Rattle.context_books.specs.Histories.{journals_of}
+use Rattle.context_core.specs.Core.{Lane, core}
 use Rattle.batch_plans.specs.declared.plan.Plan.{Plan}
 use Rattle.batch_plans.specs.declared.replies.Answers.{Answers}
-use Rattle.reply_texts.specs.ReplyText.{lanes_lines, numbered}
+use Rattle.batch_plans.specs.declared.replies.LaneAnswers.{LaneAnswers}
+use Rattle.reply_texts.specs.ReplyText.{lanes_lines, numbered, UsesUp}
 use Rattle.due_replies.specs.Asks.{batch_of, cipher_at}
 use Rattle.due_replies.specs.Runs.{Run, lane_call_lines}
 
@@ -25,4 +26,7 @@ rehearsed plan contexts schedule =
 pub record AreAnswersOf (run : Run) (answers : Answers) : Type 0 where
   pub lanes : lanes_lines run.plan.lanes answers.lanes
       ≡ numbered (lane_call_lines run) 0 run.plan.lanes
+  -- each reply and each guess is a call's
+  pub used : (lane : ℕ) (given : LaneAnswers) → slice_get answers.lanes lane ≡ Some given
+      → UsesUp (slice_index_or run.plan.lanes lane []) given.replies given.batches
   pub journals : answers.journals ≡ run.journals

@@ -8,7 +8,7 @@ ghost use Rattle.call_places.specs.declared.entries.Step.{Step};
 ghost use Rattle.batch_plans.specs.Limits.{IsWithinLimits};
 ghost use Rattle.batch_plans.specs.Room.{served_batches};
 ghost use Rattle.due_replies.specs.Standing.{AreOfLines, call_refusal};
-ghost use Rattle.core_schedules.specs.Core.{Core};
+ghost use Rattle.context_core.specs.Core.{Core};
 ghost use Rattle.context_core.specs.Following.{with_guess, AllDone, LaneIsAnswered, MayReply, Replies};
 
 use crate::lanes::{Lane, Stage};

@@ -2,9 +2,14 @@
 //!
 //! [`rehearse_by`] lets the lanes take their steps in the order of a schedule, and fills in the
 //! answers that were made for the plan. The replies, guesses and journals are those of `rehearsed`
-//! of `specs/Rehearsals.antt`, by the core of core_schedules, which knows no key, no table and no
-//! book. So a rehearsal is an exact function of plan, contexts and schedule, and whatever the
-//! schedule, each of its journals is legal (`laws`).
+//! of `specs/Rehearsals.antt`. So a rehearsal is an exact function of plan, contexts and schedule, and
+//! whatever the schedule, each of its journals is legal (`laws`).
+//!
+//! `core` of `specs/Core.antt` knows no key, no table and no book: it runs the lanes of a batch by a
+//! list of lane numbers, each of which lets that lane take its next step. The laws of `schedule_laws`,
+//! functions that do nothing, say that, whatever the list, each context's journal is legal, all
+//! journals together are one legal history, each guess may have been made, and an opening is answered
+//! as its messages one after another (RFC 9180, 5.2).
 //!
 //! A seal draws its number (RFC 9180, 5.2) in one step. An opening guesses, tests tags ahead of time,
 //! and takes its places in one block. Other lanes may step in between, as threads do (`lanes`). The
@@ -15,7 +20,7 @@
 //! Tags are tested by a [`Crew`](speculative_open::Crew), and lanes answered by an `Answerer`: by
 //! threads of a runtime, as [`rehearse`] has them, or by the caller alone.
 //!
-//! Tests: `core_tests`.
+//! Tests: `core_tests`; of the core the rows of `src/schedule_rows.rt`, which the prover computes.
 #![tactic(auto)]
 
 mod answerers;
@@ -25,5 +30,12 @@ mod lanes;
 pub mod laws;
 mod preparing;
 mod rehearsals;
+mod schedule_laws;
+mod schedule_rows;
 
 pub use rehearsals::{rehearse, rehearse_by};
+pub use schedule_laws::{
+    an_idle_lane_does_nothing, every_schedule_is_legal, every_schedule_is_one_history,
+    every_schedule_opens_in_turn,
+};
+pub use schedule_rows::{rows_of_guesses, rows_of_histories};

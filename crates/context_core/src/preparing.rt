@@ -1,9 +1,12 @@
 //! What a rehearsal needs beside the answers, all of it taken before the first step.
 
-ghost use Rattle.std.specs.Prelude.{◌≡◌, ◌≤◌, [], All, IfOk, length, map, sum_by};
+ghost use Rattle.std.specs.Prelude.{◌≡◌, ◌≤◌, [], All, IfOk, List, length, map, sum, sum_by};
 ghost use Rattle.std.specs.List.{range_with_len};
 ghost use Rattle.batch_plans.specs.Limits.{IsWithinLimits, items_of};
+ghost use Rattle.batch_plans.specs.declared.plan.ContextLine.{ContextLine};
+ghost use Rattle.batch_plans.specs.declared.plan.Plan.{Plan};
 ghost use Rattle.due_replies.specs.Standing.{AreOfLines};
+ghost use Rattle.lane_replies.specs.Quotas.{quotas_on};
 ghost use Rattle.context_core.specs.Following.{opened_count};
 ghost use Rattle.context_core.specs.Preparing.{fresh_at, IsFresh, AreFresh};
 
@@ -13,26 +16,26 @@ use call_places::Step;
 use context_books::Book;
 use due_replies::standing;
 use hpke_context::Context;
-use lane_quotas::quotas;
+use lane_replies::all_quotas;
 use speculative_open::GuessTable;
 use std::alloc::{AllocError, Global};
 
-// The book of the context of this number, if it stands.
+// The book of the context of this number, if it stands, by the quotas of all lanes on it.
 fn book(
     alloc: Global,
-    plan: &Plan,
     contexts: &[Option<Context>],
     number: u32,
+    quotas: &[u32],
 ) -> Result<Option<Book>, AllocError>
-    requires within { IsWithinLimits plan.now }
-    requires standing { AreOfLines plan.now.contexts contexts.now }
-    ensures { IfOk result (λ book. book ≡ fresh_at plan.now contexts.now number) }
+    requires sum { sum quotas.now ≤ 65536 }
+    requires standing { (lines : List ContextLine) × AreOfLines lines contexts.now }
+    ensures { (plan : Plan) → quotas.now ≡ quotas_on plan contexts.now number
+        → IfOk result (λ book. book ≡ fresh_at plan contexts.now number) }
 {
     let Some(context) = standing(contexts, number) else {
         return Ok(None);
     };
-    let quotas = quotas(alloc, plan, contexts, number)?;
-    Ok(Some(Book::new(alloc, context.limit(), &quotas)?))
+    Ok(Some(Book::new(alloc, context.limit(), quotas)?))
 }
 
 /// A book for each context that stands.
@@ -46,9 +49,11 @@ pub(crate) fn books(
     ensures { IfOk result (λ books. books.items
         ≡ map (fresh_at plan.now contexts.now) (range_with_len 0 (length contexts.now))) }
 {
+    let all = all_quotas(alloc, &plan.lanes, contexts)?;
     let mut books = Vec::new(alloc);
     'contexts: for number in 0..contexts.len() {
-        books.push(book(alloc, plan, contexts, number as u32)?)?;
+        let quotas = all[number].as_slice();
+        books.push(book(alloc, contexts, number as u32, quotas)?)?;
     }
     Ok(books)
 }

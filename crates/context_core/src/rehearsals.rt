@@ -4,7 +4,7 @@ ghost use Rattle.std.specs.Prelude.{ℕ, ◌≡◌, ◌^◌, [], None, All, get_
 ghost use Rattle.batch_plans.specs.Limits.{IsWithinLimits};
 ghost use Rattle.batch_plans.specs.Room.{room_for, lane_room};
 ghost use Rattle.reply_texts.specs.ReplyText.{IsAnswered};
-ghost use Rattle.core_schedules.specs.Core.{Core, happens, all_happen, start, core};
+ghost use Rattle.context_core.specs.Core.{Core, happens, all_happen, start, core};
 ghost use Rattle.due_replies.specs.Standing.{AreOfLines, export_limits};
 ghost use Rattle.due_replies.specs.Asks.{batch_of, cipher_at};
 ghost use Rattle.context_core.specs.Rehearsals.{rehearsed, AreAnswersOf};
@@ -20,7 +20,7 @@ use crate::preparing::{books, lanes, no_answers};
 use aes_gcm::Checks;
 use batch_plans::{Answers, LaneAnswerList, LaneAnswers, LaneProgress, Plan};
 use hpke_context::Context;
-use lane_quotas::write_journals;
+use lane_replies::write_journals;
 use speculative_open::{Crew, OnThreads};
 use std::alloc::{AllocError, Global};
 use std::mem;
@@ -245,7 +245,7 @@ fn rehearse_with<C: Crew, A: Answerer>(
 ///
 /// Each number of the schedule is that of a lane, which does its next step; one at its end, or that
 /// isn't there, does nothing. Then lane 0 goes on to its end, then lane 1, and so on. The steps of a
-/// call are those of core_schedules: Finish for a call that is refused and for an export; Draw and
+/// call are those of context_core: Finish for a call that is refused and for an export; Draw and
 /// Finish for a seal; Guess, Check, Commit and Finish for an opening. A Finish encrypts and decrypts
 /// nothing: the lanes are answered when all calls are done, one after another.
 ///

@@ -17,7 +17,11 @@ use Rattle.hpke_context.specs.Contexts.{ContextView, encrypts}
 use Rattle.call_places.specs.Spans.{span_bytes}
 use Rattle.batch_plans.specs.declared.plan.Plan.{Plan}
 use Rattle.batch_plans.specs.declared.plan.KeyLine.{KeyLine}
-use Rattle.batch_plans.specs.declared.plan.KeyLine.TheVariants as lines
+use Rattle.batch_plans.specs.declared.plan.KeySource.{KeySource}
+use Rattle.batch_plans.specs.declared.plan.KeySource.TheVariants as sources
+use Rattle.batch_plans.specs.declared.plan.KeySet.{KeySet}
+use Rattle.batch_plans.specs.declared.plan.KeySet.TheVariants.{Sntrup761, Sntrup857}
+use Rattle.batch_plans.specs.KeyLines.{set_of, source_of}
 use Rattle.batch_plans.specs.declared.plan.EncField.{EncField}
 use Rattle.batch_plans.specs.declared.plan.EncField.TheVariants.{Bytes, Of}
 use Rattle.batch_plans.specs.declared.plan.ContextKind.TheVariants.{Send, Recv}
@@ -30,7 +34,7 @@ use Rattle.batch_plans.specs.declared.replies.ContextRefusal.TheVariants.{EncSiz
 use Rattle.batch_plans.specs.Calls.{context_role}
 use Rattle.context_table.specs.declared.exchanges.Exchange.{Exchange}
 use Rattle.context_table.specs.Streams.{key_words, context_words}
-use Rattle.context_table.specs.Keys.{Kem, IsKeyReply, kem_of, key_in, key_at}
+use Rattle.context_table.specs.Keys.{Kem, IsSourceReply, IsKeyReply, kem_with, kem_of, key_in, key_at}
 use Rattle.context_table.specs.Contexts.{sender_exchange, decap_exchange, decap_with, recipient_exchange, enc_in, enc_at, exchange, psk_refusal, suite_of, standing_by, scheduled, scheduled_after, outcome, reply_of, slot_of}
 use Rattle.context_table.specs.SetUp.{IsSetUp}
 use Rattle.context_table.specs.Laws.{NamesEnc, AskAlike, EndsMatch}
@@ -54,33 +58,31 @@ record Made (plan : Plan) (keys : List KeyReply) (k : ℕ) (public secret : List
   generated : IsGenerated kem.set word 0 j public secret
   key : key_at plan keys k ≡ Some (record { kem = kem; public = public; secret = Some secret })
 
+agrees_by : Agrees sntrup761 → Agrees sntrup857 → (set : KeySet) → Agrees (kem_with set).set
+agrees_by a b Sntrup761 = a
+agrees_by a b Sntrup857 = b
+
 -- which line it is of
 made_by : (plan : Plan) (keys : List KeyReply) (k : ℕ) (public secret : List ℕ) (line : KeyLine)
     → Agrees sntrup761 → Agrees sntrup857
     → slice_get plan.keys k ≡ Some line → slice_get keys k ≡ Some (Generated public secret)
     → IsKeyReply plan k line (Generated public secret) → Made plan keys k public secret
-made_by plan keys k public secret lines.Generate a b el er is = record {
-  kem = kem_of lines.Generate;
-  word = key_words plan k;
-  j = is.1.0;
-  agrees = a;
-  generated = is.1.2;
-  key = ap (λ o. key_in plan.pool o (slice_get keys k)) el
-      ∙ ap (key_in plan.pool (Some lines.Generate)) er;
-}
-made_by plan keys k public secret lines.Generate857 a b el er is = record {
-  kem = kem_of lines.Generate857;
-  word = key_words plan k;
-  j = is.1.0;
-  agrees = b;
-  generated = is.1.2;
-  key = ap (λ o. key_in plan.pool o (slice_get keys k)) el
-      ∙ ap (key_in plan.pool (Some lines.Generate857)) er;
-}
-made_by plan keys k public secret (lines.Secret bytes) a b el er is = absurd is
-made_by plan keys k public secret (lines.Peer bytes) a b el er is = absurd is
-made_by plan keys k public secret (lines.Secret857 bytes) a b el er is = absurd is
-made_by plan keys k public secret (lines.Peer857 bytes) a b el er is = absurd is
+made_by plan keys k public secret line a b el er = made (source_of line)
+  where
+    made : (source : KeySource)
+        → IsSourceReply plan k (kem_of line).set source (Generated public secret)
+        → Made plan keys k public secret
+    made sources.Generate is = record {
+      kem = kem_of line;
+      word = key_words plan k;
+      j = is.1.0;
+      agrees = agrees_by a b (set_of line);
+      generated = is.1.2;
+      key = ap (λ o. key_in plan.pool o (slice_get keys k)) el
+          ∙ ap (key_in plan.pool (Some line)) er;
+    }
+    made (sources.Secret bytes) is = absurd is
+    made (sources.Peer bytes) is = absurd is
 
 -- ---- the sender
 

@@ -7,6 +7,7 @@ use Rattle.batch_plans.specs.declared.plan.Plan.{Plan}
 use Rattle.batch_plans.specs.declared.plan.KeyLine.{KeyLine}
 use Rattle.batch_plans.specs.declared.replies.KeyReply.{KeyReply}
 use Rattle.context_table.specs.declared.keys.Key.{Key}
+use Rattle.batch_plans.specs.KeyLines.{source_of}
 use Rattle.context_table.specs.Keys.{IsKeyReply, AreKeyReplies, kem_of, given_bytes, key_by, key_in}
 use Rattle.context_table.specs.Slots.{held_view, held_in, HoldKeys}
 use Rattle.context_table.proofs.Lists.{slice_get-append_low, slice_get-append_end, slice_get-append_past, same_some}
@@ -36,7 +37,7 @@ pub record IsNextKey (plan : Plan) (i : ℕ) (line : KeyLine) (reply : KeyReply)
     (slot : Option Key) : Type 0 where
   pub line_is : slice_get plan.keys i ≡ Some line
   pub reply_is : IsKeyReply plan i line reply
-  pub slot_is : held_view slot ≡ key_by (kem_of line) (given_bytes plan.pool line) reply
+  pub slot_is : held_view slot ≡ key_by (kem_of line) (given_bytes plan.pool (source_of line)) reply
 
 answered_more : (plan : Plan) (i : ℕ) (line : KeyLine) (reply : KeyReply) (slot : Option Key)
     (replies : List KeyReply)
@@ -104,7 +105,7 @@ pub keys_by : (plan : Plan) (i : ℕ) (lines : List KeyLine) (d : KeyLine) (repl
     (slot : Option Key) (replies replies' : List KeyReply) (slots slots' : List (Option Key))
     → lines ≡ plan.keys → i < length lines → IsKeyReply plan i (get_or lines i d) reply
     → held_view slot ≡ key_by (kem_of (get_or lines i d))
-    (given_bytes plan.pool (get_or lines i d)) reply
+    (given_bytes plan.pool (source_of (get_or lines i d))) reply
     → replies' ≡ replies ++ reply ∷ [] → slots' ≡ slots ++ slot ∷ []
     → KeysSoFar plan i replies slots → KeysSoFar plan (i + 1) replies' slots'
 keys_by plan i lines d reply slot replies replies' slots slots' named within is held pushed put

@@ -11,15 +11,18 @@ use Rattle.sntrup_core.proofs.Draws.{finds_no_end}
 use Rattle.call_places.specs.Spans.{span_bytes}
 use Rattle.hpke_context.specs.Contexts.{ContextView}
 use Rattle.batch_plans.specs.declared.plan.Plan.{Plan}
-use Rattle.batch_plans.specs.declared.plan.KeyLine.{KeyLine}
-use Rattle.batch_plans.specs.declared.plan.KeyLine.TheVariants as lines
+use Rattle.batch_plans.specs.declared.plan.KeySource.{KeySource}
+use Rattle.batch_plans.specs.declared.plan.KeySource.TheVariants as sources
+use Rattle.batch_plans.specs.declared.plan.KeySet.{KeySet}
+use Rattle.batch_plans.specs.declared.plan.KeySet.TheVariants.{Sntrup761, Sntrup857}
+use Rattle.batch_plans.specs.KeyLines.{set_of, source_of}
 use Rattle.batch_plans.specs.declared.replies.KeyReply.{KeyReply}
 use Rattle.batch_plans.specs.declared.replies.KeyReply.TheVariants.{Generated, Secret, Peer, Refused}
 use Rattle.batch_plans.specs.declared.replies.KeyRefusal.TheVariants.{Exhausted, NoInverse, Length, Form}
 use Rattle.batch_plans.specs.declared.replies.ContextReply.{ContextReply}
 use Rattle.batch_plans.specs.declared.replies.ContextReply.TheVariants.{Shared}
 use Rattle.context_table.specs.Streams.{key_words}
-use Rattle.context_table.specs.Keys.{IsPairReply, IsSecretReply, IsPeerReply, IsKeyReply, AreKeyReplies}
+use Rattle.context_table.specs.Keys.{kem_with, IsPairReply, IsSecretReply, IsPeerReply, IsSourceReply, AreKeyReplies}
 use Rattle.context_table.specs.Contexts.{outcome, reply_of, slot_of, AreOutcomes}
 use Rattle.context_table.specs.Laws.{OneKeySetUp, OneSetUp}
 use Rattle.context_table.proofs.Lists.{same_lists, some_within}
@@ -96,20 +99,17 @@ one_peer_reply set bytes a (Refused Exhausted) x y = absurd y
 one_peer_reply set bytes a (Refused NoInverse) x y = absurd y
 one_peer_reply set bytes a (Refused Form) x y = absurd y
 
-one_key_reply : (plan : Plan) (k : ℕ) (line : KeyLine) (a b : KeyReply) → IsKeyReply plan k line a
-    → IsKeyReply plan k line b → a ≡ b
-one_key_reply plan k lines.Generate a b x y =
+one_key_reply : (plan : Plan) (k : ℕ) (set : KeySet) (source : KeySource) (a b : KeyReply)
+    → IsSourceReply plan k (kem_with set).set source a
+    → IsSourceReply plan k (kem_with set).set source b → a ≡ b
+one_key_reply plan k Sntrup761 sources.Generate a b x y =
     one_pair_reply sntrup761 (key_words plan k) (omega arith) (omega arith) a b x y
-one_key_reply plan k (lines.Secret bytes) a b x y =
-    one_secret_reply sntrup761 (span_bytes plan.pool bytes) a b x y
-one_key_reply plan k (lines.Peer bytes) a b x y =
-    one_peer_reply sntrup761 (span_bytes plan.pool bytes) a b x y
-one_key_reply plan k lines.Generate857 a b x y =
+one_key_reply plan k Sntrup857 sources.Generate a b x y =
     one_pair_reply sntrup857 (key_words plan k) (omega arith) (omega arith) a b x y
-one_key_reply plan k (lines.Secret857 bytes) a b x y =
-    one_secret_reply sntrup857 (span_bytes plan.pool bytes) a b x y
-one_key_reply plan k (lines.Peer857 bytes) a b x y =
-    one_peer_reply sntrup857 (span_bytes plan.pool bytes) a b x y
+one_key_reply plan k set (sources.Secret bytes) a b x y =
+    one_secret_reply (kem_with set).set (span_bytes plan.pool bytes) a b x y
+one_key_reply plan k set (sources.Peer bytes) a b x y =
+    one_peer_reply (kem_with set).set (span_bytes plan.pool bytes) a b x y
 
 one_keys : (plan : Plan) (keys keys' : List KeyReply) → length keys ≡ length plan.keys
     → length keys' ≡ length plan.keys
@@ -117,7 +117,8 @@ one_keys : (plan : Plan) (keys keys' : List KeyReply) → length keys ≡ length
 one_keys plan keys keys' count count' is is' =
     same_lists keys keys' (count ∙ sym count') (λ k a b ea eb.
     let line = some_within keys plan.keys k a count ea in
-    one_key_reply plan k line.0 a b (is.each k line.0 a line.1 ea) (is'.each k line.0 b line.1 eb))
+    one_key_reply plan k (set_of line.0) (source_of line.0) a b (is.each k line.0 a line.1 ea)
+    (is'.each k line.0 b line.1 eb))
 
 -- ---- contexts
 

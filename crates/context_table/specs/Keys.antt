@@ -8,7 +8,11 @@ use Rattle.sntrup_kem.specs.Kem.{IsGenerated, public_part, HasMalformedPart}
 use Rattle.call_places.specs.Spans.{span_bytes}
 use Rattle.batch_plans.specs.declared.plan.Plan.{Plan}
 use Rattle.batch_plans.specs.declared.plan.KeyLine.{KeyLine}
-use Rattle.batch_plans.specs.declared.plan.KeyLine.TheVariants as lines
+use Rattle.batch_plans.specs.declared.plan.KeySource.{KeySource}
+use Rattle.batch_plans.specs.declared.plan.KeySource.TheVariants as sources
+use Rattle.batch_plans.specs.declared.plan.KeySet.{KeySet}
+use Rattle.batch_plans.specs.declared.plan.KeySet.TheVariants as sets
+use Rattle.batch_plans.specs.KeyLines.{set_of, source_of}
 use Rattle.batch_plans.specs.declared.replies.KeyReply.{KeyReply}
 use Rattle.batch_plans.specs.declared.replies.KeyReply.TheVariants.{Generated, Secret, Peer, Refused}
 use Rattle.batch_plans.specs.declared.replies.KeyRefusal.TheVariants.{Exhausted, NoInverse, Length, Form}
@@ -27,14 +31,14 @@ kem761 = record { id = 63329; set = sntrup761 }
 abbrev pub kem857 : Kem
 kem857 = record { id = 63575; set = sntrup857 }
 
+-- the KEM with keys of a set
+abbrev pub kem_with : KeySet → Kem
+kem_with sets.Sntrup761 = kem761
+kem_with sets.Sntrup857 = kem857
+
 -- the KEM of a key line
 abbrev pub kem_of : KeyLine → Kem
-kem_of lines.Generate = kem761
-kem_of (lines.Secret bytes) = kem761
-kem_of (lines.Peer bytes) = kem761
-kem_of lines.Generate857 = kem857
-kem_of (lines.Secret857 bytes) = kem857
-kem_of (lines.Peer857 bytes) = kem857
+kem_of line = kem_with (set_of line)
 
 -- ---- the replies
 
@@ -66,14 +70,15 @@ IsPeerReply set bytes (Refused Length) = length bytes ≢ public_size set
 IsPeerReply set bytes Peer = length bytes ≡ public_size set
 IsPeerReply set bytes _ = ⊥
 
+-- to the line of a key of this set, from this source
+abbrev pub IsSourceReply : Plan → ℕ → Set → KeySource → KeyReply → Type 0
+IsSourceReply plan k set sources.Generate = IsPairReply set (key_words plan k)
+IsSourceReply plan k set (sources.Secret bytes) = IsSecretReply set (span_bytes plan.pool bytes)
+IsSourceReply plan k set (sources.Peer bytes) = IsPeerReply set (span_bytes plan.pool bytes)
+
 -- to the key line of this number
 abbrev pub IsKeyReply : Plan → ℕ → KeyLine → KeyReply → Type 0
-IsKeyReply plan k lines.Generate = IsPairReply sntrup761 (key_words plan k)
-IsKeyReply plan k (lines.Secret bytes) = IsSecretReply sntrup761 (span_bytes plan.pool bytes)
-IsKeyReply plan k (lines.Peer bytes) = IsPeerReply sntrup761 (span_bytes plan.pool bytes)
-IsKeyReply plan k lines.Generate857 = IsPairReply sntrup857 (key_words plan k)
-IsKeyReply plan k (lines.Secret857 bytes) = IsSecretReply sntrup857 (span_bytes plan.pool bytes)
-IsKeyReply plan k (lines.Peer857 bytes) = IsPeerReply sntrup857 (span_bytes plan.pool bytes)
+IsKeyReply plan k line = IsSourceReply plan k (kem_of line).set (source_of line)
 
 -- each reply is one to the key line of its number, from 0 on
 pub record AreKeyReplies (plan : Plan) (replies : List KeyReply) : Type 0 where
@@ -88,14 +93,11 @@ pub record KeyView : Type 0 where
   pub public : List ℕ
   pub secret : Option (List ℕ)
 
--- the bytes that a key line gives
-abbrev pub given_bytes : List ℕ → KeyLine → List ℕ
-given_bytes pool lines.Generate = []
-given_bytes pool (lines.Secret bytes) = span_bytes pool bytes
-given_bytes pool (lines.Peer bytes) = span_bytes pool bytes
-given_bytes pool lines.Generate857 = []
-given_bytes pool (lines.Secret857 bytes) = span_bytes pool bytes
-given_bytes pool (lines.Peer857 bytes) = span_bytes pool bytes
+-- the bytes that a key line gives, by where its key comes from
+abbrev pub given_bytes : List ℕ → KeySource → List ℕ
+given_bytes pool sources.Generate = []
+given_bytes pool (sources.Secret bytes) = span_bytes pool bytes
+given_bytes pool (sources.Peer bytes) = span_bytes pool bytes
 
 -- the key of a line that gave these bytes and got this reply
 abbrev pub key_by : Kem → List ℕ → KeyReply → Option KeyView
@@ -107,7 +109,8 @@ key_by kem bytes Peer = Some (record { kem = kem; public = bytes; secret = None 
 key_by kem bytes (Refused refusal) = None
 
 abbrev pub key_in : List ℕ → Option KeyLine → Option KeyReply → Option KeyView
-key_in pool (Some line) (Some reply) = key_by (kem_of line) (given_bytes pool line) reply
+key_in pool (Some line) (Some reply) =
+    key_by (kem_of line) (given_bytes pool (source_of line)) reply
 key_in pool _ _ = None
 
 -- the key of this number, where there is one and it stands

@@ -8,12 +8,12 @@ ghost use Rattle.context_table.specs.Keys.{key_at};
 ghost use Rattle.context_table.specs.Slots.{HoldKeys};
 ghost use Rattle.context_table.specs.Streams.{context_words};
 
-use crate::copies::copied;
 use crate::exchanges::Exchange;
 use crate::keys::KeyTable;
 use crate::parts::ContextParts;
 use crate::streams::context_stream;
 use batch_plans::{ContextKind, ContextLine, ContextRefusal, ContextReply, EncField, Plan};
+use byte_strings::copied;
 use hkdf_labelled::Suite;
 use hpke_context::Context;
 use key_schedule::{PskFault, schedule};

@@ -1,8 +1,9 @@
 //! The keys of a plan.
 
 ghost use Rattle.std.specs.Prelude.{◌≡◌, ◌+◌, ◌*◌, ◌^◌, ◌<◌, ◌≤◌, [], ◌∷◌, ◌++◌, length, IfOk, OnOk, option_copied, slice_get};
-ghost use Rattle.batch_plans.specs.Limits.{IsKeyWithin, IsWithinLimits};
-ghost use Rattle.context_table.specs.Keys.{IsKeyReply, kem_of, given_bytes, key_by};
+ghost use Rattle.batch_plans.specs.Limits.{IsSourceWithin, IsKeyWithin, IsWithinLimits};
+ghost use Rattle.batch_plans.specs.KeyLines.{source_of};
+ghost use Rattle.context_table.specs.Keys.{IsSourceReply, IsKeyReply, kem_of, given_bytes, key_by};
 ghost use Rattle.context_table.specs.Contexts.{sender_exchange, recipient_exchange};
 ghost use Rattle.context_table.specs.SetUp.{IsKeySetUp};
 ghost use Rattle.context_table.specs.Slots.{view_of, held_view, held_in, HoldKeys};
@@ -10,9 +11,12 @@ ghost use Rattle.context_table.specs.Slots.{view_of, held_view, held_in, HoldKey
 use crate::exchanges::Exchange;
 use crate::pairs::{Answered, KeyPair, given_public, given_secret, made_pair};
 use crate::streams::key_stream;
-use batch_plans::{ContextRefusal, KeyLine, KeyReplies, KeyReply, PlainList, Plan};
+use batch_plans::{
+    ContextRefusal, KeyLine, KeyReplies, KeyReply, KeySet, KeySource, PlainList, Plan,
+};
 use rand_words::{SeedStream, Words};
 use ring_core::{Multiplier, Sntrup761, Sntrup857};
+use sntrup_kem::KemParams;
 use std::alloc::{AllocError as OutOfMemory, Global};
 
 /// A key that stands, of either parameter set.
@@ -98,6 +102,28 @@ fn keep(
     Ok(())
 }
 
+// Answers the line of this number, of a key of one parameter set.
+fn answered_of<S: KemParams, M: Multiplier>(
+    alloc: Global,
+    plan: &Plan,
+    number: usize,
+    source: KeySource,
+    mult: &M,
+) -> Result<Answered<S>, OutOfMemory>
+    requires source { IsSourceWithin plan.now.seed (length plan.now.pool) source }
+    requires number { number < 2 ^ 32 }
+    ensures reply { IfOk result (λ a. IsSourceReply plan.now number S.set source a.reply) }
+    ensures pair { IfOk result (λ a. a.pair
+        ≡ key_by (record { id = S.ID; set = S.set }) (given_bytes plan.now.pool source) a.reply) }
+{
+    let pool = plan.pool.as_slice();
+    match source {
+        KeySource::Generate => made_pair(alloc, &mut key_stream(plan, number), mult),
+        KeySource::Secret(bytes) => given_secret(alloc, bytes.of(pool)),
+        KeySource::Peer(bytes) => given_public(alloc, bytes.of(pool)),
+    }
+}
+
 // Answers the key line of this number.
 fn answered_key<M: Multiplier>(
     alloc: Global,
@@ -110,16 +136,12 @@ fn answered_key<M: Multiplier>(
     requires number { number < 2 ^ 32 }
     ensures reply { IfOk result (λ a. IsKeyReply plan.now number line.now a.reply) }
     ensures key { IfOk result (λ a. held_view a.key
-        ≡ key_by (kem_of line.now) (given_bytes plan.now.pool line.now) a.reply) }
+        ≡ key_by (kem_of line.now) (given_bytes plan.now.pool (source_of line.now)) a.reply) }
 {
-    let pool = plan.pool.as_slice();
-    match *line {
-        KeyLine::Generate => made_pair(alloc, &mut key_stream(plan, number), mult).map(of_761),
-        KeyLine::Secret(bytes) => given_secret(alloc, bytes.of(pool)).map(of_761),
-        KeyLine::Peer(bytes) => given_public(alloc, bytes.of(pool)).map(of_761),
-        KeyLine::Generate857 => made_pair(alloc, &mut key_stream(plan, number), mult).map(of_857),
-        KeyLine::Secret857(bytes) => given_secret(alloc, bytes.of(pool)).map(of_857),
-        KeyLine::Peer857(bytes) => given_public(alloc, bytes.of(pool)).map(of_857),
+    let source = line.source();
+    match line.set() {
+        KeySet::Sntrup761 => answered_of(alloc, plan, number, source, mult).map(of_761),
+        KeySet::Sntrup857 => answered_of(alloc, plan, number, source, mult).map(of_857),
     }
 }
 

@@ -15,7 +15,6 @@
 #![tactic(auto)]
 
 mod contexts;
-mod copies;
 mod exchanges;
 mod keys;
 pub mod laws;

@@ -5,9 +5,9 @@ ghost use Rattle.sntrup_kem.specs.Kem.{public_part};
 ghost use Rattle.context_table.specs.Keys.{IsPairReply, IsSecretReply, IsPeerReply, key_by};
 ghost use Rattle.context_table.specs.Contexts.{sender_exchange, recipient_exchange};
 
-use crate::copies::copied;
 use crate::exchanges::Exchange;
 use batch_plans::{ContextRefusal, ContextReply, KeyRefusal, KeyReply};
+use byte_strings::copied;
 use rand_words::Words;
 use ring_core::{Multiplier, Params};
 use sntrup_kem::{

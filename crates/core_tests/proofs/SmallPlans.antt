@@ -7,7 +7,7 @@ use Rattle.call_places.specs.declared.spans.Span.{Span}
 use Rattle.call_places.specs.declared.spans.Item.{Item}
 use Rattle.key_schedule.specs.declared.modes.Role.{Role}
 use Rattle.key_schedule.specs.declared.modes.Role.TheVariants.{Sender, Recipient}
-use Rattle.legal_journals.proofs.Truths.{and_left, and_right, le_true}
+use Rattle.context_books.proofs.Truths.{and_left, and_right, le_true}
 use Rattle.hkdf_labelled.specs.declared.suites.Kdf.{Kdf}
 use Rattle.hkdf_labelled.specs.declared.suites.Kdf.TheVariants.{Sha256}
 use Rattle.hkdf_labelled.specs.Suites.{hash_size}
@@ -92,8 +92,7 @@ plain_call (Export context exporter size) passed =
     let both = and_left front (nat_le size 65535) passed in
     let low = le_true context 1 (and_left (nat_le context 1) (is_small_span exporter) both) in
     omega arith
-plain_call (Add name) passed = absurd cc
-plain_call (Retire name) passed = absurd cc
+plain_call call passed = absurd cc
 
 no_field : (most : ℕ) → IsField most 1024 no_span
 no_field most = record { in_pool = omega arith; size = omega arith }

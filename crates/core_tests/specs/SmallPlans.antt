@@ -12,7 +12,7 @@ use Rattle.hpke_context.specs.Contexts.{ContextView}
 use Rattle.batch_plans.specs.declared.plan.ContextKind.TheVariants.{Share}
 use Rattle.batch_plans.specs.declared.plan.ContextLine.{ContextLine}
 use Rattle.batch_plans.specs.declared.plan.CallLine.{CallLine}
-use Rattle.batch_plans.specs.declared.plan.CallLine.TheVariants.{Seal, Unseal, UnsealAll, Export, Add, Retire}
+use Rattle.batch_plans.specs.declared.plan.CallLine.TheVariants.{Seal, Unseal, UnsealAll, Export}
 use Rattle.batch_plans.specs.Limits.{all_items, all_sizes, all_texts}
 
 -- the span lies in the first bytes of the pool
@@ -30,8 +30,7 @@ is_small_call (UnsealAll context first count) =
     nat_le context 1 && nat_le 1 count && nat_le (first + count) 14
 is_small_call (Export context exporter size) =
     nat_le context 1 && is_small_span exporter && nat_le size 65535
-is_small_call (Add name) = false
-is_small_call (Retire name) = false
+is_small_call call = false
 
 -- lanes of such calls
 abbrev pub are_small : List Item → List (List CallLine) → Bool

@@ -5,7 +5,7 @@ use Rattle.std.specs.List.{All, AllByRecursion, range_with_len, flat_map}
 use Rattle.std.proofs.lemmas.List.Sums.{sum-map}
 use Rattle.std.proofs.lemmas.List.Elements.{recursion_from_All}
 use Rattle.hpke_context.specs.Contexts.{ContextView}
-use Rattle.legal_journals.specs.Legal.{Legal}
+use Rattle.context_books.specs.Legal.{Legal}
 use Rattle.batch_plans.specs.declared.plan.Plan.{Plan}
 use Rattle.batch_plans.specs.declared.plan.CallLine.{CallLine}
 use Rattle.batch_plans.specs.declared.replies.KeyReply.{KeyReply}
@@ -15,10 +15,10 @@ use Rattle.batch_plans.specs.declared.replies.Answers.{Answers}
 use Rattle.reply_texts.specs.ReplyText.{IsAnswered, has_stamps}
 use Rattle.due_replies.specs.Runs.{Run, asks_of, journal_of, LegalFor}
 use Rattle.context_table.specs.SetUp.{IsSetUp}
-use Rattle.lane_workers.specs.Gathered.{AreOfARun}
 use Rattle.demo_texts.specs.Texts.{share_of}
 use Rattle.demo_texts.specs.Plans.{SealsText, IsSealingPlan, set_up_plan}
 use Rattle.demo_texts.proofs.Spelled.{share_sum}
+use Rattle.demo_runs.specs.Runners.{AnswersARun, run_along}
 use Rattle.demo_runs.specs.Steps.{SealedLanes, AreLow, AreSealedLanes, put_all, is_generated, IsSealed}
 use Rattle.demo_runs.proofs.SetUps.{SenderStands, sender_stands, sealed_size, get_standing, generated_is, set_up_of}
 use Rattle.demo_runs.proofs.Sealings.{SealingRun, all_numbers, lanes_sealed, all_low, all_there, journal_size}
@@ -29,7 +29,7 @@ pub record FirstBatch (seed messages lanes : ℕ) (plan : Plan) (contexts : List
     (standing : List (Option ContextView)) (public secret : List ℕ) (answers : Answers) : Type 0 where
   pub set_up : IsSetUp (set_up_plan seed) (Generated public secret ∷ []) contexts standing
   pub is : IsSealingPlan seed messages lanes plan
-  pub run : AreOfARun plan standing answers.lanes answers.journals
+  pub run : AnswersARun plan standing answers
   pub answered : IsAnswered plan answers
   pub few : messages ≤ 65536
   pub some : 0 < lanes
@@ -44,7 +44,7 @@ module _ (seed messages lanes : ℕ) (plan : Plan) (contexts : List ContextReply
   stands = sender_stands seed public secret contexts standing t.set_up
 
   abbrev pub the_run : Run
-  the_run = record { plan = plan; contexts = standing; journals = answers.journals; guesses = t.run.guesses }
+  the_run = run_along plan standing answers.journals t.run.guesses
 
   counted : sum_by (λ (calls : List CallLine). length calls) plan.lanes ≡ messages
   counted =
@@ -110,7 +110,7 @@ module _ (seed messages lanes : ℕ) (plan : Plan) (contexts : List ContextReply
 -- as the code has it
 pub first_batch : (seed messages lanes : ℕ) (plan : Plan) (keys : List KeyReply) (contexts : List ContextReply)
     (standing : List (Option ContextView)) (answers : Answers) → IsSetUp plan keys contexts standing → is_generated keys ≡ true
-    → IsSealingPlan seed messages lanes plan → AreOfARun plan standing answers.lanes answers.journals → IsAnswered plan answers
+    → IsSealingPlan seed messages lanes plan → AnswersARun plan standing answers → IsAnswered plan answers
     → messages ≤ 65536 → 0 < lanes
     → (public : List ℕ) × (secret : List ℕ) × FirstBatch seed messages lanes plan contexts standing public secret answers
 first_batch seed messages lanes plan keys contexts standing answers s generated is run answered few some =

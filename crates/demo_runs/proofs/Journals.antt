@@ -4,18 +4,19 @@ use Rattle.std.specs.Prelude.{slice_get, sum_by}
 use Rattle.std.specs.List.{AllByRecursion, AllPairs}
 use Rattle.call_places.specs.declared.entries.Place.{Place}
 use Rattle.hpke_context.specs.Answers.{Item, Seal, Cipher, Sealed_at, answer, next, due}
-use Rattle.legal_journals.specs.Batches.{Ask, ToSeal, Batch, lane_of, item_of, item_in_call, item_or_none, items_of, IsServed, place, all_asked, on, own_places}
-use Rattle.legal_journals.specs.Legal.{Legal, reply_of, due_after, before}
-use Rattle.legal_journals.proofs.Members.{In, In-left, In-right, contains_in, in_contains, split_at, got}
-use Rattle.legal_journals.proofs.Places.{same_place, not_in_front, before_split}
-use Rattle.legal_journals.proofs.Legals.{lane_is}
-use Rattle.legal_journals.proofs.Runs.{item_here}
-use Rattle.legal_journals.proofs.Replies.{reply_at}
-use Rattle.legal_journals.proofs.OneLane.{parted, few_taken}
+use Rattle.context_books.specs.Batches.{Ask, ToSeal, Batch, lane_of, item_of, item_in_call, item_or_none, items_of, IsServed, place, all_asked, on, own_places}
+use Rattle.context_books.specs.Legal.{Legal, reply_of, due_after, before}
+use Rattle.context_books.proofs.Members.{In-left, In-right, contains_in, in_contains, split_at, got}
+use Rattle.context_books.specs.Lists.{In}
+use Rattle.context_books.proofs.Places.{same_place, not_in_front, before_split}
+use Rattle.context_books.proofs.Legals.{lane_is}
+use Rattle.context_books.proofs.Runs.{item_here}
+use Rattle.context_books.proofs.Replies.{reply_at}
+use Rattle.context_books.proofs.OneLane.{parted, few_taken}
 use Rattle.std.proofs.lemmas.Option.{slice_get_within}
 use Rattle.std.proofs.lemmas.Bool.{cases_lt}
 use Rattle.lane_replies.proofs.Steps.{seal_below}
-use Rattle.lane_quotas.proofs.Sums.{count_parts, sum_numbers}
+use Rattle.lane_replies.proofs.Sums.{count_parts, sum_numbers}
 use Rattle.demo_texts.specs.Texts.{sealed_text}
 
 -- what each call of such a lane asks

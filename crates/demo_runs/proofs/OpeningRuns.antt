@@ -10,12 +10,12 @@ use Rattle.key_schedule.specs.declared.modes.Role.TheVariants as roles
 use Rattle.hkdf_labelled.specs.declared.suites.Aead.TheVariants as aeads
 use Rattle.hpke_context.specs.Answers.{Item, Unseal, Cipher, Opened_at, run as run_items}
 use Rattle.hpke_context.specs.Contexts.{ContextView, cipher_of}
-use Rattle.legal_journals.specs.Batches.{Ask, ToOpenAll, Batch, lane_of, block, place, all_asked, on, items_of, items_in, spots}
-use Rattle.legal_journals.specs.Legal.{Legal, reply_of}
-use Rattle.legal_journals.proofs.Places.{not_in_front}
-use Rattle.legal_journals.proofs.Lists.{on-append, on-spots_same}
-use Rattle.legal_journals.proofs.Runs.{items_of-append, items_of-call}
-use Rattle.legal_journals.proofs.OneLane.{one_lane_only}
+use Rattle.context_books.specs.Batches.{Ask, ToOpenAll, Batch, lane_of, block, place, all_asked, on, items_of, items_in, spots}
+use Rattle.context_books.specs.Legal.{Legal, reply_of}
+use Rattle.context_books.proofs.Places.{not_in_front}
+use Rattle.context_books.proofs.Lists.{on-append, on-spots_same}
+use Rattle.context_books.proofs.Runs.{items_of-append, items_of-call}
+use Rattle.context_books.proofs.OneLane.{one_lane_only}
 use Rattle.batch_plans.specs.declared.plan.CallLine.{CallLine}
 use Rattle.batch_plans.specs.declared.plan.CallLine.TheVariants.{UnsealAll}
 use Rattle.batch_plans.specs.declared.replies.Reply.{Reply}
@@ -25,7 +25,7 @@ use Rattle.reply_texts.specs.ReplyText.{numbered, all_lines, calls_lines}
 use Rattle.due_replies.specs.Standing.{standing_at, call_refusal}
 use Rattle.due_replies.specs.Asks.{ask_of, asked_by, ask_unless, cipher_in, cipher_at}
 use Rattle.due_replies.specs.Runs.{Run, asks_of, journal_of, guesses_of, place_line, answer_line_of, call_lines, served_lines, lines_unless}
-use Rattle.legal_journals.specs.Guesses.{guess_at, missed_in}
+use Rattle.context_books.specs.Guesses.{guess_at, missed_in}
 use Rattle.demo_texts.specs.Texts.{sealed_text}
 use Rattle.demo_texts.specs.Plans.{message, OpensThese, OpenAll, none, and_more}
 use Rattle.demo_runs.specs.Steps.{opened_line}
@@ -167,8 +167,8 @@ module _ (run : Run) (cts : List (List ℕ)) (t : OpeningRun run cts) where
       let all : length (journal_of run 1) ≡ length cts = ap length journal_is ∙ length-blocks 0 t.parts ∙ ap length t.whole in
       let cipher_is : cipher_at run.contexts 1 ≡ c = ap cipher_in t.stands in
       ap (λ (c : Cipher). answer_line_of (reply_of (asks_of run) c (journal_of run 1) p)) cipher_is
-      ∙ ap (λ (xs : List Item). answer_line_of (Rattle.legal_journals.specs.Legal.reply_in (journal_of run 1) (run_items c 0 xs) p)) items
-      ∙ ap (λ (ps : List Place). answer_line_of (Rattle.legal_journals.specs.Legal.reply_in ps (run_items c 0 (map the_unseal cts)) p)) parts
+      ∙ ap (λ (xs : List Item). answer_line_of (Rattle.context_books.specs.Legal.reply_in (journal_of run 1) (run_items c 0 xs) p)) items
+      ∙ ap (λ (ps : List Place). answer_line_of (Rattle.context_books.specs.Legal.reply_in ps (run_items c 0 (map the_unseal cts)) p)) parts
       ∙ ap answer_line_of (reply_there front after p (run_items c 0 (map the_unseal cts)) apart ∙ t.answers (length front) (omega arith))
 
   block_lines : (k i m : ℕ) (front after : List Place) → journal_of run 1 ≡ front ++ (block 0 k i m ++ after)

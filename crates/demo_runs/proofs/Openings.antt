@@ -4,9 +4,9 @@ use Rattle.std.specs.Prelude.{slice_get}
 use Rattle.std.specs.List.{AllByRecursion, range_with_len}
 use Rattle.call_places.specs.declared.entries.Place.{Place}
 use Rattle.hpke_context.specs.Answers.{Answer}
-use Rattle.legal_journals.specs.Legal.{reply_in}
-use Rattle.legal_journals.proofs.Members.{In}
-use Rattle.legal_journals.proofs.Places.{not_same, same}
+use Rattle.context_books.specs.Legal.{reply_in}
+use Rattle.context_books.specs.Lists.{In}
+use Rattle.context_books.proofs.Places.{not_same, same}
 use Rattle.batch_plans.specs.declared.plan.CallLine.{CallLine}
 use Rattle.batch_plans.specs.declared.plan.CallLine.TheVariants.{UnsealAll}
 use Rattle.batch_plans.specs.declared.replies.Reply.{Reply}

@@ -10,7 +10,8 @@ use Rattle.hex.specs.Hex.{IsBytes}
 use Rattle.call_places.specs.declared.spans.Span.{Span}
 use Rattle.call_places.specs.Spans.{span_bytes}
 use Rattle.hpke_context.specs.Contexts.{ContextView}
-use Rattle.legal_journals.proofs.Members.{In, In-left, In-right}
+use Rattle.context_books.proofs.Members.{In-left, In-right}
+use Rattle.context_books.specs.Lists.{In}
 use Rattle.batch_plans.specs.declared.plan.CallLine.{CallLine}
 use Rattle.batch_plans.specs.declared.replies.Reply.{Reply}
 use Rattle.batch_plans.specs.declared.replies.Reply.TheVariants.{Blank, Sealed}
@@ -222,6 +223,10 @@ lane_numbers context numbers lanes lanes_now answers answers_now i calls held la
       subst (λ (x : List CallLine). SealedLane context x lane (get_or numbers i [])) (sym a)
           (subst (λ (y : LaneAnswers). SealedLane context (get_or lanes i held) y (get_or numbers i [])) (sym b) at.2),
     )
+
+-- a lane that isn't there answers nothing
+abbrev pub no_answers : LaneAnswers
+no_answers = record { pool = []; replies = []; batches = [] }
 
 pub answers_within : (count : ℕ) (lanes lanes_now : List (List CallLine)) (answers answers_now : List LaneAnswers) (i : ℕ) (d : LaneAnswers)
     → AreSealedLanes count lanes answers → answers_now ≡ answers → i < length lanes → i < length answers_now

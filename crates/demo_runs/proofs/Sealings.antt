@@ -1,5 +1,5 @@
 -- The replies of the first batch.
-use Rattle.std.proofs.Common.{◌≡◌, ℕ, zero, suc, ◌+◌, ◌<◌, ◌≤◌, List, [], ◌∷◌, ◌++◌, length, map, take, Some, None, inl, inr, refl, sym, ap, subst, ◌∙◌, arith}
+use Rattle.std.proofs.Common.{◌≡◌, ℕ, zero, suc, ◌+◌, ◌<◌, ◌≤◌, Bool, true, false, if◌then◌else◌, List, [], ◌∷◌, ◌++◌, length, map, take, drop, Some, None, inl, inr, refl, sym, ap, subst, ◌∙◌, arith}
 use Rattle.std.specs.Prelude.{slice_index_or, sum_by}
 use Rattle.std.specs.List.{All, AllByRecursion, range_with_len, flat_map}
 use Rattle.std.proofs.lemmas.List.{length-map, take_all}
@@ -10,9 +10,10 @@ use Rattle.key_schedule.specs.declared.modes.Role.TheVariants as roles
 use Rattle.hkdf_labelled.specs.declared.suites.Aead.TheVariants as aeads
 use Rattle.hpke_context.specs.Answers.{Cipher}
 use Rattle.hpke_context.specs.Contexts.{ContextView, cipher_of}
-use Rattle.legal_journals.specs.Batches.{Ask, lane_of, place}
-use Rattle.legal_journals.specs.Legal.{Legal}
-use Rattle.legal_journals.proofs.Members.{In, In-left, In-right, In-append, in_map, map_in, in_range, range_below}
+use Rattle.context_books.specs.Batches.{Ask, lane_of, place}
+use Rattle.context_books.specs.Legal.{Legal}
+use Rattle.context_books.proofs.Members.{In-left, In-right, In-append, in_map, map_in, in_range, range_below}
+use Rattle.context_books.specs.Lists.{In}
 use Rattle.batch_plans.specs.declared.plan.CallLine.{CallLine}
 use Rattle.batch_plans.specs.declared.plan.CallLine.TheVariants.{Seal}
 use Rattle.batch_plans.specs.declared.replies.Reply.{Reply}
@@ -20,7 +21,7 @@ use Rattle.batch_plans.specs.declared.replies.Batch.{Batch as Guess}
 use Rattle.batch_plans.specs.declared.replies.LaneAnswers.{LaneAnswers}
 use Rattle.batch_plans.specs.Replies.{IsPrintable}
 use Rattle.reply_texts.specs.Lines.{reply_line}
-use Rattle.reply_texts.specs.ReplyText.{numbered, all_lines, calls_lines, answered_lines, lanes_lines}
+use Rattle.reply_texts.specs.ReplyText.{is_refused, guess_line, numbered, all_lines, calls_lines, answered_lines, lanes_lines}
 use Rattle.due_replies.specs.Standing.{standing_at, call_refusal}
 use Rattle.due_replies.specs.Asks.{ask_of, asked_by, ask_unless, cipher_in, cipher_at}
 use Rattle.due_replies.specs.Runs.{Run, asks_of, journal_of, place_line, answer_line_of, call_lines, lane_call_lines, served_lines, lines_unless}
@@ -28,6 +29,15 @@ use Rattle.due_replies.proofs.Done.{lane_asks}
 use Rattle.demo_texts.specs.Plans.{SealsText}
 use Rattle.demo_runs.specs.Steps.{sealed_line, SealedLanes}
 use Rattle.demo_runs.proofs.Journals.{the_ask, AllAsk, number_at, reply_is, number_low, place_in, number_has_place, length-journal}
+
+-- a call with one item has one reply and no guess, whatever its reply
+one_reply : (b : Bool) (pool : List ℕ) (calls : List CallLine) (reply : Reply) (replies : List Reply) (guesses : List Guess)
+    → map (reply_line pool) (take (if b then 1 else 1) (reply ∷ replies))
+    ++ (map guess_line (take (if b then 0 else 0) guesses)
+    ++ calls_lines pool calls (drop (if b then 1 else 1) (reply ∷ replies)) (drop (if b then 0 else 0) guesses))
+    ≡ reply_line pool reply ∷ calls_lines pool calls replies guesses
+one_reply true pool calls reply replies guesses = refl
+one_reply false pool calls reply replies guesses = refl
 
 -- a run whose calls all seal T on context 0, which stands
 pub record SealingRun (run : Run) : Type 0 where
@@ -106,7 +116,7 @@ module _ (run : Run) (t : SealingRun run) where
   line_is : (l i : ℕ) → i < length (slice_index_or run.plan.lanes l []) → place_line run 0 (place l i 0) ≡ sealed_line sender (call_number l i)
   line_is l i low =
       let here = place_in (asks_of run) all_ask (journal_of run 0) t.legal cipher l i (let e = length-lane l in omega arith) in
-      ap (λ (c : Cipher). answer_line_of (Rattle.legal_journals.specs.Legal.reply_of (asks_of run) c (journal_of run 0) (place l i 0))) cipher_is
+      ap (λ (c : Cipher). answer_line_of (Rattle.context_books.specs.Legal.reply_of (asks_of run) c (journal_of run 0) (place l i 0))) cipher_is
       ∙ ap answer_line_of (reply_is (asks_of run) all_ask (journal_of run 0) t.legal cipher (place l i 0) here enough)
 
   -- ---- the lines of a lane
@@ -143,7 +153,9 @@ module _ (run : Run) (t : SealingRun run) where
           → calls_lines pool (Seal 0 all.0.item ∷ calls) replies guesses
           ≡ map (reply_line pool) (take (suc (length calls)) replies)
       go [] later = later [] ∙ ap (map (reply_line pool)) (take_all (length calls) [] (omega arith))
-      go (reply ∷ replies) later = ap (λ (lines : List (List ℕ)). reply_line pool reply ∷ lines) (later replies)
+      go (reply ∷ replies) later =
+          one_reply (is_refused (Some reply)) pool calls reply replies guesses
+          ∙ ap (λ (lines : List (List ℕ)). reply_line pool reply ∷ lines) (later replies)
 
   some_lanes : (l : ℕ) (lanes : List (List CallLine)) (answers : List LaneAnswers)
       → AllByRecursion (λ (calls : List CallLine). AllByRecursion (SealsText run.plan.pool) calls) lanes

@@ -5,7 +5,7 @@ use Rattle.std.specs.List.{range_with_len}
 use Rattle.std.proofs.lemmas.List.{length-map}
 use Rattle.hpke_context.specs.Answers.{Item, Answer, Sealed_at, Opened_at, next, run as run_items}
 use Rattle.hpke_context.specs.Contexts.{ContextView, cipher_of}
-use Rattle.legal_journals.specs.Legal.{Legal}
+use Rattle.context_books.specs.Legal.{Legal}
 use Rattle.lane_replies.proofs.Steps.{seal_below}
 use Rattle.batch_plans.specs.declared.plan.Plan.{Plan}
 use Rattle.batch_plans.specs.declared.plan.CallLine.{CallLine}
@@ -21,10 +21,10 @@ use Rattle.due_replies.specs.Runs.{Run, asks_of, journal_of, LegalFor, lane_call
 use Rattle.context_table.specs.SetUp.{IsSetUp}
 use Rattle.context_table.specs.Laws.{EndsMatch, Message, to_seal, to_open, sealed_from, opened_from, OpensInOrder}
 use Rattle.context_table.proofs.OneSetUp.{one_set_up_lem}
-use Rattle.lane_workers.specs.Gathered.{AreOfARun}
 use Rattle.demo_texts.specs.Texts.{sealed_text}
 use Rattle.demo_texts.specs.Plans.{IsOpeningPlan, set_up_plan}
 use Rattle.demo_texts.specs.Demo.{sealed_at}
+use Rattle.demo_runs.specs.Runners.{AnswersARun, run_along}
 use Rattle.demo_runs.specs.Steps.{opened_line, ciphertexts, HasCiphertexts, IsSealed, IsOpenedLane}
 use Rattle.demo_runs.proofs.SetUps.{SenderStands, sender_stands, set_up_of, get_standing, BothStand, both_stand}
 use Rattle.demo_runs.proofs.OpeningRuns.{the_unseal, joined, OpeningRun, journal_is, lane_opened}
@@ -99,7 +99,7 @@ pub record SecondBatch (seed : ℕ) (cts : List (List ℕ)) (plan : Plan) (keys 
   pub is : IsOpeningPlan seed cts plan
   pub set_up : IsSetUp plan keys contexts standing
   pub lines : AreOfLines plan.contexts standing
-  pub run : AreOfARun plan standing answers.lanes answers.journals
+  pub run : AnswersARun plan standing answers
   pub answered : IsAnswered plan answers
   pub few : length cts ≤ 65536
 
@@ -141,7 +141,7 @@ module _ (seed : ℕ) (cts : List (List ℕ)) (plan : Plan) (keys : List KeyRepl
       the_found.cts_are ∙ ap (λ (c : ContextView). ciphertexts c (length cts)) is
 
   abbrev the_run : Run
-  the_run = record { plan = plan; contexts = standing; journals = answers.journals; guesses = t.run.guesses }
+  the_run = run_along plan standing answers.journals t.run.guesses
 
   legal : Legal (asks_of the_run) 1 (journal_of the_run 1)
   legal =

@@ -21,7 +21,7 @@ use Rattle.key_schedule.specs.Schedule.{secrets_of}
 use Rattle.aes_gcm.specs.Gcm.{seal, gctr, tag_of}
 use Rattle.aes_gcm.proofs.Opening.{IsWhole, length-gctr, length-tag_of}
 use Rattle.context_table.proofs.Messages.{key_is_whole}
-use Rattle.legal_journals.proofs.Members.{value_at}
+use Rattle.context_books.proofs.Members.{value_at}
 use Rattle.due_replies.specs.Standing.{standing_at, AreOfLines}
 use Rattle.demo_texts.specs.Demo.{sealed_at}
 use Rattle.demo_runs.specs.Steps.{is_generated}

@@ -2,7 +2,7 @@
 use Rattle.std.specs.Prelude.{◌≡◌, ℕ, ◌<◌, ◌≤◌, Bool, true, false, List, [], ◌∷◌, length, map, take, codes, Option, Some, None, slice_set}
 use Rattle.std.specs.List.{range_with_len, flat_map}
 use Rattle.hpke_context.specs.Contexts.{ContextView}
-use Rattle.legal_journals.proofs.Members.{In}
+use Rattle.context_books.specs.Lists.{In}
 use Rattle.batch_plans.specs.declared.plan.CallLine.{CallLine}
 use Rattle.batch_plans.specs.declared.replies.KeyReply.{KeyReply}
 use Rattle.batch_plans.specs.declared.replies.KeyReply.TheVariants.{Generated}

@@ -6,13 +6,11 @@ ghost use Rattle.sha2.specs.Sha256.{sha256};
 ghost use Rattle.demo_texts.specs.Demo.{IsDemo};
 
 use crate::opening::opened_messages;
+use crate::runners::Runner;
 use crate::sealing::sealed_messages;
-use batch_io::Gate;
 use demo_texts::{CIPHERTEXT_SIZE, DemoReport};
 use sha2::{Digest, Sha256};
 use std::alloc::{AllocError, Global};
-use std::sync::Wait;
-use std::thread::Threads;
 
 // The SHA-256 of ciphertexts, joined.
 fn hash_of(cts: &[[u8; CIPHERTEXT_SIZE]]) -> [u8; 32]
@@ -29,25 +27,24 @@ fn hash_of(cts: &[[u8; CIPHERTEXT_SIZE]]) -> [u8; 32]
 /// sealed to: two batches by the rules of `run`.
 ///
 /// The key and the exchange follow from the seed alone, the report from the seed and `messages`.
-/// Where the seed gives no key nothing is sealed, and none is opened. Both batches are served by 4
-/// workers. Each takes all its memory before its own lanes are served. `gate` is told the points of
-/// both. It may wait.
-pub fn demo<R: Threads + Wait + Sync, G: Gate + Sync>(
-    rt: &R,
+/// Where the seed gives no key nothing is sealed, and none is opened. The runner serves the lanes of
+/// both batches. Each takes all its memory before its own lanes are served.
+pub fn demo<L: Runner>(
+    runner: &L,
     alloc: Global,
     seed: u64,
     messages: u32,
     lanes: u32,
-    gate: &G,
 ) -> Result<DemoReport, AllocError>
+    requires ready { L.ready runner.now }
     requires messages { (0 < messages) × (messages ≤ 65536) }
     requires lanes { (0 < lanes) × (lanes ≤ 16) }
     ensures report { IfOk result (IsDemo seed messages) }
     ensures opened { IfOk result (λ report. report.opened ≤ report.messages) }
 {
-    match sealed_messages(rt, alloc, seed, messages, lanes, gate)? {
+    match sealed_messages(runner, alloc, seed, messages, lanes)? {
         Some(cts) => {
-            let opened = opened_messages(rt, alloc, seed, &cts, gate)?;
+            let opened = opened_messages(runner, alloc, seed, &cts)?;
             Ok(DemoReport {
                 messages,
                 opened,

@@ -7,16 +7,14 @@ ghost use Rattle.reply_texts.specs.Lines.{reply_line};
 ghost use Rattle.demo_texts.specs.Plans.{IsOpeningPlan};
 ghost use Rattle.demo_runs.specs.Steps.{opened_line, IsOpenedLane, IsSealed};
 
+use crate::runners::Runner;
 use crate::serving::serve;
-use batch_io::Gate;
 use batch_plans::{LaneAnswers, Plan, Reply};
 use context_table::laws::ends_match;
 use context_table::set_up;
 use demo_texts::{CIPHERTEXT_SIZE, opening_batch};
 use ring_core::Plain;
 use std::alloc::{AllocError, Global};
-use std::sync::Wait;
-use std::thread::Threads;
 
 // T: the bytes 00 to 3f.
 const SEALED_TEXT: [u8; 64] = [
@@ -61,13 +59,13 @@ fn count_opened(lane: &LaneAnswers, messages: u32) -> u32
 }
 
 // How many messages are opened of ciphertexts that were sealed, by the plan that opens them.
-fn opened_by<R: Threads + Wait + Sync, G: Gate + Sync>(
-    rt: &R,
+fn opened_by<L: Runner>(
+    runner: &L,
     alloc: Global,
     plan: &Plan,
     cts: &[[u8; CIPHERTEXT_SIZE]],
-    gate: &G,
 ) -> Result<u32, AllocError>
+    requires ready { L.ready runner.now }
     requires plan { (seed : ℕ) × IsOpeningPlan seed cts.now plan.now
         × IsSealed seed (length cts.now) (Some cts.now) }
     requires limits { IsWithinLimits plan.now }
@@ -76,23 +74,23 @@ fn opened_by<R: Threads + Wait + Sync, G: Gate + Sync>(
     ensures { IfOk result (λ opened. opened ≡ length cts.now) }
 {
     let setup = set_up(alloc, plan, &Plain)?;
-    let answers = serve(rt, alloc, plan, setup, gate)?;
+    let answers = serve(runner, alloc, plan, setup)?;
     ends_match();
     Ok(count_opened(&answers.lanes.as_slice()[0], cts.len() as u32))
 }
 
 /// How many messages are opened of the ciphertexts that the first batch gave.
-pub(crate) fn opened_messages<R: Threads + Wait + Sync, G: Gate + Sync>(
-    rt: &R,
+pub(crate) fn opened_messages<L: Runner>(
+    runner: &L,
     alloc: Global,
     seed: u64,
     cts: &[[u8; CIPHERTEXT_SIZE]],
-    gate: &G,
 ) -> Result<u32, AllocError>
+    requires ready { L.ready runner.now }
     requires sealed { IsSealed seed (length cts.now) (Some cts.now) }
     requires few { length cts.now ≤ 65536 }
     ensures { IfOk result (λ opened. opened ≡ length cts.now) }
 {
     let plan = opening_batch(alloc, seed, cts)?;
-    opened_by(rt, alloc, &plan, cts, gate)
+    opened_by(runner, alloc, &plan, cts)
 }

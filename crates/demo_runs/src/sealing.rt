@@ -10,15 +10,13 @@ ghost use Rattle.demo_texts.specs.Demo.{sealed_at};
 ghost use Rattle.demo_runs.specs.Steps.{sealed_line, IsSealedReply, SealedLane, SealedLanes, AreLow};
 ghost use Rattle.demo_runs.specs.Steps.{IsSealedLane, AreSealedLanes, put_all, IsSealed, is_generated};
 
+use crate::runners::Runner;
 use crate::serving::serve;
-use batch_io::Gate;
 use batch_plans::{Answers, CallLine, KeyReply, LaneAnswers, Plan, Reply};
 use context_table::set_up;
 use demo_texts::{CIPHERTEXT_SIZE, sealing_batch, see_bytes};
 use ring_core::Plain;
 use std::alloc::{AllocError, Global};
-use std::sync::Wait;
-use std::thread::Threads;
 
 // The one key was generated.
 fn is_generated(keys: &[KeyReply]) -> bool
@@ -79,13 +77,13 @@ fn put_lanes(plan: &Plan, answers: &Answers, cts: &mut [[u8; CIPHERTEXT_SIZE]])
 }
 
 // The ciphertexts of the messages that a plan seals; none where there is no key.
-fn sealed_by<R: Threads + Wait + Sync, G: Gate + Sync>(
-    rt: &R,
+fn sealed_by<L: Runner>(
+    runner: &L,
     alloc: Global,
     plan: &Plan,
     messages: u32,
-    gate: &G,
 ) -> Result<Option<Vec<[u8; CIPHERTEXT_SIZE]>>, AllocError>
+    requires ready { L.ready runner.now }
     requires messages { messages ≤ 65536 }
     requires plan { (seed lanes : ℕ) × (0 < lanes) × IsSealingPlan seed messages lanes plan.now }
     requires limits { IsWithinLimits plan.now }
@@ -99,25 +97,25 @@ fn sealed_by<R: Threads + Wait + Sync, G: Gate + Sync>(
         return Ok(None);
     }
     let mut cts = vec![in alloc; [0; CIPHERTEXT_SIZE]; messages as usize]?;
-    let answers = serve(rt, alloc, plan, setup, gate)?;
+    let answers = serve(runner, alloc, plan, setup)?;
     put_lanes(plan, &answers, &mut cts);
     Ok(Some(cts))
 }
 
 /// The ciphertexts of so many messages, sealed in so many lanes; none where there is no key.
-pub(crate) fn sealed_messages<R: Threads + Wait + Sync, G: Gate + Sync>(
-    rt: &R,
+pub(crate) fn sealed_messages<L: Runner>(
+    runner: &L,
     alloc: Global,
     seed: u64,
     messages: u32,
     lanes: u32,
-    gate: &G,
 ) -> Result<Option<Vec<[u8; CIPHERTEXT_SIZE]>>, AllocError>
+    requires ready { L.ready runner.now }
     requires messages { messages ≤ 65536 }
     requires lanes { (0 < lanes) × (lanes ≤ 16) }
     ensures { IfOk result (λ found. MatchOption found (IsSealed seed messages None)
         (λ cts. IsSealed seed messages (Some cts.items))) }
 {
     let plan = sealing_batch(alloc, seed, messages, lanes)?;
-    sealed_by(rt, alloc, &plan, messages, gate)
+    sealed_by(runner, alloc, &plan, messages)
 }

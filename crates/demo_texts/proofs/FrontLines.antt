@@ -8,8 +8,9 @@ use Rattle.field_text.specs.Cuts.{lines_of, pieces_of}
 use Rattle.field_text.specs.Fields.{next, pooled, bytes}
 use Rattle.batch_plans.specs.declared.plan.Plan.{Plan}
 use Rattle.batch_plans.specs.declared.plan.KeyLine.TheVariants.{Generate}
-use Rattle.key_frames.specs.declared.words.KeyWord.TheVariants as keys
-use Rattle.key_frames.specs.Forms.{rand}
+use Rattle.request_frames.specs.declared.key_words.KeyWord.TheVariants as keys
+use Rattle.batch_plans.specs.declared.plan.KeySet.TheVariants.{Sntrup761}
+use Rattle.request_frames.specs.KeyForms.{rand}
 use Rattle.request_frames.specs.declared.words.LineWord.TheVariants.{Rand, Key, Context}
 use Rattle.request_frames.specs.declared.words.ContextWord.TheVariants as contexts
 use Rattle.request_frames.specs.Batch.{with_line, with_rand, with_key, with_context, empty_plan}
@@ -80,14 +81,14 @@ reads_rand seed =
 abbrev with_pair : ℕ → Plan
 with_pair seed = record (with_seed seed) { keys = Generate ∷ [] }
 
-key_read : (seed : ℕ) → with_line false (with_seed seed) (Key keys.Generate) [] ≡ Ok (with_pair seed)
+key_read : (seed : ℕ) → with_line false (with_seed seed) (Key (keys.Generate Sntrup761)) [] ≡ Ok (with_pair seed)
 unfolding with_key
 key_read seed = refl
 
 reads_key : (seed : ℕ) → Reads (with_seed seed) (codes "keygen\n") (with_pair seed)
 reads_key seed =
     reads_line (with_seed seed) (with_pair seed) (codes "keygen\n") (codes "keygen") (λ after. refl)
-    (line_is (with_seed seed) (with_pair seed) (codes "keygen") (codes "keygen") [] (Key keys.Generate) refl refl refl refl
+    (line_is (with_seed seed) (with_pair seed) (codes "keygen") (codes "keygen") [] (Key (keys.Generate Sntrup761)) refl refl refl refl
     (key_read seed))
 
 abbrev with_sender : ℕ → Plan

@@ -10,7 +10,7 @@ use Rattle.std.proofs.lemmas.List.Folds.{flat_map-map}
 use Rattle.std.proofs.lemmas.List.Concat.{length-flat_map}
 use Rattle.std.proofs.lemmas.Grind.{flat_map-append}
 use Rattle.std.proofs.Math.Seq.{take-add}
-use Rattle.lane_quotas.proofs.Sums.{count_parts}
+use Rattle.lane_replies.proofs.Sums.{count_parts}
 use Rattle.batch_plans.specs.declared.plan.Plan.{Plan}
 use Rattle.request_frames.specs.Batch.{Spells, empty_plan}
 use Rattle.demo_texts.specs.Texts.{rand_line, set_up_lines, share_of, sealing_lanes, sealing_text, opening_line, opening_lines, opening_size, opening_count, opening_text}

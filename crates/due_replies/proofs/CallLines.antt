@@ -12,13 +12,13 @@ use Rattle.call_places.specs.Spans.{span_bytes}
 use Rattle.hpke_context.specs.Answers as hpke
 use Rattle.hpke_context.specs.Answers.{Item, Seal, Unseal, Cipher, Answer, answer}
 use Rattle.hpke_context.specs.Contexts.{ContextView, exported_by}
-use Rattle.legal_journals.specs.Batches.{Ask, unseal, items_in, context_in, block, place, own_places, lane_of, lane_places}
-use Rattle.legal_journals.specs.Legal.{reply_of, number_of, due_after}
-use Rattle.legal_journals.specs.Guesses.{guess_at, missed}
-use Rattle.legal_journals.specs.Entries.{numbers_from}
-use Rattle.legal_journals.proofs.Members.{In}
-use Rattle.legal_journals.proofs.Places.{in_own}
-use Rattle.legal_journals.proofs.Legals.{all_asked_item}
+use Rattle.context_books.specs.Batches.{Ask, unseal, items_in, context_in, block, place, own_places, lane_of, lane_places}
+use Rattle.context_books.specs.Legal.{reply_of, number_of, due_after}
+use Rattle.context_books.specs.Guesses.{guess_at, missed}
+use Rattle.context_books.specs.Entries.{numbers_from}
+use Rattle.context_books.specs.Lists.{In}
+use Rattle.context_books.proofs.Places.{in_own}
+use Rattle.context_books.proofs.Legals.{all_asked_item}
 use Rattle.batch_plans.specs.declared.plan.CallLine.{CallLine}
 use Rattle.batch_plans.specs.declared.plan.CallLine.TheVariants as calls
 use Rattle.batch_plans.specs.declared.replies.CallRefusal.{CallRefusal}
@@ -27,20 +27,11 @@ use Rattle.reply_texts.specs.Lines.{batch_line, exported_line, refused_line}
 use Rattle.due_replies.specs.Standing.{call_refusal, standing_at}
 use Rattle.due_replies.specs.Asks.{asked_by, cipher_at}
 use Rattle.due_replies.specs.Runs.{Run, asks_of, journal_of, guesses_of, answer_line, answer_line_of, place_line, served_lines, opening_lines, export_line, lines_unless, call_lines}
-use Rattle.due_replies.proofs.Growing.{AllServed}
+use Rattle.due_replies.specs.Lanes.{AllServed}
 use Rattle.due_replies.specs.Lanes.{calls_of, guesses_before}
 use Rattle.due_replies.proofs.Placed.{call_replies_are, call_numbers_are}
 use Rattle.due_replies.proofs.Done.{ask_served, length-messages, within_taken}
-
--- the places of what a call asks stand in the journal of its context behind this front; the places
--- of the front are served, and none of them is the call's
-pub record StandsBehind (run : Run) (lane number : ℕ) (ask : Ask)
-    (front : List Place) : Type 0 where
-  pub after : List Place
-  pub stands : journal_of run (context_in ask) ≡ front ++
-      (block lane number 0 (length (items_in ask)) ++ after)
-  pub served : AllServed (asks_of run) (context_in ask) front
-  pub fresh : (item : ℕ) → In (place lane number item) front → ⊥
+use Rattle.due_replies.specs.Lanes.{StandsBehind}
 
 -- where a front has of a lane's places those of the calls before, the next call's are not there
 pub not_yet : (run : Run) (lane number context : ℕ) (front : List Place)

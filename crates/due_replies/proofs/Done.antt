@@ -11,13 +11,14 @@ use Rattle.call_places.specs.declared.spans.Item.{Item as ItemSpans}
 use Rattle.call_places.specs.declared.entries.Place.{Place}
 use Rattle.call_places.specs.Messages.{SealedMessage, sealed_message, sealed_messages}
 use Rattle.hpke_context.specs.Answers.{Item}
-use Rattle.legal_journals.specs.Batches.{Ask, Nothing, ToOpenAll, unseal, items_in, context_in, item_in_call, with_context, block, place, own_places, lane_of, lane_places}
-use Rattle.legal_journals.specs.Guesses.{guess_of, guess_count}
-use Rattle.legal_journals.proofs.Members.{In, got, in_contains, contains_in}
-use Rattle.legal_journals.proofs.Places.{same_place, own_in}
-use Rattle.legal_journals.proofs.Legals.{in_block, item_all_asked, all_asked_item}
-use Rattle.legal_journals.proofs.OneLane.{taken_more, few_taken}
-use Rattle.legal_journals.proofs.Lists.{append-nil}
+use Rattle.context_books.specs.Batches.{Ask, Nothing, ToOpenAll, unseal, items_in, context_in, item_in_call, with_context, block, place, own_places, lane_of, lane_places}
+use Rattle.context_books.specs.Guesses.{guess_of, guess_count}
+use Rattle.context_books.proofs.Members.{got, in_contains, contains_in}
+use Rattle.context_books.specs.Lists.{In}
+use Rattle.context_books.proofs.Places.{same_place, own_in}
+use Rattle.context_books.proofs.Legals.{in_block, item_all_asked, all_asked_item}
+use Rattle.context_books.proofs.OneLane.{taken_more, few_taken}
+use Rattle.context_books.proofs.Lists.{append-nil}
 use Rattle.batch_plans.specs.declared.plan.Plan.{Plan}
 use Rattle.batch_plans.specs.declared.plan.CallLine.{CallLine}
 use Rattle.batch_plans.specs.declared.plan.CallLine.TheVariants as calls
@@ -203,9 +204,7 @@ done_stands run lane number k (calls.UnsealAll context first count) within done 
           (subst (λ n. In p (block lane k 0 n)) (sym size) has),
       omega arith,
     )
-done_stands run lane number k (calls.Export context exporter size) within done low at free = tt
-done_stands run lane number k (calls.Add name) within done low at free = tt
-done_stands run lane number k (calls.Retire name) within done low at free = tt
+done_stands run lane number k call within done low at free = tt
 
 -- ---- the lines of the calls that are done
 

@@ -10,11 +10,12 @@ use Rattle.call_places.specs.declared.entries.Step.{Step}
 use Rattle.call_places.specs.declared.entries.Step.TheVariants.{Note}
 use Rattle.hpke_context.specs.Answers.{Item}
 use Rattle.hpke_context.specs.Contexts.{ContextView}
-use Rattle.legal_journals.specs.Batches.{context_in, items_in, with_context, item_in, item_in_call, lane_of, place}
-use Rattle.legal_journals.specs.Legal.{is_same_place}
-use Rattle.legal_journals.proofs.Members.{In, contains_in}
-use Rattle.legal_journals.proofs.Places.{same_places}
-use Rattle.legal_journals.proofs.Truths.{and_left, and_right}
+use Rattle.context_books.specs.Batches.{context_in, items_in, with_context, item_in, item_in_call, lane_of, place}
+use Rattle.context_books.specs.Legal.{is_same_place}
+use Rattle.context_books.proofs.Members.{contains_in}
+use Rattle.context_books.specs.Lists.{In}
+use Rattle.context_books.proofs.Places.{same_places}
+use Rattle.context_books.proofs.Truths.{and_left, and_right}
 use Rattle.batch_plans.specs.declared.plan.Plan.{Plan}
 use Rattle.batch_plans.specs.declared.plan.CallLine.{CallLine}
 use Rattle.batch_plans.specs.declared.plan.CallLine.TheVariants as calls

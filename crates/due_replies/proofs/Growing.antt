@@ -3,15 +3,12 @@ use Rattle.std.proofs.Common.{◌≡◌, ℕ, suc, Bool, true, false, cond, List
 use Rattle.call_places.specs.declared.entries.Place.{Place}
 use Rattle.hpke_context.specs.Answers.{Item, Cipher, Answer, answer, next, run, due}
 use Rattle.hpke_context.proofs.Runs.{run-append}
-use Rattle.legal_journals.specs.Batches.{Batch, items_of, item_or_none, IsServed}
-use Rattle.legal_journals.specs.Legal.{is_same_place, reply_in, reply_of, before, due_after, number_of}
-use Rattle.legal_journals.proofs.Members.{In}
-use Rattle.legal_journals.proofs.Places.{same_from}
-use Rattle.legal_journals.proofs.Runs.{items_of-append}
-
--- each place of a list is one that the context serves
-abbrev pub AllServed : Batch → ℕ → List Place → Type 0
-AllServed batch context ps = (p : Place) → In p ps → IsServed batch context p
+use Rattle.context_books.specs.Batches.{Batch, items_of, item_or_none, IsServed}
+use Rattle.context_books.specs.Legal.{is_same_place, reply_in, reply_of, before, due_after, number_of}
+use Rattle.context_books.specs.Lists.{In}
+use Rattle.context_books.proofs.Places.{same_from}
+use Rattle.context_books.proofs.Runs.{items_of-append}
+use Rattle.due_replies.specs.Lanes.{AllServed}
 
 length-run : (c : Cipher) (n : ℕ) (xs : List Item) → length (run c n xs) ≡ length xs
 length-run c n [] = refl

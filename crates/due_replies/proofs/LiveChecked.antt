@@ -11,13 +11,13 @@ use Rattle.call_places.specs.declared.entries.Entry.{Entry}
 use Rattle.call_places.specs.declared.entries.Step.{Step}
 use Rattle.call_places.specs.declared.entries.Step.TheVariants.{Sealed, SealLimit, Opened, Failed, OpenLimit, Note}
 use Rattle.call_places.specs.Notes.{live_at, TellsLive, AreLive}
-use Rattle.legal_journals.specs.Batches.{Ask, Spot, lane_of}
-use Rattle.legal_journals.specs.Checks.{is_legal_history}
-use Rattle.legal_journals.specs.Histories.{LegalHistory, IsHistory, journals_of}
-use Rattle.legal_journals.proofs.CheckingHistory.{legal_history_iff}
-use Rattle.legal_journals.proofs.Members.{contains_in, in_contains, in_range, in_map}
-use Rattle.legal_journals.proofs.OneHistory.{history_iff}
-use Rattle.legal_journals.proofs.Truths.{and_left, and_right, both_true, all_true, true_all}
+use Rattle.context_books.specs.Batches.{Ask, Spot, lane_of}
+use Rattle.context_books.specs.Checks.{is_legal_history}
+use Rattle.context_books.specs.Histories.{LegalHistory, IsHistory, journals_of}
+use Rattle.context_books.proofs.CheckingHistory.{legal_history_iff}
+use Rattle.context_books.proofs.Members.{contains_in, in_contains, in_range, in_map}
+use Rattle.context_books.proofs.OneHistory.{history_iff}
+use Rattle.context_books.proofs.Truths.{and_left, and_right, both_true, all_true, true_all}
 use Rattle.batch_plans.specs.declared.plan.CallLine.{CallLine}
 use Rattle.reply_texts.specs.ReplyText.{numbered}
 use Rattle.due_replies.specs.Asks.{ask_of}

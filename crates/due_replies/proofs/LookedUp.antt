@@ -4,8 +4,8 @@ use Rattle.std.specs.Prelude.{slice_get, slice_index_or, option_map, nat_lt}
 use Rattle.call_places.specs.declared.entries.Entry.{Entry}
 use Rattle.call_places.specs.declared.entries.Place.{Place}
 use Rattle.call_places.specs.Entries.{own}
-use Rattle.legal_journals.specs.Batches.{place}
-use Rattle.legal_journals.specs.Legal.{is_same_place}
+use Rattle.context_books.specs.Batches.{place}
+use Rattle.context_books.specs.Legal.{is_same_place}
 use Rattle.batch_plans.specs.declared.plan.Plan.{Plan}
 use Rattle.batch_plans.specs.declared.plan.CallLine.{CallLine}
 use Rattle.batch_plans.specs.Calls.{context_of}

@@ -10,8 +10,8 @@ use Rattle.call_places.specs.declared.entries.Step.TheVariants.{Note}
 use Rattle.call_places.specs.Notes.{adds, live_at, TellsLive}
 use Rattle.call_places.proofs.Live.{never_added}
 use Rattle.hpke_context.specs.Contexts.{ContextView}
-use Rattle.legal_journals.specs.Entries.{entry_places}
-use Rattle.legal_journals.proofs.Members.{got, value_at, contains_at, at_contained, contains_in, in_contains, in_map}
+use Rattle.context_books.specs.Entries.{entry_places}
+use Rattle.context_books.proofs.Members.{got, value_at, contains_at, at_contained, contains_in, in_contains, in_map}
 use Rattle.batch_plans.specs.declared.plan.Plan.{Plan}
 use Rattle.batch_plans.specs.declared.plan.CallLine.{CallLine}
 use Rattle.batch_plans.specs.declared.plan.CallLine.TheVariants as calls
@@ -67,13 +67,10 @@ module _ (plan : Plan) (standing : List (Option ContextView)) (name : ℕ)
   -- no note adds the name
   adds_not : (call : CallLine) (n : Noting) (live : Bool) → noting plan standing call ≡ Some n
       → adds name (Note n.name n.act live) ≡ false
-  adds_not (calls.Seal context item) n live is = looks _ _ _ n live is
-  adds_not (calls.Unseal context item) n live is = looks _ _ _ n live is
-  adds_not (calls.UnsealAll context first count) n live is = looks _ _ _ n live is
-  adds_not (calls.Export context exporter size) n live is = looks _ _ _ n live is
   adds_not (calls.Add of) n live is =
       added (standing_at standing (line_count plan + of)) of n live refl is
   adds_not (calls.Retire of) n live is = other n Retire live refl (chosen _ Retire of n is)
+  adds_not call n live is = looks _ _ _ n live is
 
   adds_not_in : (o : Option CallLine) (n : Noting) (live : Bool)
       → noting_in plan standing o ≡ Some n → adds name (Note n.name n.act live) ≡ false

@@ -11,12 +11,13 @@ use Rattle.call_places.specs.declared.entries.Place.{Place}
 use Rattle.call_places.specs.Entries.{IsBefore, stamps_of, StampsRise}
 use Rattle.hpke_context.specs.Answers.{Item, Seal}
 use Rattle.hpke_context.specs.Contexts.{ContextView}
-use Rattle.legal_journals.specs.Batches.{Batch, Ask, Nothing, ToSeal, ToOpenAll, item_in_call, place, lane_of, IsServed}
-use Rattle.legal_journals.specs.Entries.{entry_places}
-use Rattle.legal_journals.specs.Histories.{mark, places, stamps, marks_at, all_stamps, HasLowerStamp, AreAllFrom0, LegalMarks, LegalHistory}
-use Rattle.legal_journals.specs.Legal.{OpensOn}
-use Rattle.legal_journals.proofs.Members.{In, contains_in, in_contains, in_map, map_in, RisesBy, pairs_rise, rises_pairs}
-use Rattle.legal_journals.proofs.Places.{same_place}
+use Rattle.context_books.specs.Batches.{Batch, Ask, Nothing, ToSeal, ToOpenAll, item_in_call, place, lane_of, IsServed}
+use Rattle.context_books.specs.Entries.{entry_places}
+use Rattle.context_books.specs.Histories.{mark, places, stamps, marks_at, all_stamps, HasLowerStamp, AreAllFrom0, LegalMarks, LegalHistory}
+use Rattle.context_books.specs.Legal.{OpensOn}
+use Rattle.context_books.proofs.Members.{contains_in, in_contains, in_map, map_in, RisesBy, pairs_rise, rises_pairs}
+use Rattle.context_books.specs.Lists.{In}
+use Rattle.context_books.proofs.Places.{same_place}
 use Rattle.batch_plans.specs.declared.plan.Plan.{Plan}
 use Rattle.due_replies.specs.Live.{Noting, noting_in, IsNoted, LiveHistory}
 use Rattle.due_replies.specs.LiveChecks.{note_ask, note_mark, call_mark}

@@ -6,16 +6,18 @@ use Rattle.call_places.specs.declared.entries.Place.{Place}
 use Rattle.call_places.specs.declared.entries.Entry.{Entry}
 use Rattle.call_places.specs.Entries.{number_at}
 use Rattle.hpke_context.specs.Answers.{Item, Cipher, answer, next, run, due}
-use Rattle.legal_journals.specs.Batches.{Batch, Ask, items_in, context_in, block, place, lane_of, item_of, item_or_none, IsServed}
-use Rattle.legal_journals.specs.Legal.{reply_of, due_after, before, number_of}
-use Rattle.legal_journals.specs.Entries.{numbers_from, number_after, entry_places, FitsAt, Fits}
-use Rattle.legal_journals.proofs.Members.{In, In-append}
-use Rattle.legal_journals.proofs.OneLane.{parted}
-use Rattle.legal_journals.proofs.Places.{before_split}
-use Rattle.legal_journals.proofs.Runs.{due_after-append, drop_step, item_here}
-use Rattle.legal_journals.proofs.Replies.{reply_at}
-use Rattle.legal_journals.proofs.EntryNumbers.{EachFrom, to_each, each_front, due_fits, entry_places-append}
-use Rattle.due_replies.proofs.Growing.{AllServed}
+use Rattle.context_books.specs.Batches.{Batch, Ask, items_in, context_in, block, place, lane_of, item_of, item_or_none, IsServed}
+use Rattle.context_books.specs.Legal.{reply_of, due_after, before, number_of}
+use Rattle.context_books.specs.Entries.{numbers_from, number_after, entry_places, FitsAt, Fits}
+use Rattle.context_books.proofs.Members.{In-append}
+use Rattle.context_books.specs.Lists.{In}
+use Rattle.context_books.proofs.OneLane.{parted}
+use Rattle.context_books.proofs.Places.{before_split}
+use Rattle.context_books.proofs.Runs.{due_after-append, drop_step, item_here}
+use Rattle.context_books.proofs.Replies.{reply_at}
+use Rattle.context_books.proofs.EntryNumbers.{to_each, each_front, due_fits, entry_places-append}
+use Rattle.context_books.specs.Lists.{EachFrom}
+use Rattle.due_replies.specs.Lanes.{AllServed}
 
 -- a place, and behind it those of the next items
 not_again : (lane call i j : ℕ) → i < j → place lane call i ≡ place lane call j → ⊥

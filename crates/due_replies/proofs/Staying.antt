@@ -4,19 +4,20 @@ use Rattle.std.specs.Prelude.{slice_index}
 use mathlib.Core.List.{IsPrefix}
 use Rattle.std.proofs.lemmas.List.{get_or_append_left}
 use Rattle.call_places.specs.declared.entries.Place.{Place}
-use Rattle.legal_journals.specs.Batches.{lane_of, block, place}
-use Rattle.legal_journals.specs.Legal.{reply_of, number_of}
-use Rattle.legal_journals.specs.Guesses.{guess_at, missed}
-use Rattle.legal_journals.proofs.Members.{In}
+use Rattle.context_books.specs.Batches.{lane_of, block, place}
+use Rattle.context_books.specs.Legal.{reply_of, number_of}
+use Rattle.context_books.specs.Guesses.{guess_at, missed}
+use Rattle.context_books.specs.Lists.{In}
 use Rattle.batch_plans.specs.declared.plan.CallLine.{CallLine}
-use Rattle.batch_plans.specs.declared.plan.CallLine.TheVariants.{Seal, Unseal, UnsealAll, Export, Add, Retire}
+use Rattle.batch_plans.specs.declared.plan.CallLine.TheVariants.{Seal, Unseal, UnsealAll}
 use Rattle.batch_plans.specs.declared.replies.CallRefusal.{CallRefusal}
 use Rattle.reply_texts.specs.Lines.{batch_line}
 use Rattle.due_replies.specs.Standing.{call_refusal}
 use Rattle.due_replies.specs.Asks.{cipher_at}
 use Rattle.due_replies.specs.Runs.{Run, asks_of, journal_of, guesses_of, answer_line_of, place_line, opening_lines, served_lines, lines_unless, call_lines}
 use Rattle.due_replies.specs.Lanes.{guesses_before}
-use Rattle.due_replies.proofs.Growing.{AllServed, reply_of-append, number_of-append, map_same}
+use Rattle.due_replies.proofs.Growing.{reply_of-append, number_of-append, map_same}
+use Rattle.due_replies.specs.Lanes.{AllServed}
 
 -- the second run is the first one later, as far as this lane goes: the journals have grown at their
 -- ends, and so have the lane's guesses
@@ -34,9 +35,7 @@ CallStands run lane number (Unseal context item) = In (place lane number 0) (jou
 CallStands run lane number (UnsealAll context first count) =
     ((p : Place) → In p (block lane number 0 count) → In p (journal_of run context))
     × (guesses_before run lane number < length (guesses_of run lane))
-CallStands run lane number (Export context exporter size) = Unit {0}
-CallStands run lane number (Add name) = Unit {0}
-CallStands run lane number (Retire name) = Unit {0}
+CallStands run lane number call = Unit {0}
 
 -- each journal has places alone that its context serves
 abbrev pub JournalsAreServed : Run → Type 0
@@ -115,9 +114,7 @@ module _ (lane : ℕ) (run later : Run) (grows : Grows lane run later)
       (guess_at (lane_of (asks_of run) lane) (guesses_of run lane) number)
       (guess_at (lane_of (asks_of run) lane) (guesses_of later lane) number)
       (guess_stays number stands.1) stands.0
-  served_stay number (Export context exporter size) stands = refl
-  served_stay number (Add name) stands = refl
-  served_stay number (Retire name) stands = refl
+  served_stay number call stands = refl
 
   unless_stay : (number : ℕ) (call : CallLine) (refusal : Option CallRefusal)
       → (refusal ≡ None → CallStands run lane number call)

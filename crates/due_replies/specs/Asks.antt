@@ -5,10 +5,10 @@ use Rattle.call_places.specs.Spans.{span_bytes}
 use Rattle.call_places.specs.Messages.{sealed_messages}
 use Rattle.hpke_context.specs.Answers.{Cipher}
 use Rattle.hpke_context.specs.Contexts.{ContextView, cipher_of}
-use Rattle.legal_journals.specs.Batches.{Ask, Nothing, ToSeal, ToOpen, ToOpenAll, Batch}
+use Rattle.context_books.specs.Batches.{Ask, Nothing, ToSeal, ToOpen, ToOpenAll, Batch}
 use Rattle.batch_plans.specs.declared.plan.Plan.{Plan}
 use Rattle.batch_plans.specs.declared.plan.CallLine.{CallLine}
-use Rattle.batch_plans.specs.declared.plan.CallLine.TheVariants.{Seal, Unseal, UnsealAll, Export, Add, Retire}
+use Rattle.batch_plans.specs.declared.plan.CallLine.TheVariants.{Seal, Unseal, UnsealAll}
 use Rattle.batch_plans.specs.declared.replies.CallRefusal.{CallRefusal}
 use Rattle.batch_plans.specs.Limits.{items_from}
 use Rattle.due_replies.specs.Standing.{standing_at, call_refusal}
@@ -21,9 +21,7 @@ asked_by plan (Unseal context item) =
     ToOpen context (span_bytes plan.pool item.aad) (span_bytes plan.pool item.text)
 asked_by plan (UnsealAll context first count) =
     ToOpenAll context (sealed_messages plan.pool (items_from plan.items first count))
-asked_by plan (Export context exporter size) = Nothing
-asked_by plan (Add name) = Nothing
-asked_by plan (Retire name) = Nothing
+asked_by plan call = Nothing
 
 abbrev pub ask_unless : Option CallRefusal → Ask → Ask
 ask_unless None ask = ask

@@ -13,16 +13,16 @@ use Rattle.call_places.specs.declared.entries.Place.{Place}
 use Rattle.call_places.specs.Entries.{stamps_of, StampsRise}
 use Rattle.call_places.specs.Notes.{AreLive}
 use Rattle.hpke_context.specs.Contexts.{ContextView}
-use Rattle.legal_journals.specs.Batches.{Batch, place}
-use Rattle.legal_journals.specs.Legal.{is_same_place}
-use Rattle.legal_journals.specs.Entries.{entry_places}
-use Rattle.legal_journals.specs.Guesses.{AllGuessed}
-use Rattle.legal_journals.specs.Histories.{LegalMarks, AreAllFrom0, all_stamps, marks_at}
-use Rattle.legal_journals.specs.Histories.{HasLowerStamp}
+use Rattle.context_books.specs.Batches.{Batch, place}
+use Rattle.context_books.specs.Legal.{is_same_place}
+use Rattle.context_books.specs.Entries.{entry_places}
+use Rattle.context_books.specs.Guesses.{AllGuessed}
+use Rattle.context_books.specs.Histories.{LegalMarks, AreAllFrom0, all_stamps, marks_at}
+use Rattle.context_books.specs.Histories.{HasLowerStamp}
 use Rattle.call_places.specs.Entries.{IsBefore}
 use Rattle.batch_plans.specs.declared.plan.Plan.{Plan}
 use Rattle.batch_plans.specs.declared.plan.CallLine.{CallLine}
-use Rattle.batch_plans.specs.declared.plan.CallLine.TheVariants.{Seal, Unseal, UnsealAll, Export, Add, Retire}
+use Rattle.batch_plans.specs.declared.plan.CallLine.TheVariants.{Add, Retire}
 use Rattle.batch_plans.specs.declared.replies.KeyReply.{KeyReply}
 use Rattle.batch_plans.specs.declared.replies.ContextReply.{ContextReply}
 use Rattle.batch_plans.specs.declared.replies.ContextReply.TheVariants as contexts
@@ -61,12 +61,9 @@ adding None name = None
 adding (Some context) name = Some (record { act = acts.Add; name = name })
 
 abbrev pub noting : Plan → List (Option ContextView) → CallLine → Option Noting
-noting plan standing (Seal context item) = looking plan context
-noting plan standing (Unseal context item) = looking plan context
-noting plan standing (UnsealAll context first count) = looking plan context
-noting plan standing (Export context exporter size) = looking plan context
 noting plan standing (Add name) = adding (standing_at standing (line_count plan + name)) name
 noting plan standing (Retire name) = noting_of plan acts.Retire name
+noting plan standing call = looking plan (context_of call)
 
 abbrev pub noting_in : Plan → List (Option ContextView) → Option CallLine → Option Noting
 noting_in plan standing None = None

@@ -14,8 +14,8 @@ use Rattle.key_schedule.specs.declared.modes.Role.{Role}
 use Rattle.key_schedule.specs.declared.modes.Role.TheVariants.{Sender, Recipient}
 use Rattle.key_schedule.specs.declared.schedules.CipherSecrets.TheVariants as secrets
 use Rattle.hpke_context.specs.Contexts.{ContextView}
-use Rattle.legal_journals.specs.Batches.{place}
-use Rattle.legal_journals.specs.Histories.{mark}
+use Rattle.context_books.specs.Batches.{place}
+use Rattle.context_books.specs.Histories.{mark}
 use Rattle.batch_plans.specs.declared.plan.Plan.{Plan}
 use Rattle.batch_plans.specs.declared.plan.ContextKind.TheVariants as kinds
 use Rattle.batch_plans.specs.declared.plan.ContextLine.{ContextLine}

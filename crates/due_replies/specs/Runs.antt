@@ -7,10 +7,10 @@ use Rattle.call_places.specs.declared.entries.Mark.{Mark}
 use Rattle.call_places.specs.declared.entries.Place.{Place}
 use Rattle.hpke_context.specs.Answers.{Answer, Sealed_at, Opened_at, Failed_at, At_limit}
 use Rattle.hpke_context.specs.Contexts.{ContextView, exported_by}
-use Rattle.legal_journals.specs.Batches.{Batch, lane_of, block, place}
-use Rattle.legal_journals.specs.Legal.{Legal, reply_of}
-use Rattle.legal_journals.specs.Guesses.{AllGuessed, guess_at, missed_in}
-use Rattle.legal_journals.specs.Histories.{LegalHistory, marks_at, places}
+use Rattle.context_books.specs.Batches.{Batch, lane_of, block, place}
+use Rattle.context_books.specs.Legal.{Legal, reply_of}
+use Rattle.context_books.specs.Guesses.{AllGuessed, guess_at, missed_in}
+use Rattle.context_books.specs.Histories.{LegalHistory, marks_at, places}
 use Rattle.batch_plans.specs.declared.plan.Plan.{Plan}
 use Rattle.batch_plans.specs.declared.plan.CallLine.{CallLine}
 use Rattle.batch_plans.specs.declared.plan.CallLine.TheVariants as calls
@@ -84,8 +84,7 @@ served_lines run lane number (calls.UnsealAll context first count) =
     (guess_at (lane_of (asks_of run) lane) (guesses_of run lane) number)
 served_lines run lane number (calls.Export context exporter size) =
     export_line (standing_at run.contexts context) (span_bytes run.plan.pool exporter) size ∷ []
-served_lines run lane number (calls.Add name) = []
-served_lines run lane number (calls.Retire name) = []
+served_lines run lane number call = []
 
 -- a call that is refused has one line
 abbrev pub lines_unless : Option CallRefusal → List (List ℕ) → List (List ℕ)

@@ -2,8 +2,8 @@
 
 ghost use Rattle.std.specs.Prelude.{ℕ, ◌≡◌, ◌↔◌, ◌+◌, List, length, IsTrue};
 ghost use Rattle.call_places.specs.Notes.{AreLive};
-ghost use Rattle.legal_journals.specs.Batches.{Spot};
-ghost use Rattle.legal_journals.specs.Histories.{IsHistory, journals_of};
+ghost use Rattle.context_books.specs.Batches.{Spot};
+ghost use Rattle.context_books.specs.Histories.{IsHistory, journals_of};
 ghost use Rattle.due_replies.specs.Live.{LegalTable, LiveHistory, LiveRun, run_of};
 ghost use Rattle.due_replies.specs.LiveChecks.{asks_with_notes, with_table, TellActs};
 ghost use Rattle.due_replies.specs.LiveChecks.{is_live_history};

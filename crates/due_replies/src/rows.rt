@@ -4,7 +4,7 @@
 ghost use Rattle.std.specs.Prelude.{◌≡◌, ◌∷◌, [], true, false};
 ghost use Rattle.call_places.specs.declared.entries.Act.TheVariants.{Look, Retire};
 ghost use Rattle.call_places.specs.Notes.{note_entry};
-ghost use Rattle.legal_journals.specs.Batches.{place};
+ghost use Rattle.context_books.specs.Batches.{place};
 ghost use Rattle.due_replies.specs.LiveChecks.{is_live_history};
 ghost use Rattle.due_replies.specs.LiveRows.{told, added, looked, retired};
 ghost use Rattle.due_replies.specs.LiveRows.{sealed_and_opened, sealed_alone};

@@ -10,8 +10,8 @@ ghost use Rattle.field_text.specs.HexLanes.{pairs_of};
 use crate::hex_reading::{all_hex_digits, decode};
 use crate::reasons::Reason;
 use crate::stop::Stop;
+use byte_strings::{is_decimal, value_of};
 use call_places::Span;
-use decimal_text::{is_decimal, value_of};
 use std::alloc::AllocError;
 
 /// A number field with the range `low` to `high`, both within.

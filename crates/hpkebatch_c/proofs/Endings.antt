@@ -10,9 +10,9 @@ use Rattle.live_frames.specs.Live.{live}
 use Rattle.capsule_frames.specs.Capsules.{capsules}
 use Rattle.capsule_runs.specs.Replies.{IsCapsuleReply}
 use Rattle.context_table.specs.ReplyTo.{IsReply, IsLiveReply}
-use Rattle.result_verdicts.specs.declared.verdicts.Verdict.{Verdict}
-use Rattle.result_verdicts.specs.declared.verdicts.Verdict.TheVariants.{Legal, Form, Journal, Table, Stamps, Reply, Guess}
-use Rattle.result_verdicts.specs.VerdictText.{verdict_text}
+use Rattle.result_lines.specs.declared.verdicts.Verdict.{Verdict}
+use Rattle.result_lines.specs.declared.verdicts.Verdict.TheVariants.{Legal, Form, Journal, Table, Stamps, Reply, Guess}
+use Rattle.result_lines.specs.VerdictText.{verdict_text}
 use Rattle.batch_words.specs.declared.commands.Command.{Command}
 use Rattle.batch_words.specs.declared.commands.Command.TheVariants as commands
 use Rattle.batch_serving.specs.declared.outcomes.Outcome.{Outcome}

@@ -4,63 +4,41 @@ use Rattle.std.specs.Prelude.{◌≢◌, ◌↔◌}
 use Rattle.std.proofs.lemmas.Bool.{cases_eq}
 use Rattle.field_text.specs.declared.reasons.Reason.{Reason}
 use Rattle.reply_texts.specs.ReplyText.{bad_text}
-use Rattle.result_verdicts.specs.declared.verdicts.Verdict.{Verdict}
-use Rattle.result_verdicts.specs.VerdictText.{verdict_text}
+use Rattle.result_lines.specs.declared.verdicts.Verdict.{Verdict}
+use Rattle.result_lines.specs.VerdictText.{verdict_text}
 use Rattle.batch_words.specs.declared.commands.Command.{Command}
 use Rattle.batch_serving.specs.declared.outcomes.Outcome.{Outcome}
 use Rattle.batch_serving.specs.declared.outcomes.Outcome.TheVariants.{Done, BadBatch, Broken}
-use Rattle.batch_words.specs.Words.{command_of}
-use Rattle.batch_serving.specs.Text.{AskForThreads, IsBadFor, IsBrokenFor, MayEnd}
+use Rattle.batch_serving.specs.Text.{IsBadFor, IsBrokenFor, MayEnd}
 use Rattle.hpkebatch_c.proofs.Endings.{ends_bad, ends_broken}
-use Rattle.hpkebatch_c.specs.Serving.{AsksForThreads, HasText, IsServed, MayAnswer, NeedsRoom, TellsBadFor, TellsBroken}
-
--- ---- words that ask for threads
-
-pub no_threads : (words : List (List ℕ)) → ¬ AskForThreads words → ¬ AsksForThreads (command_of words)
-unfolding AsksForThreads
-no_threads words none asked = none asked
-
-pub threads_asked : (words : List (List ℕ)) → AskForThreads words → AsksForThreads (command_of words)
-unfolding AsksForThreads
-threads_asked words asked = asked
-
-pub none_asks : (spelled : Option Command) → spelled ≡ None → ¬ AsksForThreads spelled
-unfolding AsksForThreads
-none_asks spelled none asked = let e = sym asked.1 ∙ none in cc
+use Rattle.hpkebatch_c.specs.Serving.{HasText, IsServed, MayAnswer, NeedsRoom, TellsBadFor, TellsBroken}
 
 -- ---- a whole call
 
 module _ (spelled : Option Command) (input old : List ℕ) (size_old : ℕ) where
   -- nothing was written
   pub refused : (status : ℕ) → status ≢ 0 → status ≢ 3 → status ≢ 5 → status ≢ 7
-      → (status ≢ 6 → ((status ≡ 2) ↔ (spelled ≡ None)))
-      → (status ≢ 6 → ((status ≡ 19) ↔ AsksForThreads spelled)) → IsServed spelled input old old size_old size_old status
-  refused status a b c d usage threads = record {
+      → (status ≢ 6 → ((status ≡ 2) ↔ (spelled ≡ None))) → IsServed spelled input old old size_old size_old status
+  refused status a b c d usage = record {
     done = (λ e. absurd (a e));
     bad = (λ e. absurd (b e));
     broken = (λ e. absurd (d e));
     room = (λ e. absurd (c e));
     usage = usage;
-    threads = threads;
     behind = refl;
     kept = (λ none. refl);
     told = (λ none e. refl);
   }
 
-  -- the words spell a command that needs no threads
-  record Stands : Type 0 where
-    pub usage : spelled ≢ None
-    pub threads : ¬ AsksForThreads spelled
-
-  others : (status : ℕ) → HasText status → (status ≢ 2) × (status ≢ 5) × (status ≢ 19)
+  others : (status : ℕ) → HasText status → (status ≢ 2) × (status ≢ 5)
   others status has = elim has [
-    | inl e ↦ ((λ f. let g = sym e ∙ f in cc), (λ f. let g = sym e ∙ f in cc), (λ f. let g = sym e ∙ f in cc))
-    | inr (inl e) ↦ ((λ f. let g = sym e ∙ f in cc), (λ f. let g = sym e ∙ f in cc), (λ f. let g = sym e ∙ f in cc))
-    | inr (inr e) ↦ ((λ f. let g = sym e ∙ f in cc), (λ f. let g = sym e ∙ f in cc), (λ f. let g = sym e ∙ f in cc))
+    | inl e ↦ ((λ f. let g = sym e ∙ f in cc), (λ f. let g = sym e ∙ f in cc))
+    | inr (inl e) ↦ ((λ f. let g = sym e ∙ f in cc), (λ f. let g = sym e ∙ f in cc))
+    | inr (inr e) ↦ ((λ f. let g = sym e ∙ f in cc), (λ f. let g = sym e ∙ f in cc))
   ]
 
   -- a text stands in the room
-  fits : (status : ℕ) (new : List ℕ) (size : ℕ) → Stands → HasText status
+  fits : (status : ℕ) (new : List ℕ) (size : ℕ) → spelled ≢ None → HasText status
       → (status ≡ 0 → MayAnswer spelled input Done (take size new))
       → (status ≡ 3 → TellsBadFor spelled input (take size new))
       → (status ≡ 7 → TellsBroken spelled input (take size new))
@@ -70,15 +48,14 @@ module _ (spelled : Option Command) (input old : List ℕ) (size_old : ℕ) wher
     bad = bad;
     broken = broken;
     room = (λ e. absurd ((others status has).1 e));
-    usage = (λ some. ((λ e. absurd ((others status has).0 e)), (λ e. absurd (stands.usage e))));
-    threads = (λ some. ((λ e. absurd ((others status has).2 e)), (λ e. absurd (stands.threads e))));
+    usage = (λ some. ((λ e. absurd ((others status has).0 e)), (λ e. absurd (stands e))));
     behind = behind;
     kept = (λ none. absurd (none has));
     told = (λ none. absurd (none has));
   }
 
   -- there is no room for a text
-  no_room : (outcome : Outcome) (text : List ℕ) (size : ℕ) → Stands
+  no_room : (outcome : Outcome) (text : List ℕ) (size : ℕ) → spelled ≢ None
       → MayAnswer spelled input outcome text → size ≡ length text → length old < length text
       → IsServed spelled input old old size_old size 5
   unfolding NeedsRoom
@@ -87,15 +64,14 @@ module _ (spelled : Option Command) (input old : List ℕ) (size_old : ℕ) wher
     bad = (λ e. cc);
     broken = (λ e. cc);
     room = (λ e. (outcome, text, is, same, subst (λ n. length old < n) (sym same) large));
-    usage = (λ some. ((λ e. cc), (λ e. absurd (stands.usage e))));
-    threads = (λ some. ((λ e. cc), (λ e. absurd (stands.threads e))));
+    usage = (λ some. ((λ e. cc), (λ e. absurd (stands e))));
     behind = refl;
     kept = (λ none. refl);
     told = (λ none e. absurd (e refl));
   }
 
   -- what is put for a text that the command may write
-  module _ (due : ℕ) (outcome : Outcome) (text new : List ℕ) (size status : ℕ) (stands : Stands) (has : HasText due)
+  module _ (due : ℕ) (outcome : Outcome) (text new : List ℕ) (size status : ℕ) (stands : spelled ≢ None) (has : HasText due)
       (is : MayAnswer spelled input outcome text)
       (whole : status ≢ 5 → (status ≡ due) × (take size new ≡ text))
       (room : status ≡ 5 → (size ≡ length text) × (length old < length text) × (new ≡ old))
@@ -119,11 +95,11 @@ module _ (spelled : Option Command) (input old : List ℕ) (size_old : ℕ) wher
 
   -- ---- by what was written for the words
 
-  module _ (text new : List ℕ) (size status : ℕ) (alone : ¬ AsksForThreads spelled)
+  module _ (text new : List ℕ) (size status : ℕ)
       (room : status ≡ 5 → (size ≡ length text) × (length old < length text) × (new ≡ old))
       (behind : drop size new ≡ drop size old) where
-    stands : (command : Command) → spelled ≡ Some command → Stands
-    stands command is = record { usage = (λ none. let e = sym is ∙ none in cc); threads = alone }
+    stands : (command : Command) → spelled ≡ Some command → spelled ≢ None
+    stands command is = λ none. let e = sym is ∙ none in cc
 
     pub put_done : (command : Command) (said : List ℕ) → spelled ≡ Some command → MayEnd command input Done said
         → text ≡ said → (status ≢ 5 → (status ≡ 0) × (take size new ≡ text))

@@ -3,13 +3,13 @@ use Rattle.std.specs.Prelude.{◌≡◌, ◌≢◌, ◌⊎◌, ◌<◌, ◌==◌
 use Rattle.std.specs.List.{list_all, slice_split}
 use Rattle.field_text.specs.declared.reasons.Reason.{Reason}
 use Rattle.reply_texts.specs.ReplyText.{bad_text}
-use Rattle.result_verdicts.specs.declared.verdicts.Verdict.{Verdict}
-use Rattle.result_verdicts.specs.VerdictText.{verdict_text}
+use Rattle.result_lines.specs.declared.verdicts.Verdict.{Verdict}
+use Rattle.result_lines.specs.VerdictText.{verdict_text}
 use Rattle.batch_words.specs.declared.commands.Command.{Command}
 use Rattle.batch_words.specs.Words.{command_of}
 use Rattle.batch_serving.specs.declared.outcomes.Outcome.{Outcome}
 use Rattle.batch_serving.specs.declared.outcomes.Outcome.TheVariants.{Done}
-use Rattle.batch_serving.specs.Text.{IsBadFor, IsBrokenFor, MayEnd, NeedsThreads}
+use Rattle.batch_serving.specs.Text.{IsBadFor, IsBrokenFor, MayEnd}
 
 -- ---- the words
 
@@ -26,10 +26,6 @@ words_in line = slice_split is_space line
 -- the command that a line of words spells, which is ASCII text
 unfoldable pub command_in : List ℕ → Option Command
 command_in line = if list_all is_ascii line then command_of (words_in line) else None
-
--- it is one that threads alone serve
-unfoldable pub AsksForThreads : Option Command → Type 0
-AsksForThreads spelled = (command : Command) × (spelled ≡ Some command) × NeedsThreads command
 
 -- ---- the text
 
@@ -70,7 +66,6 @@ pub record IsServed (spelled : Option Command) (input old new : List ℕ) (size_
   pub broken : status ≡ 7 → TellsBroken spelled input (take size new)
   pub room : status ≡ 5 → NeedsRoom spelled input (length old) size
   pub usage : status ≢ 6 → ((status ≡ 2) ↔ (spelled ≡ None))
-  pub threads : status ≢ 6 → ((status ≡ 19) ↔ AsksForThreads spelled)
   pub behind : drop size new ≡ drop size old
   pub kept : ¬ HasText status → new ≡ old
   pub told : ¬ HasText status → status ≢ 5 → size ≡ size_old

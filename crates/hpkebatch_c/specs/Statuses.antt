@@ -58,6 +58,14 @@ refused_pskextra = 17
 abbrev pub refused_pskmissing : ℕ
 refused_pskmissing = 18
 
--- the words ask for a command that threads alone serve
-abbrev pub needs_threads : ℕ
-needs_threads = 19
+-- a part of the message is missing
+abbrev pub refused_short : ℕ
+refused_short = 20
+
+-- the header names another key, or algorithms that don't encrypt
+abbrev pub refused_header : ℕ
+refused_header = 21
+
+-- the nonce of the response has another size than its AEAD asks for
+abbrev pub refused_noncesize : ℕ
+refused_noncesize = 22

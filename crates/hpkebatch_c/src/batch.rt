@@ -15,7 +15,7 @@ use batch_io::MemorySink;
 use batch_plans::limits::MOST_INPUT;
 use journal_check::check_result_by;
 use request_frames::{BadBatch, Plan, Printed, ReadBatchFault, print_bad, read_batch};
-use result_verdicts::Verdict;
+use result_lines::Verdict;
 use ring_lanes::Lanes;
 use std::alloc::{AllocError, Global};
 use std::rt::Memory;

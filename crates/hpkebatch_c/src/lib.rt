@@ -11,6 +11,8 @@
 //! time on one context.
 #![tactic(auto)]
 
+mod answers;
+mod asks;
 mod batch;
 mod ciphers;
 mod contexts;
@@ -20,7 +22,7 @@ mod messages;
 mod outputs;
 mod serving;
 mod setups;
-mod sinks;
 mod statuses;
 
+pub use asks::HpkeAsked;
 pub use contexts::HpkeContext;

@@ -5,14 +5,14 @@ ghost use Rattle.std.specs.List.{list_all};
 ghost use Rattle.std.specs.String.{string_bytes};
 ghost use Rattle.batch_words.specs.Words.{command_of};
 ghost use Rattle.batch_serving.specs.declared.outcomes.Outcome.TheVariants.{Done};
-ghost use Rattle.hpkebatch_c.specs.Serving.{AsksForThreads, HasText, IsServed, MayAnswer, NeedsRoom};
+ghost use Rattle.hpkebatch_c.specs.Serving.{HasText, IsServed, MayAnswer, NeedsRoom};
 ghost use Rattle.hpkebatch_c.specs.Serving.{TellsBadFor, TellsBroken, command_in, is_ascii, words_in};
 
 use crate::outputs::put;
-use crate::sinks::TextSink;
-use crate::statuses::{BAD_BATCH, BROKEN, NEEDS_THREADS, NO_MEMORY, NO_ROOM, WRONG_USAGE};
+use crate::statuses::{BAD_BATCH, BROKEN, NO_MEMORY, NO_ROOM, WRONG_USAGE};
 use aes_gcm::MayCheck;
 use batch_serving::{Outcome, serve_alone};
+use request_frames::TextSink;
 use std::alloc::{AllocError, Global};
 use std::rt::Memory;
 
@@ -63,12 +63,11 @@ fn serve_words(
 {
     let mut sink = TextSink::new(alloc);
     match serve_alone(MayCheck::alone(memory), alloc, words, input, &mut sink) {
-        Ok(Outcome::Done) => put_text(0, &sink.text, output, written),
-        Ok(Outcome::BadBatch { .. }) => put_text(BAD_BATCH, &sink.text, output, written),
-        Ok(Outcome::Broken { .. }) => put_text(BROKEN, &sink.text, output, written),
-        Ok(Outcome::Usage) => WRONG_USAGE,
-        Ok(Outcome::ReadFault | Outcome::WriteFault | Outcome::OutOfMemory) => NO_MEMORY,
-        Err(_needs_threads) => NEEDS_THREADS,
+        Outcome::Done => put_text(0, &sink.text, output, written),
+        Outcome::BadBatch { .. } => put_text(BAD_BATCH, &sink.text, output, written),
+        Outcome::Broken { .. } => put_text(BROKEN, &sink.text, output, written),
+        Outcome::Usage => WRONG_USAGE,
+        Outcome::ReadFault | Outcome::WriteFault | Outcome::OutOfMemory => NO_MEMORY,
     }
 }
 
@@ -90,13 +89,13 @@ fn serve_line(
     }
 }
 
-/// Serves `run`, `rehearse`, `check` or `capsules` of the command on the calling thread. `words` are
-/// those of its command line, ASCII text with one space between each two, as `run --mult lanes`.
+/// Serves any command on the calling thread. `words` are those of its command line, ASCII text with one
+/// space between each two, as `run --mult lanes`.
 ///
 /// Status 0: the text that the command writes for `input` stands at the front of `output`, with
 /// `written` bytes. 3: so does the line of its first bad line. 7: `check` told what is wrong. 5: `output`
-/// has no room for the text, and `written` is its size. 2: the words are none of the command's. 19: they
-/// ask for `live` or `demo`. 6: out of memory. But for 0, 3 and 7, `output` is as it was.
+/// has no room for the text, and `written` is its size. 2: the words are none of the command's. 6: out of
+/// memory. But for 0, 3 and 7, `output` is as it was.
 #[unsafe(no_mangle)]
 pub extern "C" fn hpkebatch_serve(
     alloc: Global,
@@ -115,7 +114,6 @@ pub extern "C" fn hpkebatch_serve(
     ensures room { result ≡ 5
         → NeedsRoom (command_in words.now) input.now (length output.old) written.new }
     ensures usage { result ≢ 6 → ((result ≡ 2) ↔ (command_in words.now ≡ None)) }
-    ensures threads { result ≢ 6 → ((result ≡ 19) ↔ AsksForThreads (command_in words.now)) }
     ensures behind { drop written.new output.new ≡ drop written.new output.old }
     ensures kept { ¬ HasText result → output.new ≡ output.old }
     ensures told { ¬ HasText result → result ≢ 5 → written.new ≡ written.old }

@@ -49,5 +49,11 @@ pub(crate) const REFUSED_PSKEXTRA: u32 = 17;
 /// Mode psk needs a psk.
 pub(crate) const REFUSED_PSKMISSING: u32 = 18;
 
-/// The words ask for a command that threads alone serve.
-pub(crate) const NEEDS_THREADS: u32 = 19;
+/// A part of the message is missing.
+pub(crate) const REFUSED_SHORT: u32 = 20;
+
+/// The header names another key, or algorithms that don't encrypt.
+pub(crate) const REFUSED_HEADER: u32 = 21;
+
+/// The nonce of the response has another size than its AEAD asks for.
+pub(crate) const REFUSED_NONCESIZE: u32 = 22;

@@ -5,11 +5,11 @@ use Rattle.std.proofs.lemmas.List.{drop_all, take-append-le, take_all}
 use Rattle.call_places.specs.declared.entries.Mark.{Mark}
 use Rattle.hpke_context.specs.Answers.{Item, Cipher, answer, next, run}
 use Rattle.hpke_context.specs.Contexts.{ContextView, SequentialView, cipher_of, answer_now}
-use Rattle.legal_journals.specs.Entries.{numbers_from}
-use Rattle.legal_journals.specs.Histories.{places}
+use Rattle.context_books.specs.Entries.{numbers_from}
+use Rattle.context_books.specs.Histories.{places}
 use Rattle.batch_plans.specs.declared.plan.Plan.{Plan}
 use Rattle.due_replies.specs.Runs.{answer_line}
-use Rattle.told_journals.proofs.Walks.{drop_next}
+use Rattle.journal_check.proofs.Walks.{drop_next}
 use Rattle.journal_check.specs.declared.items.Asked.{Asked}
 use Rattle.journal_check.specs.Runs.{asked_at, asked_and, item_view, items_at}
 

@@ -5,7 +5,7 @@ use Rattle.std.specs.List.{All}
 use Rattle.std.proofs.lemmas.List.Elements.{All-take, All-drop}
 use Rattle.call_places.specs.declared.entries.Place.{Place}
 use Rattle.call_places.specs.declared.spans.Item.{Item}
-use Rattle.legal_journals.proofs.Members.{In}
+use Rattle.context_books.specs.Lists.{In}
 use Rattle.batch_plans.specs.declared.plan.Plan.{Plan}
 use Rattle.batch_plans.specs.declared.plan.CallLine.{CallLine}
 use Rattle.batch_plans.specs.declared.plan.CallLine.TheVariants as calls
@@ -13,7 +13,7 @@ use Rattle.batch_plans.specs.Limits.{items_from, IsItemWithin, IsWithinLimits, m
 use Rattle.journal_check.specs.declared.items.Asked.{Asked}
 use Rattle.journal_check.specs.declared.items.Asked.TheVariants.{Seal, Open}
 use Rattle.journal_check.specs.Runs.{asks_in, asked_in_call, asked_at, IsAskedIn}
-use Rattle.result_verdicts.proofs.Limited.{IsLine, line_of_limits}
+use Rattle.result_lines.proofs.Limited.{IsLine, line_of_limits}
 
 -- an element of a list
 pub get_in : {X : Type 0} (xs : List X) (i : ℕ) (d : X) → i < length xs → In (get_or xs i d) xs

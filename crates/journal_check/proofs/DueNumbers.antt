@@ -5,14 +5,15 @@ use Rattle.std.specs.List.{list_any}
 use Rattle.std.proofs.lemmas.List.{drop_all}
 use Rattle.call_places.specs.declared.entries.Place.{Place}
 use Rattle.call_places.specs.declared.entries.Mark.{Mark}
-use Rattle.legal_journals.specs.Batches.{own_places}
-use Rattle.legal_journals.specs.Guesses.{through}
-use Rattle.legal_journals.specs.Histories.{places}
-use Rattle.legal_journals.proofs.Members.{In, got, value_at}
-use Rattle.legal_journals.proofs.OneLane.{taken_more}
-use Rattle.legal_journals.proofs.Places.{own_lane}
+use Rattle.context_books.specs.Batches.{own_places}
+use Rattle.context_books.specs.Guesses.{through}
+use Rattle.context_books.specs.Histories.{places}
+use Rattle.context_books.proofs.Members.{got, value_at}
+use Rattle.context_books.specs.Lists.{In}
+use Rattle.context_books.proofs.OneLane.{taken_more}
+use Rattle.context_books.proofs.Places.{own_lane}
 use Rattle.journal_check.specs.Passing.{Reaches}
-use Rattle.told_journals.proofs.Walks.{drop_next}
+use Rattle.journal_check.proofs.Walks.{drop_next}
 use Rattle.journal_check.proofs.Pulling.{no_place}
 
 -- ---- up to a place of the lane

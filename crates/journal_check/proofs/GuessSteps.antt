@@ -3,7 +3,7 @@ use Rattle.std.proofs.Common.{◌≡◌, ℕ, ◌+◌, ◌≤◌, Bool, true, fa
 use Rattle.std.proofs.lemmas.List.{length-map}
 use Rattle.call_places.specs.Messages.{sealed_messages}
 use Rattle.hpke_context.specs.Contexts.{ContextView}
-use Rattle.legal_journals.specs.Batches.{Ask, unseal}
+use Rattle.context_books.specs.Batches.{Ask, unseal}
 use Rattle.batch_plans.specs.declared.plan.CallLine.{CallLine}
 use Rattle.batch_plans.specs.declared.plan.CallLine.TheVariants as calls
 use Rattle.batch_plans.specs.declared.replies.CallRefusal.{CallRefusal}
@@ -13,9 +13,9 @@ use Rattle.due_replies.specs.Asks.{asked_by, ask_unless, ask_of}
 use Rattle.due_replies.specs.Runs.{Run}
 use Rattle.due_replies.proofs.Done.{length-messages}
 use Rattle.result_lines.specs.declared.told.GuessLine.{GuessLine}
-use Rattle.result_verdicts.specs.Guesses.{is_right, wrong_guess}
+use Rattle.result_lines.specs.Guesses.{is_right, wrong_guess}
 use Rattle.journal_check.specs.Passing.{opens_unless, is_opening}
-use Rattle.result_verdicts.proofs.Limited.{IsLine}
+use Rattle.result_lines.proofs.Limited.{IsLine}
 
 module _ (run : Run) (lane number : ℕ) (contexts : List (Option ContextView)) (asks : List Ask) where
   -- a call that keeps no guess

@@ -1,10 +1,10 @@
 -- Replies to calls, and to lanes, one after another.
-use Rattle.std.proofs.Common.{◌≡◌, ℕ, ◌+◌, List, [], ◌∷◌, ◌++◌, drop, Ok, Err, Some, None, subst, sym, ap, ◌∙◌, append_assoc, append-nil}
+use Rattle.std.proofs.Common.{◌≡◌, ℕ, ◌+◌, List, [], ◌∷◌, ◌++◌, drop, Ok, Err, Some, subst, sym, ap, ◌∙◌, append_assoc, append-nil}
 use Rattle.reply_texts.specs.ReplyText.{all_lines, numbered}
 use Rattle.result_lines.specs.Told.{ReplyView}
-use Rattle.journal_check.specs.declared.halts.Halt.{Halt}
-use Rattle.journal_check.specs.declared.halts.Halt.TheVariants.{OutOfMemory, Ended, Wrong}
-use Rattle.result_verdicts.specs.Replies.{wrong_reply}
+use Rattle.result_lines.specs.declared.stop.Stop.{Stop}
+use Rattle.result_lines.specs.declared.stop.Stop.TheVariants.{OutOfMemory, Wrong}
+use Rattle.result_lines.specs.Replies.{wrong_reply}
 use Rattle.journal_check.specs.Walks.{Holds}
 
 module _ {A : Type 0} (f : ℕ → A → List (List ℕ)) (xs : List A) (i : ℕ) (x : A) (at : drop i xs ≡ x ∷ drop (i + 1) xs)
@@ -24,22 +24,16 @@ module _ {A : Type 0} (f : ℕ → A → List (List ℕ)) (xs : List A) (i : ℕ
   go_on_lines new done here rest = next_lines rest ∙ here (all_lines (numbered f (i + 1) (drop (i + 1) xs)) ++ rest)
 
   -- they halt
-  pub halt_lines : (halt : Halt) (new last : List ReplyView) → Holds now new (f i x) (Err halt) → Holds old last lines (Err halt)
+  pub halt_lines : (halt : Stop) (new last : List ReplyView) → Holds now new (f i x) (Err halt) → Holds old last lines (Err halt)
   halt_lines OutOfMemory new last here = tt
-  halt_lines Ended new last here = λ rest. next_lines rest ∙ here (all_lines (numbered f (i + 1) (drop (i + 1) xs)) ++ rest)
   halt_lines (Wrong number) new last here = λ rest. next_lines rest ∙ here (all_lines (numbered f (i + 1) (drop (i + 1) xs)) ++ rest)
 
 -- all lines held, or one of them halts
 pub all_held : (old new : List ReplyView) (lines : List (List ℕ)) (done : Unit {0}) → Holds old new lines (Ok done) → wrong_reply new [] ≡ wrong_reply old lines
 all_held old new lines done held = sym (held []) ∙ ap (wrong_reply old) (append-nil lines)
 
-pub ended_early : (halt : Halt) (old new : List ReplyView) (lines : List (List ℕ)) → halt ≡ Ended → Holds old new lines (Err halt) → None ≡ wrong_reply old lines
-ended_early halt old new lines is halts =
-    let held : Holds old new lines (Err Ended) = subst (λ (h : Halt). Holds old new lines (Err h)) is halts in
-    sym (held []) ∙ ap (wrong_reply old) (append-nil lines)
-
-pub wrong_early : (halt : Halt) (number : ℕ) (old new : List ReplyView) (lines : List (List ℕ)) → halt ≡ Wrong number → Holds old new lines (Err halt)
+pub wrong_early : (halt : Stop) (number : ℕ) (old new : List ReplyView) (lines : List (List ℕ)) → halt ≡ Wrong number → Holds old new lines (Err halt)
     → Some number ≡ wrong_reply old lines
 wrong_early halt number old new lines is halts =
-    let held : Holds old new lines (Err (Wrong number)) = subst (λ (h : Halt). Holds old new lines (Err h)) is halts in
+    let held : Holds old new lines (Err (Wrong number)) = subst (λ (h : Stop). Holds old new lines (Err h)) is halts in
     sym (held []) ∙ ap (wrong_reply old) (append-nil lines)

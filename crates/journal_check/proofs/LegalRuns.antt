@@ -3,13 +3,14 @@ use Rattle.std.proofs.Common.{◌≡◌, ◌≢◌, ℕ, List, [], ◌∷◌, �
 use Rattle.std.specs.List.{AllPairs}
 use Rattle.call_places.specs.declared.entries.Place.{Place}
 use Rattle.hpke_context.specs.Answers.{Cipher, Item, Answer, answer, next, due, run as run_items}
-use Rattle.legal_journals.specs.Batches.{Batch, item_of, items_of, item_or_none, IsServed}
-use Rattle.legal_journals.specs.Entries.{numbers_from}
-use Rattle.legal_journals.specs.Legal.{Legal, due_after, before, number_of, reply_of}
-use Rattle.legal_journals.proofs.Members.{In, In-left, In-right, contains_in}
-use Rattle.legal_journals.proofs.Places.{before_split, not_in_front}
-use Rattle.legal_journals.proofs.Replies.{reply_at}
-use Rattle.legal_journals.proofs.Runs.{due_after-append}
+use Rattle.context_books.specs.Batches.{Batch, item_of, items_of, item_or_none, IsServed}
+use Rattle.context_books.specs.Entries.{numbers_from}
+use Rattle.context_books.specs.Legal.{Legal, due_after, before, number_of, reply_of}
+use Rattle.context_books.proofs.Members.{In-left, In-right, contains_in}
+use Rattle.context_books.specs.Lists.{In}
+use Rattle.context_books.proofs.Places.{before_split, not_in_front}
+use Rattle.context_books.proofs.Replies.{reply_at}
+use Rattle.context_books.proofs.Runs.{due_after-append}
 use Rattle.due_replies.specs.Runs.{answer_line, answer_line_of}
 
 -- each place of a legal journal is served

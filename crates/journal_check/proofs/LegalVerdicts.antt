@@ -6,10 +6,10 @@ use Rattle.batch_plans.specs.declared.plan.Plan.{Plan}
 use Rattle.due_replies.specs.Runs.{IsAllowed, run_text}
 use Rattle.context_table.specs.ReplyTo.{IsReply}
 use Rattle.context_table.proofs.OneSetUp.{one_set_up_lem}
-use Rattle.result_verdicts.specs.declared.verdicts.Verdict.{Verdict}
-use Rattle.result_verdicts.specs.declared.verdicts.Verdict.TheVariants.{Legal}
-use Rattle.result_verdicts.specs.Verdicts.{run_of}
-use Rattle.result_verdicts.proofs.LegalTexts.{sound, complete}
+use Rattle.result_lines.specs.declared.verdicts.Verdict.{Verdict}
+use Rattle.result_lines.specs.declared.verdicts.Verdict.TheVariants.{Legal}
+use Rattle.result_lines.specs.Verdicts.{run_of}
+use Rattle.result_lines.proofs.LegalTexts.{sound, complete}
 use Rattle.journal_check.specs.Verdicts.{IsVerdict}
 
 module _ (plan : Plan) (text : List ℕ) (verdict : Verdict) (within : IsWithinLimits plan) (v : IsVerdict plan text verdict) where

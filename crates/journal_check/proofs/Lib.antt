@@ -18,3 +18,12 @@ pub mod LegalVerdicts
 pub mod LiveSound
 pub mod LiveLegalVerdicts
 pub mod LiveRead
+pub mod Walks
+pub mod Asking
+pub mod Alike
+pub mod Putting
+pub mod Dealt
+pub mod KeptPlaces
+pub mod OneHistory
+pub mod NotedCalls
+pub mod LiveNames

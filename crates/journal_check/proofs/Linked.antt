@@ -4,12 +4,12 @@ use Rattle.std.specs.Prelude.{slice_get}
 use Rattle.std.proofs.lemmas.Bool.{cases_eq}
 use Rattle.std.proofs.lemmas.Option.{get_or_from_slice_get, slice_get_within}
 use Rattle.call_places.specs.declared.entries.Mark.{Mark}
-use Rattle.legal_journals.specs.Batches.{own_places}
-use Rattle.legal_journals.specs.Histories.{places}
-use Rattle.legal_journals.proofs.Members.{got}
-use Rattle.told_journals.proofs.Walks.{drop_next}
+use Rattle.context_books.specs.Batches.{own_places}
+use Rattle.context_books.specs.Histories.{places}
+use Rattle.context_books.proofs.Members.{got}
+use Rattle.journal_check.proofs.Walks.{drop_next}
 use Rattle.journal_check.specs.Links.{GoesOnAt, AreFirsts, IsNext}
-use Rattle.told_journals.proofs.Putting.{get_set_other}
+use Rattle.journal_check.proofs.Putting.{get_set_other}
 
 get_set_here : {A : Type 0} (xs : List A) (i : ℕ) (v x : A) → slice_get (slice_set xs i v) i ≡ Some x → x ≡ v
 get_set_here [] zero v x is = absurd (let none : None ≡ Some x = is in cc)

@@ -8,10 +8,10 @@ use Rattle.batch_plans.specs.declared.replies.ContextReply.{ContextReply}
 use Rattle.due_replies.specs.Live.{IsAllowedLive, live_run_text}
 use Rattle.context_table.specs.ReplyTo.{IsLiveReply}
 use Rattle.context_table.proofs.OneSetUp.{one_set_up_lem}
-use Rattle.result_verdicts.specs.declared.verdicts.Verdict.{Verdict}
-use Rattle.result_verdicts.specs.declared.verdicts.Verdict.TheVariants.{Legal}
-use Rattle.result_verdicts.specs.LiveVerdicts.{live_of}
-use Rattle.result_verdicts.proofs.LiveTexts.{live_sound, live_complete_texts}
+use Rattle.result_lines.specs.declared.verdicts.Verdict.{Verdict}
+use Rattle.result_lines.specs.declared.verdicts.Verdict.TheVariants.{Legal}
+use Rattle.result_lines.specs.LiveVerdicts.{live_of}
+use Rattle.result_lines.proofs.LiveTexts.{live_sound, live_complete_texts}
 use Rattle.journal_check.specs.Verdicts.{IsLiveVerdict}
 
 module _ (plan : Plan) (text : List ℕ) (verdict : Verdict) (within : IsWithinLimits plan) (v : IsLiveVerdict plan text verdict) where

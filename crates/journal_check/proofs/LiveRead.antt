@@ -16,10 +16,10 @@ use Rattle.result_lines.specs.Told.{ToldView}
 use Rattle.result_lines.specs.ToldLive.{told_live_by}
 use Rattle.result_lines.proofs.Growing.{batches}
 use Rattle.result_lines.proofs.TookLive.{told_live_took}
-use Rattle.result_verdicts.specs.declared.verdicts.Verdict.{Verdict}
-use Rattle.result_verdicts.specs.declared.verdicts.Verdict.TheVariants.{Form}
-use Rattle.result_verdicts.specs.LiveVerdicts.{live_told, live_verdict_on, live_by_form}
-use Rattle.result_verdicts.proofs.LookedLimits.{looked_lanes}
+use Rattle.result_lines.specs.declared.verdicts.Verdict.{Verdict}
+use Rattle.result_lines.specs.declared.verdicts.Verdict.TheVariants.{Form}
+use Rattle.result_lines.specs.LiveVerdicts.{live_told, live_verdict_on, live_by_form}
+use Rattle.result_lines.proofs.LookedLimits.{looked_lanes}
 use Rattle.journal_check.specs.Verdicts.{IsLiveVerdict}
 use Rattle.journal_check.proofs.ToldSizes.{Has}
 

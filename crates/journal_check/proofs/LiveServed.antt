@@ -5,7 +5,7 @@ use Rattle.call_places.specs.declared.entries.Mark.{Mark}
 use Rattle.call_places.specs.declared.spans.Item.{Item}
 use Rattle.call_places.specs.declared.spans.Span.{Span}
 use Rattle.hpke_context.specs.Contexts.{ContextView}
-use Rattle.legal_journals.specs.Batches.{place}
+use Rattle.context_books.specs.Batches.{place}
 use Rattle.batch_plans.specs.declared.plan.CallLine.{CallLine}
 use Rattle.batch_plans.specs.declared.plan.CallLine.TheVariants as calls
 use Rattle.batch_plans.specs.declared.replies.CallRefusal.{CallRefusal}
@@ -15,9 +15,9 @@ use Rattle.batch_plans.specs.Names.{at_position}
 use Rattle.reply_texts.specs.ReplyText.{all_lines, numbered}
 use Rattle.due_replies.specs.Live.{LiveRun, run_of, was_live, looked_up}
 use Rattle.due_replies.specs.Standing.{call_refusal}
-use Rattle.result_verdicts.specs.LiveVerdicts.{live_reply_lines, live_lane_replies, live_replies}
-use Rattle.result_verdicts.specs.Replies.{reply_lines}
-use Rattle.told_journals.specs.Asks.{asked_unless}
+use Rattle.result_lines.specs.LiveVerdicts.{live_reply_lines, live_lane_replies, live_replies}
+use Rattle.result_lines.specs.Replies.{reply_lines}
+use Rattle.journal_check.specs.Asks.{asked_unless}
 use Rattle.journal_check.specs.LiveWalks.{served_lines, served_lane_lines, all_served_lines}
 use Rattle.journal_check.specs.Walks.{Points}
 use Rattle.journal_check.proofs.ServedCalls.{points_past}

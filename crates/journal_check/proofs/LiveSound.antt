@@ -6,13 +6,13 @@ use Rattle.call_places.specs.declared.entries.Act.TheVariants as acts
 use Rattle.call_places.specs.declared.entries.Entry.{Entry}
 use Rattle.call_places.specs.declared.entries.Mark.{Mark}
 use Rattle.hpke_context.specs.Contexts.{ContextView}
-use Rattle.legal_journals.proofs.Truths.{both_true}
+use Rattle.context_books.proofs.Truths.{both_true}
 use Rattle.batch_plans.specs.Limits.{IsWithinLimits}
 use Rattle.batch_plans.specs.Names.{line_count}
 use Rattle.batch_plans.specs.declared.plan.Plan.{Plan}
 use Rattle.batch_plans.specs.declared.plan.CallLine.{CallLine}
 use Rattle.batch_plans.specs.declared.replies.ContextReply.{ContextReply}
-use Rattle.legal_journals.specs.Batches.{Batch}
+use Rattle.context_books.specs.Batches.{Batch}
 use Rattle.due_replies.specs.Asks.{batch_of}
 use Rattle.due_replies.specs.Live.{Noting, LiveRun, run_of, looked_up_plan}
 use Rattle.due_replies.specs.LiveChecks.{is_same_act, tells_noting, tells_act, is_live_history}
@@ -20,13 +20,13 @@ use Rattle.due_replies.specs.Runs.{Run}
 use Rattle.result_lines.specs.declared.tables.NoteLine.{NoteLine}
 use Rattle.result_lines.specs.Tables.{entry_by, entry_of, noting_at, notes_told, table_told}
 use Rattle.result_lines.specs.Told.{ToldView}
-use Rattle.result_verdicts.specs.declared.verdicts.Verdict.{Verdict}
-use Rattle.result_verdicts.specs.Guesses.{wrong_guesses}
-use Rattle.result_verdicts.specs.Journals.{is_journal, broken_journal}
-use Rattle.result_verdicts.specs.LiveVerdicts.{live_of, live_told, is_table, live_replies, by_live_journal, by_table, live_verdict_on}
-use Rattle.result_verdicts.specs.Replies.{wrong_reply}
-use Rattle.result_verdicts.specs.Verdicts.{by_stamps, by_reply, by_guess, or_later}
-use Rattle.told_journals.specs.Tables.{written, live_along}
+use Rattle.result_lines.specs.declared.verdicts.Verdict.{Verdict}
+use Rattle.result_lines.specs.Guesses.{wrong_guesses}
+use Rattle.result_lines.specs.Journals.{is_journal, broken_journal}
+use Rattle.result_lines.specs.LiveVerdicts.{live_of, live_told, is_table, live_replies, by_live_journal, by_table, live_verdict_on}
+use Rattle.result_lines.specs.Replies.{wrong_reply}
+use Rattle.result_lines.specs.Verdicts.{by_stamps, by_reply, by_guess, or_later}
+use Rattle.journal_check.specs.Tables.{written, live_along}
 use Rattle.journal_check.specs.declared.runs.JournalRun.{JournalRun}
 use Rattle.journal_check.specs.LiveWalks.{IsServedOf}
 use Rattle.journal_check.specs.Passing.{AreNumbersOf, AreLegal, HaveNumbers}

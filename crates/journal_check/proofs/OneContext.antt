@@ -5,8 +5,8 @@ use Rattle.std.proofs.lemmas.List.{get_or_default, get_or-set_same}
 use Rattle.std.proofs.lemmas.Option.{slice_get-get_or}
 use Rattle.call_places.specs.declared.entries.Place.{Place}
 use Rattle.call_places.specs.declared.entries.Mark.{Mark}
-use Rattle.legal_journals.specs.Batches.{own_places}
-use Rattle.legal_journals.specs.Histories.{places, marks_at}
+use Rattle.context_books.specs.Batches.{own_places}
+use Rattle.context_books.specs.Histories.{places, marks_at}
 use Rattle.batch_plans.specs.Limits.{most_lanes}
 use Rattle.batch_plans.specs.declared.plan.CallLine.{CallLine}
 use Rattle.journal_check.specs.Passing.{Reaches}

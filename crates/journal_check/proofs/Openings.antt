@@ -7,13 +7,13 @@ use Rattle.call_places.specs.declared.entries.Place.{Place}
 use Rattle.call_places.specs.declared.entries.Mark.{Mark}
 use Rattle.hpke_context.specs.Answers.{Cipher}
 use Rattle.hpke_context.specs.Contexts.{ContextView}
-use Rattle.legal_journals.specs.Batches.{Batch, own_places, block, place}
-use Rattle.legal_journals.specs.Guesses.{through, least_guess, greatest_guess, missed_in}
-use Rattle.legal_journals.specs.Histories.{marks_at, places}
-use Rattle.legal_journals.specs.Legal.{Legal, number_of, due_after, before}
-use Rattle.legal_journals.proofs.Guessing.{through-append}
-use Rattle.legal_journals.proofs.Members.{got}
-use Rattle.legal_journals.proofs.Places.{before_split, not_in_front}
+use Rattle.context_books.specs.Batches.{Batch, own_places, block, place}
+use Rattle.context_books.specs.Guesses.{through, least_guess, greatest_guess, missed_in}
+use Rattle.context_books.specs.Histories.{marks_at, places}
+use Rattle.context_books.specs.Legal.{Legal, number_of, due_after, before}
+use Rattle.context_books.proofs.Guessing.{through-append}
+use Rattle.context_books.proofs.Members.{got}
+use Rattle.context_books.proofs.Places.{before_split, not_in_front}
 use Rattle.batch_plans.specs.declared.plan.CallLine.{CallLine}
 use Rattle.batch_plans.specs.declared.plan.CallLine.TheVariants as calls
 use Rattle.batch_plans.specs.declared.replies.Batch as told_batch
@@ -21,12 +21,12 @@ use Rattle.due_replies.specs.Standing.{standing_at, call_refusal}
 use Rattle.due_replies.specs.Asks.{cipher_at}
 use Rattle.due_replies.specs.Runs.{Run, asks_of}
 use Rattle.journal_check.specs.declared.runs.JournalRun.{JournalRun}
-use Rattle.told_journals.specs.Asks.{items_asked, places_from}
-use Rattle.result_verdicts.specs.Guesses.{is_right}
+use Rattle.journal_check.specs.Asks.{items_asked, places_from}
+use Rattle.result_lines.specs.Guesses.{is_right}
 use Rattle.journal_check.specs.Walks.{Points}
-use Rattle.journal_check.specs.Passing.{is_right_by, Reaches, AllReach, AreNumbersOf, AreLegal, AreNumbered}
-use Rattle.result_verdicts.proofs.RunTexts.{length-block}
-use Rattle.result_verdicts.proofs.DueReplies.{stands_for}
+use Rattle.journal_check.specs.Passing.{is_right_by, Reaches, AllReach, AreNumbersOf, AreLegal}
+use Rattle.result_lines.proofs.RunTexts.{length-block}
+use Rattle.result_lines.proofs.DueReplies.{stands_for}
 use Rattle.journal_check.proofs.ServedCalls.{some_pair, context_asked, there_for, own_here}
 
 -- ---- the first place of a lane
@@ -102,9 +102,9 @@ if_ok_both (Err e) P Q R f p q = tt
 module _ (run : Run) (contexts : List (Option ContextView)) (journals : List (List Mark)) (runs : List JournalRun) (lane number : ℕ) (call : CallLine) (more : List CallLine)
     (cursors : List ℕ) (at n : ℕ) (contexts_are : run.contexts ≡ contexts) (journals_are : run.journals ≡ journals) (are : AreNumbersOf run runs) (legal : AreLegal run)
     (points : Points contexts journals lane number (call ∷ more) cursors) (reach : AllReach lane journals cursors) (asks : items_asked call ≡ Some (at, n))
-    (free : call_refusal contexts call ≡ None) (sized : AreNumbered contexts journals runs cursors) where
+    (free : call_refusal contexts call ≡ None) (size : length contexts ≡ length journals) (runs_size : length runs ≡ length journals) where
   there : at < length journals
-  there = there_for contexts journals call at (context_asked call at n asks) free sized.contexts_size
+  there = there_for contexts journals call at (context_asked call at n asks) free size
 
   stands : (context : ContextView) × (standing_at run.contexts at ≡ Some context)
   stands =
@@ -134,7 +134,7 @@ module _ (run : Run) (contexts : List (Option ContextView)) (journals : List (Li
       let own = own_here contexts journals lane number call more cursors points at n asks free there in
       let own_more : own_places lane (places (drop (slice_index cursors at) here)) ≡ block lane number 0 (suc m) ++ others =
       own ∙ ap (λ (k : ℕ). block lane number 0 k ++ others) size in
-      let done = got runs at (let size_of = sized.runs_size in let low = there in omega arith) in
+      let done = got runs at (let size_of = runs_size in let low = there in omega arith) in
       let low : least ≡ least_guess (asks_of run) (cipher_at run.contexts at) (places here) lane number =
       least_is done.0 done.1
       ∙ ap (λ (ns : List ℕ). slice_index ns (slice_index cursors at)) (numbers_are done.0 done.1)

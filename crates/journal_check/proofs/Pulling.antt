@@ -4,15 +4,15 @@ use Rattle.std.specs.Prelude.{slice_get}
 use Rattle.std.proofs.lemmas.Option.{get_or_from_slice_get}
 use Rattle.call_places.specs.declared.entries.Place.{Place}
 use Rattle.call_places.specs.declared.entries.Mark.{Mark}
-use Rattle.legal_journals.specs.Batches.{own_places}
-use Rattle.legal_journals.specs.Histories.{places}
-use Rattle.legal_journals.proofs.Members.{got}
+use Rattle.context_books.specs.Batches.{own_places}
+use Rattle.context_books.specs.Histories.{places}
+use Rattle.context_books.proofs.Members.{got}
 use Rattle.result_lines.specs.Told.{ReplyView}
-use Rattle.journal_check.specs.declared.halts.Halt.{Halt}
-use Rattle.journal_check.specs.declared.halts.Halt.TheVariants.{OutOfMemory, Ended, Wrong}
-use Rattle.result_verdicts.specs.Replies.{wrong_reply}
+use Rattle.result_lines.specs.declared.stop.Stop.{Stop}
+use Rattle.result_lines.specs.declared.stop.Stop.TheVariants.{OutOfMemory, Wrong}
+use Rattle.result_lines.specs.Replies.{wrong_reply}
 use Rattle.journal_check.specs.Walks.{Holds}
-use Rattle.told_journals.proofs.Walks.{drop_next}
+use Rattle.journal_check.proofs.Walks.{drop_next}
 
 -- ---- the next place
 
@@ -57,11 +57,10 @@ behind_here lane marks cursor at there found p ps own =
 -- ---- lines one after another
 
 -- where the next line halts, all lines do
-pub holds_halt : (halt : Halt) (old now new last : List ReplyView) (lines : List (List ℕ)) (line : List ℕ) (more : List (List ℕ))
+pub holds_halt : (halt : Stop) (old now new last : List ReplyView) (lines : List (List ℕ)) (line : List ℕ) (more : List (List ℕ))
     → ((rest : List (List ℕ)) → wrong_reply old (lines ++ rest) ≡ wrong_reply now (line ∷ (more ++ rest)))
     → Holds now new (line ∷ []) (Err halt) → Holds old last lines (Err halt)
 holds_halt OutOfMemory old now new last lines line more so_far here = tt
-holds_halt Ended old now new last lines line more so_far here = λ rest. so_far rest ∙ here (more ++ rest)
 holds_halt (Wrong number) old now new last lines line more so_far here = λ rest. so_far rest ∙ here (more ++ rest)
 
 -- a place of so many, and those behind it

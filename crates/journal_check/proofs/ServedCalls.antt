@@ -7,8 +7,8 @@ use Rattle.std.proofs.lemmas.List.{get_or_past}
 use Rattle.call_places.specs.declared.entries.Place.{Place}
 use Rattle.call_places.specs.declared.entries.Mark.{Mark}
 use Rattle.hpke_context.specs.Contexts.{ContextView}
-use Rattle.legal_journals.specs.Batches.{own_places, block}
-use Rattle.legal_journals.specs.Histories.{marks_at, places}
+use Rattle.context_books.specs.Batches.{own_places, block}
+use Rattle.context_books.specs.Histories.{marks_at, places}
 use Rattle.batch_plans.specs.Calls.{context_of}
 use Rattle.batch_plans.specs.declared.plan.CallLine.{CallLine}
 use Rattle.batch_plans.specs.declared.plan.CallLine.TheVariants as calls
@@ -16,10 +16,10 @@ use Rattle.batch_plans.specs.declared.replies.CallRefusal.{CallRefusal}
 use Rattle.due_replies.specs.Standing.{standing_at, call_refusal}
 use Rattle.due_replies.specs.Runs.{Run, place_line}
 use Rattle.journal_check.specs.declared.runs.JournalRun.{JournalRun}
-use Rattle.result_verdicts.specs.Replies.{item_lines}
-use Rattle.result_verdicts.proofs.DueReplies.{stands_for}
-use Rattle.result_verdicts.proofs.RunTexts.{length-block}
-use Rattle.told_journals.specs.Asks.{items_asked, asked_unless, asked_in, places_asked, places_from}
+use Rattle.result_lines.specs.Replies.{item_lines}
+use Rattle.result_lines.proofs.DueReplies.{stands_for}
+use Rattle.result_lines.proofs.RunTexts.{length-block}
+use Rattle.journal_check.specs.Asks.{items_asked, asked_unless, asked_in, places_asked, places_from}
 use Rattle.journal_check.specs.Walks.{Points, AreRepliesOf, AreLong}
 
 -- what a call asks, where it asks for items

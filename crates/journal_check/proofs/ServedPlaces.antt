@@ -12,8 +12,8 @@ use Rattle.call_places.specs.declared.spans.Item.{Item as Spans}
 use Rattle.call_places.specs.Messages.{sealed_messages}
 use Rattle.hpke_context.specs.Answers.{Item}
 use Rattle.hpke_context.specs.Contexts.{ContextView, CanOpen, encrypts}
-use Rattle.legal_journals.specs.Batches.{Ask, unseal, with_context, item_in, item_in_call, item_of, items_of, item_or_none, IsServed}
-use Rattle.legal_journals.proofs.Members.{In}
+use Rattle.context_books.specs.Batches.{Ask, unseal, with_context, item_in, item_in_call, item_of, items_of, item_or_none, IsServed}
+use Rattle.context_books.specs.Lists.{In}
 use Rattle.batch_plans.specs.declared.plan.Plan.{Plan}
 use Rattle.batch_plans.specs.declared.plan.CallLine.{CallLine}
 use Rattle.batch_plans.specs.declared.plan.CallLine.TheVariants as calls
@@ -25,7 +25,7 @@ use Rattle.due_replies.specs.Asks.{asked_by, ask_unless, ask_of, batch_of}
 use Rattle.journal_check.specs.declared.items.Asked.{Asked}
 use Rattle.journal_check.specs.declared.items.Asked.TheVariants.{Seal, Open}
 use Rattle.journal_check.specs.Runs.{asked_in_call, asked_at, item_view, asked_and, items_at, CanDo}
-use Rattle.told_journals.proofs.Asking.{asks_of_lane}
+use Rattle.journal_check.proofs.Asking.{asks_of_lane}
 
 -- ---- what a context can do that refuses nothing
 

@@ -7,13 +7,13 @@ use Rattle.std.proofs.lemmas.List.{get_or_past, length-map}
 use Rattle.call_places.specs.declared.entries.Mark.{Mark}
 use Rattle.hpke_context.specs.Answers.{Item, run as run_items}
 use Rattle.hpke_context.specs.Contexts.{ContextView, cipher_of}
-use Rattle.legal_journals.specs.Batches.{Ask, on, all_asked, items_of}
-use Rattle.legal_journals.specs.Entries.{numbers_from}
-use Rattle.legal_journals.specs.Histories.{marks_at, places}
-use Rattle.legal_journals.specs.Legal.{Legal}
-use Rattle.legal_journals.proofs.Checking.{legal_iff}
-use Rattle.legal_journals.proofs.Legals.{lane_is}
-use Rattle.legal_journals.proofs.Members.{In}
+use Rattle.context_books.specs.Batches.{Ask, on, all_asked, items_of}
+use Rattle.context_books.specs.Entries.{numbers_from}
+use Rattle.context_books.specs.Histories.{marks_at, places}
+use Rattle.context_books.specs.Legal.{Legal}
+use Rattle.context_books.proofs.Checking.{legal_iff}
+use Rattle.context_books.proofs.Legals.{lane_is}
+use Rattle.context_books.specs.Lists.{In}
 use Rattle.batch_plans.specs.declared.plan.Plan.{Plan}
 use Rattle.batch_plans.specs.Limits.{IsWithinLimits}
 use Rattle.due_replies.specs.Standing.{standing_at}
@@ -22,17 +22,17 @@ use Rattle.due_replies.specs.Runs.{Run, asks_of, journal_of, answer_line}
 use Rattle.journal_check.specs.declared.runs.JournalRun.{JournalRun}
 use Rattle.reply_texts.specs.ReplyText.{has_stamps}
 use Rattle.result_lines.specs.Told.{ToldView}
-use Rattle.result_verdicts.specs.declared.verdicts.Verdict.{Verdict}
-use Rattle.result_verdicts.specs.Guesses.{wrong_guesses}
-use Rattle.result_verdicts.specs.Journals.{broken_journal, is_one_history}
-use Rattle.result_verdicts.specs.Replies.{all_replies, wrong_reply}
-use Rattle.result_verdicts.specs.Verdicts.{run_told, by_journal, by_stamps, by_reply, by_guess, or_later, verdict_on}
+use Rattle.result_lines.specs.declared.verdicts.Verdict.{Verdict}
+use Rattle.result_lines.specs.Guesses.{wrong_guesses}
+use Rattle.result_lines.specs.Journals.{broken_journal, is_one_history}
+use Rattle.result_lines.specs.Replies.{all_replies, wrong_reply}
+use Rattle.result_lines.specs.Verdicts.{run_told, by_journal, by_stamps, by_reply, by_guess, or_later, verdict_on}
 use Rattle.journal_check.specs.Passing.{AreNumbersOf, AreLegal, HaveNumbers}
 use Rattle.journal_check.specs.Runs.{items_at, AreRuns, AreFor}
 use Rattle.journal_check.specs.Walks.{AreRepliesOf, AreLong, HaveLanes}
-use Rattle.result_verdicts.proofs.Limited.{IsLine, lines_of_limits}
-use Rattle.result_verdicts.proofs.LegalJournals.{none_broken}
-use Rattle.told_journals.proofs.Asking.{from_asked, asks_of_lane}
+use Rattle.result_lines.proofs.Limited.{IsLine, lines_of_limits}
+use Rattle.result_lines.proofs.LegalJournals.{none_broken}
+use Rattle.journal_check.proofs.Asking.{from_asked, asks_of_lane}
 use Rattle.journal_check.proofs.ServedPlaces.{asked_served, items_same}
 use Rattle.journal_check.proofs.LegalRuns.{all_served, lines_of_run, numbers_of_run}
 

@@ -4,3 +4,8 @@ pub mod Walks
 pub mod LiveWalks
 pub mod Links
 pub mod Passing
+pub mod Asks
+pub mod Histories
+pub mod Piles
+pub mod Tables
+pub mod Lives

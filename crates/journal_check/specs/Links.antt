@@ -1,8 +1,8 @@
 -- ---- for the proofs: where a lane goes on in a journal
 use Rattle.std.specs.Prelude.{ℕ, ◌≡◌, ◌+◌, List, drop, slice_get, Some}
 use Rattle.call_places.specs.declared.entries.Mark.{Mark}
-use Rattle.legal_journals.specs.Batches.{own_places}
-use Rattle.legal_journals.specs.Histories.{places}
+use Rattle.context_books.specs.Batches.{own_places}
+use Rattle.context_books.specs.Histories.{places}
 
 -- from one index on the lane has the same places as from another one
 abbrev pub GoesOnAt : List Mark → ℕ → ℕ → ℕ → Type 0

@@ -3,7 +3,7 @@ use Rattle.std.specs.Prelude.{ℕ, ◌≡◌, ◌+◌, ◌<◌, Bool, false, Lis
 use Rattle.call_places.specs.declared.entries.Entry.{Entry}
 use Rattle.call_places.specs.declared.entries.Mark.{Mark}
 use Rattle.hpke_context.specs.Contexts.{ContextView}
-use Rattle.legal_journals.specs.Batches.{place}
+use Rattle.context_books.specs.Batches.{place}
 use Rattle.batch_plans.specs.declared.plan.Plan.{Plan}
 use Rattle.batch_plans.specs.declared.plan.CallLine.{CallLine}
 use Rattle.batch_plans.specs.declared.plan.CallLine.TheVariants.{Add, Retire}
@@ -11,7 +11,7 @@ use Rattle.batch_plans.specs.declared.replies.ContextReply.{ContextReply}
 use Rattle.batch_plans.specs.Names.{line_count}
 use Rattle.reply_texts.specs.ReplyText.{all_lines, numbered}
 use Rattle.due_replies.specs.Live.{LiveRun, run_of, was_live, add_line, retire_line}
-use Rattle.result_verdicts.specs.Replies.{reply_lines}
+use Rattle.result_lines.specs.Replies.{reply_lines}
 
 -- the run's calls as they were served are those of the plan, over these contexts, journals and replies
 pub record IsServedOf (live : LiveRun) (plan : Plan) (contexts : List (Option ContextView))

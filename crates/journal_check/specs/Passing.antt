@@ -2,9 +2,9 @@
 use Rattle.std.specs.Prelude.{ℕ, ◌≡◌, ◌<◌, ◌==◌, ◌&&◌, nat_le, Bool, true, false, List, length, map, take, slice_get, slice_index, Option, Some, None}
 use Rattle.call_places.specs.declared.entries.Mark.{Mark}
 use Rattle.hpke_context.specs.Contexts.{ContextView}
-use Rattle.legal_journals.specs.Guesses.{missed, through}
-use Rattle.legal_journals.specs.Histories.{marks_at, places}
-use Rattle.legal_journals.specs.Legal.{Legal, number_of}
+use Rattle.context_books.specs.Guesses.{missed, through}
+use Rattle.context_books.specs.Histories.{marks_at, places}
+use Rattle.context_books.specs.Legal.{Legal, number_of}
 use Rattle.batch_plans.specs.declared.plan.CallLine.{CallLine}
 use Rattle.batch_plans.specs.declared.plan.CallLine.TheVariants as calls
 use Rattle.batch_plans.specs.declared.replies.Batch.{Batch}
@@ -47,14 +47,6 @@ abbrev pub HaveNumbers : List (Option ContextView) → List (List Mark) → List
 HaveNumbers contexts journals runs = (c : ℕ) (context : ContextView) (done : JournalRun)
     → standing_at contexts c ≡ Some context → slice_get runs c ≡ Some done
     → length done.numbers.items ≡ length (marks_at journals c)
-
--- the sizes of what is walked along
-pub record AreNumbered (contexts : List (Option ContextView)) (journals : List (List Mark))
-    (runs : List JournalRun) (cursors : List ℕ) : Type 0 where
-  pub contexts_size : length contexts ≡ length journals
-  pub runs_size : length runs ≡ length journals
-  pub cursors_size : length cursors ≡ length journals
-  pub long : HaveNumbers contexts journals runs
 
 -- an opening of several messages that is served
 abbrev pub opens_all : CallLine → Bool

@@ -7,9 +7,9 @@ use Rattle.call_places.specs.declared.entries.Mark.{Mark}
 use Rattle.hpke_context.specs.Answers as hpke
 use Rattle.hpke_context.specs.Answers.{run}
 use Rattle.hpke_context.specs.Contexts.{ContextView, CanSeal, CanOpen, cipher_of}
-use Rattle.legal_journals.specs.Entries.{numbers_from}
-use Rattle.legal_journals.specs.Histories.{places, marks_at}
-use Rattle.legal_journals.proofs.Members.{In}
+use Rattle.context_books.specs.Entries.{numbers_from}
+use Rattle.context_books.specs.Histories.{places, marks_at}
+use Rattle.context_books.specs.Lists.{In}
 use Rattle.batch_plans.specs.declared.plan.Plan.{Plan}
 use Rattle.batch_plans.specs.declared.plan.CallLine.{CallLine}
 use Rattle.batch_plans.specs.declared.plan.CallLine.TheVariants as calls

@@ -8,9 +8,9 @@ use Rattle.context_table.specs.SetUp.{IsSetUp}
 use Rattle.result_lines.specs.Tables.{table_told}
 use Rattle.result_lines.specs.Told.{told_by}
 use Rattle.result_lines.specs.ToldLive.{told_live_by}
-use Rattle.result_verdicts.specs.declared.verdicts.Verdict.{Verdict}
-use Rattle.result_verdicts.specs.LiveVerdicts.{live_by_form}
-use Rattle.result_verdicts.specs.Verdicts.{by_form}
+use Rattle.result_lines.specs.declared.verdicts.Verdict.{Verdict}
+use Rattle.result_lines.specs.LiveVerdicts.{live_by_form}
+use Rattle.result_lines.specs.Verdicts.{by_form}
 
 -- the verdict on a text, by the plan's set-up
 pub record IsVerdict (plan : Plan) (text : List ℕ) (verdict : Verdict) : Type 0 where

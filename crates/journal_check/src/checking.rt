@@ -5,34 +5,35 @@ ghost use Rattle.batch_plans.specs.Limits.{IsWithinLimits, most_input};
 ghost use Rattle.reply_texts.specs.ReplyText.{has_stamps};
 ghost use Rattle.due_replies.specs.Asks.{batch_of};
 ghost use Rattle.due_replies.specs.Runs.{Run};
-ghost use Rattle.result_verdicts.specs.declared.verdicts.Verdict.{Verdict};
-ghost use Rattle.result_verdicts.specs.Journals.{broken_journal as broken_journal_of};
-ghost use Rattle.result_verdicts.specs.Journals.{is_one_history as is_one_history_of};
-ghost use Rattle.result_verdicts.specs.Replies.{all_replies, wrong_reply as wrong_reply_of};
-ghost use Rattle.result_verdicts.specs.Guesses.{wrong_guesses as wrong_guesses_of};
-ghost use Rattle.result_verdicts.specs.Verdicts.{by_journal, by_stamps, by_reply, by_guess, or_later};
-ghost use Rattle.result_verdicts.specs.Verdicts.{verdict_on as verdict_on_of, by_form};
+ghost use Rattle.result_lines.specs.declared.verdicts.Verdict.{Verdict};
+ghost use Rattle.result_lines.specs.Journals.{broken_journal as broken_journal_of};
+ghost use Rattle.result_lines.specs.Journals.{is_one_history as is_one_history_of};
+ghost use Rattle.result_lines.specs.Replies.{all_replies, wrong_reply as wrong_reply_of};
+ghost use Rattle.result_lines.specs.Guesses.{wrong_guesses as wrong_guesses_of};
+ghost use Rattle.result_lines.specs.Verdicts.{by_journal, by_stamps, by_reply, by_guess, or_later};
+ghost use Rattle.result_lines.specs.Verdicts.{verdict_on as verdict_on_of, by_form};
 ghost use Rattle.journal_check.specs.Verdicts.{IsVerdict};
 ghost use Rattle.context_table.specs.ReplyTo.{IsReply};
 ghost use Rattle.result_lines.specs.Told.{told_by};
-ghost use Rattle.journal_check.specs.Passing.{AreNumbersOf, AreLegal, HaveNumbers};
-ghost use Rattle.journal_check.specs.Walks.{AreRepliesOf, AreLong, HaveLanes};
+ghost use Rattle.journal_check.specs.Passing.{AreNumbersOf, AreLegal};
+ghost use Rattle.journal_check.specs.Walks.{AreRepliesOf, WasRun};
 
 use crate::guesses::wrong_guesses;
+use crate::histories::is_one_history;
+use crate::journals::broken_journal;
+use crate::kept::kept_journals;
 use crate::links::linked_journals;
 use crate::replies::wrong_reply;
-use crate::runs::{JournalRun, run_journals};
+use crate::runs::{CheckedRun, JournalRun, run_journals};
 use aes_gcm::MayCheck;
 use batch_plans::{PlainList, Plan};
 use call_places::Mark;
 use context_table::set_up;
 use hpke_context::Context;
-use result_lines::{Stop, Told, read_result};
-use result_verdicts::Verdict;
+use result_lines::{Stop, Told, Verdict, read_result};
 use ring_core::Multiplier;
 use std::alloc::{AllocError, Global};
 use std::thread::Threads;
-use told_journals::{broken_journal, is_one_history, kept_journals};
 
 // A journal that isn't legal, or stamps that make no history.
 fn wrong_journal(
@@ -72,26 +73,26 @@ fn wrong_line(
     journals: &[PlainList<Mark>],
     runs: &[JournalRun],
 ) -> Result<Verdict, AllocError>
-    requires within { IsWithinLimits plan.now }
-    requires same { journals.now ≡ told.now.journals }
     requires lanes_size { length told.now.lanes ≡ length plan.now.lanes }
-    requires contexts_size { length contexts.now ≡ length told.now.journals }
-    requires runs_size { length runs.now ≡ length told.now.journals }
-    requires long { AreLong contexts.now told.now.journals runs.now }
-    requires numbers { HaveNumbers contexts.now told.now.journals runs.now }
-    requires own { HaveLanes plan.now contexts.now told.now.journals }
+    requires run { WasRun plan.now contexts.now journals.now runs.now }
     ensures { IfOk result (λ verdict. (run : Run) → run.plan ≡ plan.now
-        → run.contexts ≡ contexts.now → run.journals ≡ told.now.journals
+        → run.contexts ≡ contexts.now → run.journals ≡ journals.now
         → AreRepliesOf run runs.now → AreNumbersOf run runs.now → AreLegal run
         → verdict ≡ by_reply (wrong_reply_of told.now.replies (all_replies run))
         (by_guess (wrong_guesses_of run 0 told.now.lanes))) }
 {
     let mut replies = told.replies();
     let journals = linked_journals(alloc, plan.lanes.as_slice().len(), journals)?;
-    if let Some(line) = wrong_reply(&mut replies, alloc, plan, contexts, &journals, runs)? {
+    let checked = CheckedRun {
+        plan,
+        contexts,
+        journals: &journals,
+        runs,
+    };
+    if let Some(line) = wrong_reply(&mut replies, alloc, &checked)? {
         return Ok(Verdict::Reply { line });
     }
-    match wrong_guesses(alloc, plan, contexts, &journals, runs, told.lanes())? {
+    match wrong_guesses(alloc, &checked, told.lanes())? {
         Some(line) => Ok(Verdict::Guess { line }),
         None => Ok(Verdict::Legal),
     }

@@ -3,19 +3,17 @@
 ghost use Rattle.std.specs.Prelude.{◌≡◌, ◌≤◌, ◌<◌, ◌+◌, ◌-◌, ◌^◌, length, map, slice_get, IfOk, OnOk};
 ghost use Rattle.hpke_context.specs.Answers.{Seal, Unseal, next};
 ghost use Rattle.hpke_context.specs.Contexts.{CanSeal, CanOpen, answer_now};
-ghost use Rattle.batch_plans.specs.Limits.{IsWithinLimits};
-ghost use Rattle.reply_texts.specs.Lines.{served_line as served_line_of};
-ghost use Rattle.reply_texts.specs.Lines.{failed_line as failed_line_of};
-ghost use Rattle.reply_texts.specs.Lines.{limit_line as limit_line_of};
+ghost use Rattle.batch_plans.specs.Limits.{IsWithinLimits, most_ciphertext};
+ghost use Rattle.call_places.specs.Spans.{IsInPool, span_bytes};
 ghost use Rattle.due_replies.specs.Runs.{answer_line};
 ghost use Rattle.journal_check.specs.Runs.{asks_in, asked_at as asked_at_of, item_view, CanDo};
 ghost use Rattle.journal_check.specs.Runs.{IsAskedIn, OpensWithin};
 
 use aes_gcm::Checks;
-use batch_plans::{CallLine, Plan, items_from};
-use call_places::{Item, Place};
+use batch_plans::{CallLine, Plan, Reply, items_from};
+use call_places::{Item, Place, Span};
 use hpke_context::{CallFault, Sequential};
-use result_lines::{push_hex, push_number};
+use request_frames::reply_line;
 use std::alloc::{AllocError, Global};
 
 /// What an item asks: to be sealed, or to be opened.
@@ -48,32 +46,16 @@ fn asked_item(items: &[Item], call: &CallLine, i: u32) -> Option<Asked>
     }
 }
 
-// `sealed N CT` or `opened N PT`.
-fn served_line(alloc: Global, word: &[u8], number: u64, bytes: &[u8]) -> Result<Vec<u8>, AllocError>
-    ensures { IfOk result (λ line. line.items ≡ served_line_of word.now number bytes.now) }
+/// The span of all of these bytes.
+pub(crate) fn all_of(bytes: &[u8]) -> Span
+    requires { length bytes.now < 2 ^ 32 }
+    ensures within { IsInPool (length bytes.now) result }
+    ensures all { span_bytes bytes.now result ≡ bytes.now }
 {
-    let mut line = word.to_vec(alloc)?;
-    push_number(alloc, &mut line, number)?;
-    line.push(b' ')?;
-    push_hex(alloc, &mut line, bytes)?;
-    line.push(b'\n')?;
-    Ok(line)
-}
-
-// `failed N`.
-fn failed_line(alloc: Global, number: u64) -> Result<Vec<u8>, AllocError>
-    ensures { IfOk result (λ line. line.items ≡ failed_line_of number) }
-{
-    let mut line = b"failed ".to_vec(alloc)?;
-    push_number(alloc, &mut line, number)?;
-    line.push(b'\n')?;
-    Ok(line)
-}
-
-fn limit_line(alloc: Global) -> Result<Vec<u8>, AllocError>
-    ensures { IfOk result (λ line. line.items ≡ limit_line_of) }
-{
-    b"limit\n".to_vec(alloc)
+    Span {
+        start: 0,
+        len: bytes.len() as u32,
+    }
 }
 
 // The line of a seal.
@@ -84,7 +66,7 @@ fn seal(
     text: &[u8],
 ) -> Result<Vec<u8>, AllocError>
     requires can { CanSeal sequential.old.context }
-    requires text { length text.now ≤ 2 ^ 36 - 32 }
+    requires text { length text.now ≤ most_ciphertext }
     requires aad { length aad.now < 2 ^ 61 }
     ensures line { IfOk result (λ line. line.items
         ≡ answer_line (answer_now sequential.old (Seal aad.now text.now))) }
@@ -94,8 +76,11 @@ fn seal(
 {
     let mut out = vec![in alloc; 0u8; text.len() + 16]?;
     match sequential.seal_into(aad, text, &mut out) {
-        Ok(number) => served_line(alloc, b"sealed ", number, &out),
-        Err(_) => limit_line(alloc),
+        Ok(number) => {
+            let text = all_of(&out);
+            reply_line(alloc, &out, &Reply::Sealed { number, text })
+        }
+        Err(_) => reply_line(alloc, &[], &Reply::Limit),
     }
 }
 
@@ -108,7 +93,7 @@ fn open(
     checks: &mut Checks,
 ) -> Result<Vec<u8>, AllocError>
     requires can { CanOpen sequential.old.context }
-    requires ct { length ct.now ≤ 2 ^ 36 - 16 }
+    requires ct { length ct.now ≤ most_ciphertext }
     requires aad { length aad.now < 2 ^ 61 }
     requires count { checks.old < 2 ^ 64 - 1 }
     ensures line { IfOk result (λ line. line.items
@@ -121,9 +106,12 @@ fn open(
     let seq = sequential.seq();
     let mut out = vec![in alloc; 0u8; ct.len().saturating_sub(16)]?;
     match sequential.unseal_into(aad, ct, &mut out, checks) {
-        Ok(number) => served_line(alloc, b"opened ", number, &out),
-        Err(CallFault::Failed) => failed_line(alloc, seq),
-        Err(_) => limit_line(alloc),
+        Ok(number) => {
+            let text = all_of(&out);
+            reply_line(alloc, &out, &Reply::Opened { number, text })
+        }
+        Err(CallFault::Failed) => reply_line(alloc, &[], &Reply::Failed { number: seq }),
+        Err(_) => reply_line(alloc, &[], &Reply::Limit),
     }
 }
 

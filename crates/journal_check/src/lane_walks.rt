@@ -4,15 +4,14 @@ ghost use Rattle.std.specs.Prelude.{ℕ, ◌≡◌, ◌<◌, ◌+◌, ◌∷◌,
 ghost use Rattle.std.specs.Prelude.{slice_get, IfSome, IfNone, OnOk};
 ghost use Rattle.call_places.specs.declared.entries.Place.{Place};
 ghost use Rattle.call_places.specs.declared.entries.Mark.{Mark};
-ghost use Rattle.legal_journals.specs.Batches.{own_places};
-ghost use Rattle.legal_journals.specs.Histories.{places};
+ghost use Rattle.context_books.specs.Batches.{own_places};
+ghost use Rattle.context_books.specs.Histories.{places};
 ghost use Rattle.journal_check.specs.Walks.{Holds};
 
-use crate::halts::Halt;
 use crate::links::LinkedJournal;
 use batch_plans::PlainList;
 use call_places::Mark;
-use result_lines::{Replies, is_line};
+use result_lines::{Replies, Stop, is_line};
 
 // The first place of a lane from this index on.
 fn own_from(marks: &[Mark], lane: u32, from: usize) -> Option<usize>
@@ -41,17 +40,17 @@ pub(crate) fn next_own(journal: &LinkedJournal, lane: u32, from: usize) -> Optio
     own_from(journal.marks(), lane, journal.start(lane, from))
 }
 
-/// Holds the next reply against the line that is due.
-pub(crate) fn take_line(replies: &mut Replies, due: &[u8]) -> Result<(), Halt>
+/// Holds the next reply, where one is left, against the line that is due.
+pub(crate) fn take_line(replies: &mut Replies, due: &[u8]) -> Result<(), Stop>
     ensures { Holds replies.old replies.new (due.now ∷ []) result }
 {
     let Some(reply) = replies.take() else {
-        return Err(Halt::Ended);
+        return Ok(());
     };
     if is_line(reply.line, due) {
         Ok(())
     } else {
-        Err(Halt::Wrong(reply.number))
+        Err(Stop::Wrong(reply.number))
     }
 }
 
@@ -63,7 +62,7 @@ fn take_place(
     lines: &[PlainList<u8>],
     lane: u32,
     cursor: &mut usize,
-) -> Result<(), Halt>
+) -> Result<(), Stop>
     requires { length lines.now ≡ length journal.now }
     ensures line { (f : Place → List ℕ) (p : Place) (ps : List Place)
         → lines.now ≡ map f (places journal.now)
@@ -74,7 +73,7 @@ fn take_place(
         → own_places lane (places (drop cursor.new journal.now)) ≡ ps }
 {
     let Some(at) = next_own(journal, lane, *cursor) else {
-        return Err(Halt::Ended);
+        return Ok(());
     };
     *cursor = at + 1;
     take_line(replies, lines[at].as_slice())
@@ -88,7 +87,7 @@ pub(crate) fn take_places(
     lane: u32,
     cursor: &mut usize,
     count: u32,
-) -> Result<(), Halt>
+) -> Result<(), Stop>
     requires { length lines.now ≡ length journal.now }
     ensures lines { (f : Place → List ℕ) (ps more : List Place)
         → lines.now ≡ map f (places journal.now) → length ps ≡ count

@@ -10,8 +10,8 @@
 ghost use Rattle.std.specs.Prelude.{ℕ, ◌≡◌, ◌≤◌, ◌<◌, ◌+◌, ◌-◌, List, Some, length, drop};
 ghost use Rattle.std.specs.Prelude.{slice_get, slice_set, IfOk};
 ghost use Rattle.call_places.specs.declared.entries.Mark.{Mark};
-ghost use Rattle.legal_journals.specs.Batches.{own_places};
-ghost use Rattle.legal_journals.specs.Histories.{places};
+ghost use Rattle.context_books.specs.Batches.{own_places};
+ghost use Rattle.context_books.specs.Histories.{places};
 ghost use Rattle.journal_check.specs.Links.{GoesOnAt, AreFirsts, IsNext, AreLinks};
 
 use batch_plans::PlainList;

@@ -9,36 +9,37 @@ ghost use Rattle.due_replies.specs.Asks.{batch_of};
 ghost use Rattle.due_replies.specs.Live.{LiveRun, run_of, looked_up_plan};
 ghost use Rattle.due_replies.specs.LiveChecks.{tells_act};
 ghost use Rattle.due_replies.specs.LiveChecks.{is_live_history as is_live_history_of};
-ghost use Rattle.result_verdicts.specs.declared.verdicts.Verdict.{Verdict};
-ghost use Rattle.result_verdicts.specs.Journals.{broken_journal as broken_journal_of};
-ghost use Rattle.result_verdicts.specs.Replies.{wrong_reply as wrong_reply_of};
-ghost use Rattle.result_verdicts.specs.Guesses.{wrong_guesses as wrong_guesses_of};
-ghost use Rattle.result_verdicts.specs.Verdicts.{by_stamps, by_reply, by_guess, or_later};
-ghost use Rattle.result_verdicts.specs.LiveVerdicts.{called as called_of, is_table as is_table_of};
-ghost use Rattle.result_verdicts.specs.LiveVerdicts.{by_live_journal, by_table, live_replies};
-ghost use Rattle.result_verdicts.specs.LiveVerdicts.{live_told, live_verdict_on as verdict_of};
-ghost use Rattle.told_journals.specs.Tables.{written, live_along};
+ghost use Rattle.result_lines.specs.declared.verdicts.Verdict.{Verdict};
+ghost use Rattle.result_lines.specs.Journals.{broken_journal as broken_journal_of};
+ghost use Rattle.result_lines.specs.Replies.{wrong_reply as wrong_reply_of};
+ghost use Rattle.result_lines.specs.Guesses.{wrong_guesses as wrong_guesses_of};
+ghost use Rattle.result_lines.specs.Verdicts.{by_stamps, by_reply, by_guess, or_later};
+ghost use Rattle.result_lines.specs.LiveVerdicts.{called as called_of, is_table as is_table_of};
+ghost use Rattle.result_lines.specs.LiveVerdicts.{by_live_journal, by_table, live_replies};
+ghost use Rattle.result_lines.specs.LiveVerdicts.{live_told, live_verdict_on as verdict_of};
+ghost use Rattle.journal_check.specs.Tables.{written, live_along};
 ghost use Rattle.journal_check.specs.Verdicts.{IsLiveVerdict};
 ghost use Rattle.journal_check.specs.LiveWalks.{IsServedOf};
-ghost use Rattle.journal_check.specs.Passing.{AreNumbersOf, AreLegal, HaveNumbers};
-ghost use Rattle.journal_check.specs.Walks.{AreRepliesOf, AreLong, HaveLanes};
+ghost use Rattle.journal_check.specs.Passing.{AreNumbersOf, AreLegal};
+ghost use Rattle.journal_check.specs.Walks.{AreRepliesOf, WasRun};
 
 use crate::guesses::wrong_guesses;
+use crate::journals::broken_journal;
+use crate::kept::kept_journals;
 use crate::links::linked_journals;
 use crate::live_replies::wrong_live_reply;
-use crate::runs::{JournalRun, run_journals};
+use crate::runs::{CheckedRun, JournalRun, run_journals};
+use crate::tables::{is_live_history, is_table};
 use aes_gcm::MayCheck;
 use batch_plans::{CallLine, ContextReply, FIRST_NAME, LaneLines, PlainList, Plan};
 use call_places::{Entry, Mark};
 use context_table::set_up;
 use hpke_context::Context;
-use result_lines::{Stop, Told, looked_up_lanes, read_live_result, read_table};
-use result_verdicts::Verdict;
+use result_lines::{Stop, Told, Verdict, looked_up_lanes, read_live_result, read_table};
 use ring_core::Multiplier;
 use std::alloc::{AllocError, Global};
 use std::mem;
 use std::thread::Threads;
-use told_journals::{broken_journal, is_live_history, is_table, kept_journals};
 
 // The number by which calls name the context at this place.
 fn called(plan: &Plan, at: u32) -> u32
@@ -102,16 +103,10 @@ fn wrong_live_line(
     adds: &[ContextReply],
     notes: &[Entry],
 ) -> Result<Verdict, AllocError>
-    requires within { IsWithinLimits plan.now }
-    requires same { journals.now ≡ told.now.journals }
     requires lanes_size { length told.now.lanes ≡ length plan.now.lanes }
-    requires contexts_size { length contexts.now ≡ length told.now.journals }
-    requires runs_size { length runs.now ≡ length told.now.journals }
-    requires long { AreLong contexts.now told.now.journals runs.now }
-    requires numbers { HaveNumbers contexts.now told.now.journals runs.now }
-    requires own { HaveLanes plan.now contexts.now told.now.journals }
+    requires run { WasRun plan.now contexts.now journals.now runs.now }
     ensures { IfOk result (λ verdict. (l : LiveRun)
-        → IsServedOf l plan.now contexts.now told.now.journals adds.now → l.notes ≡ notes.now
+        → IsServedOf l plan.now contexts.now journals.now adds.now → l.notes ≡ notes.now
         → AreRepliesOf (run_of l) runs.now → AreNumbersOf (run_of l) runs.now
         → AreLegal (run_of l)
         → verdict ≡ by_reply (wrong_reply_of told.now.replies (live_replies l))
@@ -119,20 +114,16 @@ fn wrong_live_line(
 {
     let mut replies = told.replies();
     let journals = linked_journals(alloc, plan.lanes.as_slice().len(), journals)?;
-    let wrong = wrong_live_reply(
-        &mut replies,
-        alloc,
+    let checked = CheckedRun {
         plan,
         contexts,
-        &journals,
+        journals: &journals,
         runs,
-        adds,
-        notes,
-    )?;
-    if let Some(line) = wrong {
+    };
+    if let Some(line) = wrong_live_reply(&mut replies, alloc, &checked, adds, notes)? {
         return Ok(Verdict::Reply { line });
     }
-    match wrong_guesses(alloc, plan, contexts, &journals, runs, told.lanes())? {
+    match wrong_guesses(alloc, &checked, told.lanes())? {
         Some(line) => Ok(Verdict::Guess { line }),
         None => Ok(Verdict::Legal),
     }

@@ -4,9 +4,9 @@ ghost use Rattle.std.specs.Prelude.{◌≡◌, ◌≤◌, ◌<◌, ◌+◌, ◌^
 ghost use Rattle.call_places.specs.declared.entries.Mark.{Mark};
 ghost use Rattle.hpke_context.specs.Answers.{run};
 ghost use Rattle.hpke_context.specs.Contexts.{ContextView, cipher_of};
-ghost use Rattle.legal_journals.specs.Histories.{places};
-ghost use Rattle.legal_journals.specs.Entries.{numbers_from};
-ghost use Rattle.legal_journals.proofs.Members.{In};
+ghost use Rattle.context_books.specs.Histories.{places};
+ghost use Rattle.context_books.specs.Entries.{numbers_from};
+ghost use Rattle.context_books.specs.Lists.{In};
 ghost use Rattle.batch_plans.specs.Limits.{IsWithinLimits};
 ghost use Rattle.due_replies.specs.Standing.{standing_at};
 ghost use Rattle.due_replies.specs.Runs.{answer_line};
@@ -14,6 +14,7 @@ ghost use Rattle.journal_check.specs.Runs.{asked_at as asked_at_of, items_at, Is
 ghost use Rattle.journal_check.specs.Runs.{IsRunOf, AreRuns, AreFor};
 
 use crate::items::{Asked, answer, asked_at};
+use crate::links::LinkedJournal;
 use aes_gcm::{Checks, MayCheck};
 use batch_plans::{PlainList, Plan};
 use call_places::Mark;
@@ -26,6 +27,16 @@ use std::alloc::{AllocError, Global};
 pub(crate) struct JournalRun {
     pub(crate) lines: Vec<PlainList<u8>>,
     pub(crate) numbers: Vec<u64>,
+}
+
+/// A run that is checked: the plan, the contexts that stand, their journals, and what came of running
+/// each context along its own.
+#[derive(Clone, Copy)]
+pub(crate) struct CheckedRun<'a> {
+    pub(crate) plan: &'a Plan,
+    pub(crate) contexts: &'a [Option<Context>],
+    pub(crate) journals: &'a [LinkedJournal],
+    pub(crate) runs: &'a [JournalRun],
 }
 
 // What a place asks that is known to ask something.

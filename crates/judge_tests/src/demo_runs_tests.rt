@@ -1,10 +1,11 @@
 //! Whole demonstrations.
 
 use crate::expected::assert_same;
-use batch_io::{FreeGate, MemorySink};
-use demo_runs::{DemoReport, demo, print_report};
+use batch_io::MemorySink;
+use demo_runs::{DemoReport, InOrder, demo, print_report};
 use field_text::Printed;
 use hex::FromHex;
+use speculative_open::OnThreads;
 use std::test::Fail;
 
 struct Row {
@@ -44,6 +45,8 @@ const ROWS: [Row; 3] = [
 #[test]
 fn each_demonstration_gives_its_report(rt: HostRuntime) -> Result<(), Fail> {
     let alloc = rt.alloc();
+    let crew = OnThreads::new(&rt);
+    let runner = InOrder::new(&crew);
     for row in &ROWS {
         let want = DemoReport {
             messages: row.messages,
@@ -52,7 +55,7 @@ fn each_demonstration_gives_its_report(rt: HostRuntime) -> Result<(), Fail> {
         };
         let messages = row.messages.clamp(1, 65_536);
         let lanes = row.lanes.clamp(1, 16);
-        let report = demo(&rt, alloc, row.seed, messages, lanes, &FreeGate::new())?;
+        let report = demo(&runner, alloc, row.seed, messages, lanes)?;
         assert_same(&rt, report, want, "report");
         let mut sink = MemorySink::new(vec![in alloc; 0; 256]?, 100, Vec::new(alloc));
         let printed = print_report(&report, &mut sink);

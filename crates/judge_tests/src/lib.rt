@@ -1,4 +1,4 @@
-//! Tests of what is said of results: the line of each verdict (result_verdicts), verdicts on the
+//! Tests of what is said of results: the line of each verdict (result_lines), verdicts on the
 //! results of small batches (journal_check) and whole demonstrations (demo_runs).
 //!
 //! They are a crate of their own, so that each of those crates is proved without them, and use

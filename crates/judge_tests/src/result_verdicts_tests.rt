@@ -3,7 +3,7 @@
 use crate::expected::assert_same;
 use batch_io::MemorySink;
 use field_text::Printed;
-use result_verdicts::{Verdict, print_verdict};
+use result_lines::{Verdict, print_verdict};
 use std::test::Fail;
 
 // Own, by hand: each form of the line; numbers from the least to the greatest.

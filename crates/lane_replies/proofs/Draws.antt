@@ -2,7 +2,7 @@
 use Rattle.std.proofs.Common.{◌≡◌, ◌↔◌, ◌<◌, ◌≤◌, ℕ, List, refl, sym, ap, arith, if◌then◌else◌}
 use Rattle.std.proofs.lemmas.Bool.{lt-ltb, le-ltb}
 use Rattle.hpke_context.specs.Answers.{Seal, Cipher, Sealed_at, At_limit, answer}
-use Rattle.legal_journals.specs.Entries.{step_for}
+use Rattle.context_books.specs.Entries.{step_for}
 use Rattle.context_books.specs.declared.book.Draw.{Draw}
 use Rattle.context_books.specs.declared.book.Draw.TheVariants.{Number, Limit}
 use Rattle.context_books.specs.Books.{drawn_step}

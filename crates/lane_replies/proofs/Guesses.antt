@@ -2,9 +2,9 @@
 use Rattle.std.proofs.Common.{◌≡◌, ℕ, ◌+◌, List, [], ◌∷◌, ◌++◌, length, take, Some, sym, refl, ap, ◌∙◌, arith, length-append}
 use Rattle.std.specs.Prelude.{slice_get}
 use Rattle.std.proofs.lemmas.List.Sums.{sum_by-cons, sum_by-append}
-use Rattle.legal_journals.specs.Batches.{Ask, Nothing, ToSeal, ToOpen, ToOpenAll}
-use Rattle.legal_journals.specs.Guesses.{guess_of, guess_count}
-use Rattle.legal_journals.proofs.OneLane.{taken_more}
+use Rattle.context_books.specs.Batches.{Ask, Nothing, ToSeal, ToOpen, ToOpenAll}
+use Rattle.context_books.specs.Guesses.{guess_of, guess_count}
+use Rattle.context_books.proofs.OneLane.{taken_more}
 
 as_many : (a : Ask) (g : ℕ) → length (guess_of a g) ≡ length (guess_of a 0)
 as_many Nothing g = refl

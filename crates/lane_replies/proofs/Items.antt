@@ -9,8 +9,8 @@ use Rattle.call_places.specs.declared.entries.Step.{Step}
 use Rattle.call_places.specs.Spans.{span_bytes}
 use Rattle.call_places.specs.Messages.{SealedMessage, sealed_message, sealed_messages}
 use Rattle.hpke_context.specs.Answers.{Item, Unseal, Cipher, answer, run, due}
-use Rattle.legal_journals.specs.Entries.{step_for, steps_from, number_after}
-use Rattle.legal_journals.proofs.EntryNumbers.{length-steps_from}
+use Rattle.context_books.specs.Entries.{step_for, steps_from, number_after}
+use Rattle.context_books.proofs.EntryNumbers.{length-steps_from}
 use Rattle.context_books.specs.Openings.{unseals}
 use Rattle.batch_plans.specs.declared.replies.Reply.{Reply}
 use Rattle.batch_plans.specs.Progress.{Progress, with_reply}

@@ -3,10 +3,10 @@ use Rattle.std.proofs.Common.{◌≡◌, ◌<◌, ◌+◌, ℕ, List, [], ◌∷
 use Rattle.std.specs.Prelude.{slice_get, slice_index_or}
 use Rattle.std.proofs.Math.Seq.{take-length, drop-length}
 use Rattle.hpke_context.specs.Contexts.{ContextView}
-use Rattle.legal_journals.proofs.OneLane.{taken_more}
+use Rattle.context_books.proofs.OneLane.{taken_more}
 use Rattle.batch_plans.specs.declared.plan.Plan.{Plan}
 use Rattle.batch_plans.specs.declared.plan.CallLine.{CallLine}
-use Rattle.batch_plans.specs.declared.plan.CallLine.TheVariants.{Seal, Unseal, UnsealAll, Export, Add, Retire}
+use Rattle.batch_plans.specs.declared.plan.CallLine.TheVariants.{UnsealAll}
 use Rattle.batch_plans.specs.declared.replies.CallRefusal.{CallRefusal}
 use Rattle.batch_plans.specs.declared.replies.Reply.TheVariants.{Refused}
 use Rattle.batch_plans.specs.declared.replies.Batch.{Batch}
@@ -113,12 +113,8 @@ module _ (run : Run) (of_lines : AreOfLines run.plan.contexts run.contexts) (lan
   single none = step call none
     where
       step : (call : CallLine) → served_batches call ≡ 0 → items_of call ≡ 1
-      step (Seal context item) none = refl
-      step (Unseal context item) none = refl
       step (UnsealAll context first count) none = absurd (omega (arith, none))
-      step (Export context exporter size) none = refl
-      step (Add name) none = refl
-      step (Retire name) none = refl
+      step call none = refl
 
   -- a seal, an unseal or an export is answered
   pub keeps_up_one : (old new : Progress) (line : List ℕ) → KeepsUp run lane number old

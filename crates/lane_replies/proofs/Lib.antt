@@ -8,3 +8,7 @@ pub mod KeepingUp
 pub mod Guesses
 pub mod Misses
 pub mod Within
+pub mod Sums
+pub mod Counts
+pub mod Columns
+pub mod Places

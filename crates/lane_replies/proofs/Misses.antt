@@ -3,8 +3,8 @@ use Rattle.std.proofs.Common.{◌≡◌, ℕ, suc, ◌+◌, ◌≤◌, Bool, tru
 use Rattle.call_places.specs.declared.spans.Item.{Item as Spans}
 use Rattle.hpke_context.specs.Answers.{Item, Cipher, answer, next}
 use Rattle.hpke_context.specs.Contexts.{ContextView, cipher_of}
-use Rattle.legal_journals.specs.Guesses.{is_in_window, missed}
-use Rattle.legal_journals.specs.Entries.{numbers_from}
+use Rattle.context_books.specs.Guesses.{is_in_window, missed}
+use Rattle.context_books.specs.Entries.{numbers_from}
 use Rattle.context_books.specs.Openings.{unseals, opening_misses}
 use Rattle.lane_replies.proofs.Items.{length-unseals}
 

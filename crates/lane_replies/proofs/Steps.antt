@@ -6,10 +6,10 @@ use Rattle.call_places.specs.declared.entries.Step.{Step}
 use Rattle.call_places.specs.declared.entries.Step.TheVariants.{Opened, Failed, OpenLimit}
 use Rattle.call_places.specs.Entries.{advances}
 use Rattle.hpke_context.specs.Answers.{Item, Seal, Unseal, Cipher, Sealed_at, Opened_at, Failed_at, At_limit, answer, next, run, due}
-use Rattle.legal_journals.specs.Entries.{step_for, steps_from, number_after}
+use Rattle.context_books.specs.Entries.{step_for, steps_from, number_after}
 use Rattle.hpke_context.proofs.Runs.{run-append, due-append}
-use Rattle.legal_journals.proofs.OneLane.{taken_more}
-use Rattle.legal_journals.proofs.EntryNumbers.{same_next}
+use Rattle.context_books.proofs.OneLane.{taken_more}
+use Rattle.context_books.proofs.EntryNumbers.{same_next}
 
 -- a seal below LIMIT
 pub seal_below : (c : Cipher) (n : ℕ) (aad text : List ℕ) → n < c.limit

@@ -9,7 +9,7 @@ use Rattle.std.proofs.lemmas.Option.{get_or_from_slice_get, slice_get_within}
 use Rattle.call_places.specs.declared.spans.Item.{Item}
 use Rattle.call_places.specs.declared.spans.Span.{Span}
 use Rattle.call_places.specs.Spans.{IsInPool, ItemIsInPool, span_bytes}
-use Rattle.legal_journals.specs.Batches.{items_in, context_in}
+use Rattle.context_books.specs.Batches.{items_in, context_in}
 use Rattle.context_books.specs.Openings.{unseals}
 use Rattle.batch_plans.specs.declared.plan.Plan.{Plan}
 use Rattle.batch_plans.specs.declared.plan.CallLine.{CallLine}
@@ -75,23 +75,16 @@ of_call P calls k call all at =
 pub opening_count : (plan : Plan) (call : CallLine) → IsOpening call
     → IsCallWithin (length plan.items) (length plan.pool) call
     → length (opening_items plan call) ≡ items_of call
-opening_count plan (calls.Seal context item) opening within = absurd opening
 opening_count plan (calls.Unseal context item) opening within = refl
 opening_count plan (calls.UnsealAll context first count) opening within =
     let size = length-drop first plan.items in
     length-take-le count (drop first plan.items) (omega arith)
-opening_count plan (calls.Export context exporter size) opening within = absurd opening
-opening_count plan (calls.Add name) opening within = absurd opening
-opening_count plan (calls.Retire name) opening within = absurd opening
+opening_count plan call opening within = absurd opening
 
 pub opening_few : (plan : Plan) (call : CallLine)
     → IsCallWithin (length plan.items) (length plan.pool) call → items_of call ≤ 65536
-opening_few plan (calls.Seal context item) within = omega arith
-opening_few plan (calls.Unseal context item) within = omega arith
-opening_few plan (calls.UnsealAll context first count) within = omega arith
-opening_few plan (calls.Export context exporter size) within = omega arith
 opening_few plan (calls.Add name) within = omega arith
-opening_few plan (calls.Retire name) within = omega arith
+opening_few plan call within = omega arith
 
 in_pool : (most pool : ℕ) (item : Item) → IsItemWithin most pool item → ItemIsInPool pool item
 in_pool most pool item t = (t.aad.in_pool, t.text.in_pool)
@@ -99,8 +92,6 @@ in_pool most pool item t = (t.aad.in_pool, t.text.in_pool)
 pub opening_spans : (plan : Plan) (call : CallLine) → IsWithinLimits plan
     → IsCallWithin (length plan.items) (length plan.pool) call
     → All (ItemIsInPool (length plan.pool)) (opening_items plan call)
-opening_spans plan (calls.Seal context item) limits within =
-    All-nil (ItemIsInPool (length plan.pool))
 opening_spans plan (calls.Unseal context item) limits within =
     All-cons (ItemIsInPool (length plan.pool)) item [] (in_pool _ (length plan.pool) item within.1)
     (All-nil (ItemIsInPool (length plan.pool)))
@@ -109,40 +100,29 @@ opening_spans plan (calls.UnsealAll context first count) limits within =
     All-take P count (drop first plan.items) (All-drop P first plan.items
     (All-weaker (IsItemWithin most_ciphertext (length plan.pool)) P
     (λ item. in_pool most_ciphertext (length plan.pool) item) plan.items limits.item_list))
-opening_spans plan (calls.Export context exporter size) limits within =
+opening_spans plan call limits within =
     All-nil (ItemIsInPool (length plan.pool))
-opening_spans plan (calls.Add name) limits within = All-nil (ItemIsInPool (length plan.pool))
-opening_spans plan (calls.Retire name) limits within = All-nil (ItemIsInPool (length plan.pool))
 
 pub opening_asks : (plan : Plan) (call : CallLine) → IsOpening call
     → items_in (asked_by plan call) ≡ unseals plan.pool (opening_items plan call)
-opening_asks plan (calls.Seal context item) opening = absurd opening
 opening_asks plan (calls.Unseal context item) opening = refl
 opening_asks plan (calls.UnsealAll context first count) opening = refl
-opening_asks plan (calls.Export context exporter size) opening = absurd opening
-opening_asks plan (calls.Add name) opening = absurd opening
-opening_asks plan (calls.Retire name) opening = absurd opening
+opening_asks plan call opening = absurd opening
 
 pub opening_context : (plan : Plan) (call : CallLine) → IsOpening call
     → context_in (asked_by plan call) ≡ context_of call
-opening_context plan (calls.Seal context item) opening = absurd opening
 opening_context plan (calls.Unseal context item) opening = refl
 opening_context plan (calls.UnsealAll context first count) opening = refl
-opening_context plan (calls.Export context exporter size) opening = absurd opening
-opening_context plan (calls.Add name) opening = absurd opening
-opening_context plan (calls.Retire name) opening = absurd opening
+opening_context plan call opening = absurd opening
 
 pub opening_room : (plan : Plan) (call : CallLine) → IsOpening call
     → Rattle.std.specs.List.sum_by opened_room (opening_items plan call)
     ≡ served_room plan.items call
-opening_room plan (calls.Seal context item) opening = absurd opening
 opening_room plan (calls.Unseal context item) opening =
     sum_by-cons opened_room item [] ∙ (let e : opened_room item + 0 ≡ opened_room item =
     omega arith in e)
 opening_room plan (calls.UnsealAll context first count) opening = refl
-opening_room plan (calls.Export context exporter size) opening = absurd opening
-opening_room plan (calls.Add name) opening = absurd opening
-opening_room plan (calls.Retire name) opening = absurd opening
+opening_room plan call opening = absurd opening
 
 pub span_size : (pool : List ℕ) (span : Span) → IsInPool (length pool) span
     → length (span_bytes pool span) ≡ span.len

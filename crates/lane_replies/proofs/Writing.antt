@@ -7,7 +7,7 @@ use Rattle.batch_plans.specs.declared.replies.Reply.{Reply}
 use Rattle.batch_plans.specs.declared.replies.Reply.TheVariants.{Blank, Sealed, Opened, Failed, Limit, Exported, Refused, Added, Retired}
 use Rattle.batch_plans.specs.Replies.{IsInRange}
 use Rattle.batch_plans.specs.Progress.{Progress, with_room, with_pool, with_reply}
-use Rattle.legal_journals.proofs.Lists.{append-nil}
+use Rattle.context_books.proofs.Lists.{append-nil}
 use Rattle.reply_texts.specs.Lines.{reply_line}
 use Rattle.reply_texts.specs.ReplyText.{is_refused}
 use Rattle.reply_texts.proofs.Pools.{reply_lines-same}

@@ -11,17 +11,11 @@ lane_calls plan lane = slice_index_or plan.lanes lane []
 
 -- the items that an opening names
 abbrev pub opening_items : Plan → CallLine → List Item
-opening_items plan (calls.Seal context item) = []
 opening_items plan (calls.Unseal context item) = item ∷ []
 opening_items plan (calls.UnsealAll context first count) = items_from plan.items first count
-opening_items plan (calls.Export context exporter size) = []
-opening_items plan (calls.Add name) = []
-opening_items plan (calls.Retire name) = []
+opening_items plan call = []
 
 abbrev pub IsOpening : CallLine → Type 0
-IsOpening (calls.Seal context item) = ⊥
 IsOpening (calls.Unseal context item) = Unit {0}
 IsOpening (calls.UnsealAll context first count) = Unit {0}
-IsOpening (calls.Export context exporter size) = ⊥
-IsOpening (calls.Add name) = ⊥
-IsOpening (calls.Retire name) = ⊥
+IsOpening call = ⊥

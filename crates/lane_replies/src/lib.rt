@@ -10,17 +10,27 @@
 //! A context is only read, so any thread may do this, and it waits for nobody. `HasAnswered` and
 //! `HasRoomFor` of `specs/Answered.antt` are what a lane keeps from call to call.
 //!
-//! Nothing here takes memory. Which calls are served, and in which order, is not known here.
+//! Before, [`all_quotas`] counts how many entries each lane may add to the book of each context. A
+//! batch and its contexts alone decide that: a seal or an opening that is served adds one for each of
+//! its items, an export and a refused call add none (`lane_quota` of `specs/Quotas.antt`). If no lane
+//! adds contexts, a lane adds exactly that many. After, [`write_journals`] writes the marks of each
+//! book over the room that was made for the journal of its context.
 //!
-//! Tests: `core_tests`.
+//! But for the quotas nothing here takes memory. In which order calls are served is not known here.
+//!
+//! Tests: `core_tests` and `command_tests`.
 #![tactic(auto)]
 
+mod counting;
 mod exporting;
+mod journals;
 mod naming;
 mod opening;
 mod sealing;
 
+pub use counting::all_quotas;
 pub use exporting::{export, refuse};
+pub use journals::write_journals;
 pub use naming::items_of_opening;
 pub use opening::finish_opening;
 pub use sealing::finish_seal;

@@ -19,9 +19,6 @@ pub fn items_of_opening<'a>(plan: &'a Plan, call: &'a CallLine) -> &'a [Item]
             *first,
             *count,
         ),
-        CallLine::Seal { .. }
-        | CallLine::Export { .. }
-        | CallLine::Add { .. }
-        | CallLine::Retire { .. } => &[],
+        _ => &[],
     }
 }

@@ -5,18 +5,17 @@ ghost use Rattle.std.specs.List.{All};
 ghost use Rattle.call_places.specs.Spans.{IsInPool, ItemIsInPool, span_bytes};
 ghost use Rattle.hpke_context.specs.Answers.{Unseal, answer, run};
 ghost use Rattle.hpke_context.specs.Contexts.{HasCipher, cipher_of};
-ghost use Rattle.legal_journals.specs.Entries.{step_for, steps_from};
+ghost use Rattle.context_books.specs.Entries.{step_for, steps_from};
 ghost use Rattle.context_books.specs.Openings.{unseals};
 ghost use Rattle.batch_plans.specs.Room.{opened_room};
 ghost use Rattle.due_replies.specs.Runs.{answer_line};
 ghost use Rattle.lane_replies.specs.Writing.{PutsReplies, WritesReply};
 
+use batch_plans::limits::TAG_SIZE;
 use batch_plans::{LaneProgress, Reply};
 use call_places::{Item, Span, Step};
 use hpke_context::Context;
 use key_schedule::nonce_at;
-
-const TAG_SIZE: usize = 16;
 
 // Decrypts a ciphertext, whose tag holds at the number, to the bytes that a span names.
 fn open_at(context: &Context, number: u64, aad: &[u8], ct: &[u8], pool: &mut [u8], span: Span)

@@ -7,13 +7,12 @@ ghost use Rattle.hpke_context.specs.Contexts.{HasCipher, cipher_of};
 ghost use Rattle.due_replies.specs.Runs.{answer_line};
 ghost use Rattle.lane_replies.specs.Writing.{due_at, PutsReplies, WritesReply};
 
+use batch_plans::limits::TAG_SIZE;
 use batch_plans::{LaneProgress, Reply};
 use call_places::Span;
 use context_books::Draw;
 use hpke_context::Context;
 use key_schedule::nonce_at;
-
-const TAG_SIZE: usize = 16;
 
 // Seals a text to the bytes that a span names.
 fn seal_at(context: &Context, number: u64, aad: &[u8], text: &[u8], pool: &mut [u8], span: Span)

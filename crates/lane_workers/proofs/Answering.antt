@@ -13,12 +13,12 @@ use Rattle.turn_lock.specs.Passes.{LockId, PassView, next_after}
 use Rattle.stamp_counter.specs.Seats.{SeatView, CounterView}
 use Rattle.hpke_context.specs.Answers.{Seal, Cipher, answer, run}
 use Rattle.hpke_context.specs.Contexts.{ContextView, cipher_of, exported_by}
-use Rattle.legal_journals.specs.Batches.{Ask, ToSeal, ToOpenAll, block, place, asked, all_asked, on, lane_places, items_in, context_in}
+use Rattle.context_books.specs.Batches.{Ask, ToSeal, ToOpenAll, block, place, asked, all_asked, on, lane_places, items_in, context_in}
 use Rattle.speculative_open.specs.Tables.{TableView}
-use Rattle.legal_journals.specs.Entries.{entry, entries_from, steps_from, entry_places}
-use Rattle.legal_journals.proofs.Lists.{on-append, on-spots_same, all_asked-append}
-use Rattle.legal_journals.proofs.OneLane.{parted, few_taken}
-use Rattle.gathered_lanes.proofs.Contexts.{AllReplied}
+use Rattle.context_books.specs.Entries.{entry, entries_from, steps_from, entry_places}
+use Rattle.context_books.proofs.Lists.{on-append, on-spots_same, all_asked-append}
+use Rattle.context_books.proofs.OneLane.{parted, few_taken}
+use Rattle.lane_workers.specs.OnTheWay.{AllReplied}
 use Rattle.context_books.specs.declared.book.Draw.{Draw}
 use Rattle.context_books.specs.declared.book.Draw.TheVariants.{Number, Limit}
 use Rattle.context_books.specs.Books.{drawn_step}

@@ -8,9 +8,11 @@ use Rattle.call_places.specs.declared.entries.Entry.{Entry}
 use Rattle.turn_lock.specs.Passes.{fresh_pass}
 use Rattle.stamp_counter.specs.Seats.{CounterView}
 use Rattle.hpke_context.specs.Contexts.{ContextView}
-use Rattle.legal_journals.specs.Batches.{Ask, ToOpenAll}
-use Rattle.gathered_lanes.proofs.Serving.{LaneIs, lane_fresh, lane_shows}
-use Rattle.gathered_lanes.proofs.Stamping.{StampsAre, stamps_fresh, stamps_show}
+use Rattle.context_books.specs.Batches.{Ask, ToOpenAll}
+use Rattle.lane_workers.proofs.ShowingCalls.{lane_fresh, lane_shows}
+use Rattle.lane_workers.specs.OnTheWay.{LaneIs}
+use Rattle.lane_workers.proofs.Stamping.{stamps_fresh, stamps_show}
+use Rattle.lane_workers.specs.OnTheWay.{StampsAre}
 use Rattle.shared_context.specs.Calls.{SharedView}
 use Rattle.batch_plans.specs.declared.plan.Plan.{Plan}
 use Rattle.batch_plans.specs.declared.plan.CallLine.{CallLine}
@@ -148,7 +150,7 @@ module _ (plan : Plan) (contexts : List (Option SharedView)) (counter : Option (
             (seen_of w.passes.items c)) all_asks (says.shows c));
         openings = record {
           count = t.guesses_given
-              ∙ ap Rattle.legal_journals.specs.Guesses.guess_count all_asks;
+              ∙ ap Rattle.context_books.specs.Guesses.guess_count all_asks;
           each = λ c call messages is. says.openings c call messages
               (let low = slice_get_within asks call (ToOpenAll c messages) is in
               let same = same_count in omega arith) is;

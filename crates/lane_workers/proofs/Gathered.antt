@@ -8,8 +8,8 @@ use Rattle.call_places.specs.declared.entries.Entry.{Entry}
 use Rattle.call_places.specs.Entries.{stamps_of, mark_of}
 use Rattle.turn_lock.specs.Passes.{PassView}
 use Rattle.hpke_context.specs.Contexts.{ContextView}
-use Rattle.gathered_lanes.proofs.Gathering.{one_history}
-use Rattle.gathered_lanes.specs.Lanes.{Closes, AllShown}
+use Rattle.lane_workers.proofs.Gathering.{one_history}
+use Rattle.lane_workers.specs.Showing.{Closes, AllShown}
 use Rattle.batch_plans.specs.declared.plan.Plan.{Plan}
 use Rattle.batch_plans.specs.declared.plan.CallLine.{CallLine}
 use Rattle.batch_plans.specs.declared.plan.CallLine.TheVariants as calls
@@ -26,12 +26,8 @@ use Rattle.lane_replies.proofs.Within.{line_within}
 
 pub has_items : (items pool : ℕ) (call : CallLine) → IsCallWithin items pool call
     → HasItems items call
-has_items items pool (calls.Seal context item) within = tt
-has_items items pool (calls.Unseal context item) within = tt
 has_items items pool (calls.UnsealAll context first count) within = within.3
-has_items items pool (calls.Export context exporter size) within = tt
-has_items items pool (calls.Add name) within = tt
-has_items items pool (calls.Retire name) within = tt
+has_items items pool call within = tt
 
 module _ (plan : Plan) (contexts : List (Option ContextView))
     (passes : ℕ → List (Option PassView)) (answers : ℕ → LaneAnswers)

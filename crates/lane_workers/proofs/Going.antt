@@ -7,17 +7,18 @@ use Rattle.call_places.specs.Messages.{SealedMessage}
 use Rattle.call_places.specs.Entries.{own, seq_of}
 use Rattle.hpke_context.specs.Answers.{Answer, Cipher, run}
 use Rattle.hpke_context.specs.Contexts.{ContextView}
-use Rattle.legal_journals.specs.Batches.{Ask, ToOpenAll, Batch, block, asked, on, unseal, items_in, context_in}
-use Rattle.legal_journals.specs.Guesses.{guess_at, guess_count}
-use Rattle.legal_journals.specs.Entries.{entries_from, steps_from, entry_places}
-use Rattle.legal_journals.proofs.Lists.{append-nil, on-spots, is_cases}
-use Rattle.legal_journals.proofs.OneLane.{taken_more, few_taken}
-use Rattle.legal_journals.proofs.EntryNumbers.{EachFrom}
-use Rattle.gathered_lanes.specs.Lanes.{AnsweredAt, OpeningShows}
-use Rattle.gathered_lanes.proofs.Contexts.{AllReplied}
-use Rattle.gathered_lanes.proofs.Entries.{block_places}
-use Rattle.gathered_lanes.proofs.Serving.{LaneIs, lane_waits, lane_calls, opening_stays, call_answered}
-use Rattle.gathered_lanes.proofs.Stamping.{added_to}
+use Rattle.context_books.specs.Batches.{Ask, ToOpenAll, Batch, block, asked, on, unseal, items_in, context_in}
+use Rattle.context_books.specs.Guesses.{guess_at, guess_count}
+use Rattle.context_books.specs.Entries.{entries_from, steps_from, entry_places}
+use Rattle.context_books.proofs.Lists.{append-nil, on-spots, is_cases}
+use Rattle.context_books.proofs.OneLane.{taken_more, few_taken}
+use Rattle.context_books.specs.Lists.{EachFrom}
+use Rattle.lane_workers.specs.Showing.{AnsweredAt, OpeningShows}
+use Rattle.lane_workers.specs.OnTheWay.{AllReplied}
+use Rattle.lane_workers.proofs.ShowingEntries.{block_places}
+use Rattle.lane_workers.proofs.ShowingCalls.{lane_waits, lane_calls, opening_stays, call_answered}
+use Rattle.lane_workers.specs.OnTheWay.{LaneIs}
+use Rattle.lane_workers.proofs.Stamping.{added_to}
 use Rattle.batch_plans.specs.declared.plan.Plan.{Plan}
 use Rattle.batch_plans.specs.declared.plan.CallLine.{CallLine}
 use Rattle.batch_plans.specs.Progress.{Progress}

@@ -6,7 +6,7 @@ use mathlib.Core.List.{IsPrefix}
 use Rattle.call_places.specs.declared.entries.Entry.{Entry}
 use Rattle.call_places.specs.Entries.{own, StampsRise}
 use Rattle.turn_lock.specs.Passes.{LockId, PassView, PassListView, fresh_pass, fresh_from, IsShown, NoOthers}
-use Rattle.gathered_lanes.specs.Lanes.{Closes}
+use Rattle.lane_workers.specs.Showing.{Closes}
 use Rattle.lane_workers.specs.Served.{seen_of, seen_by}
 use Rattle.lane_workers.specs.Turns.{pass_at}
 

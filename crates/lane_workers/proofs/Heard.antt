@@ -182,13 +182,9 @@ commits_heard r old new table view number call pool items first missed d = recor
 
 pub items_same : (plan other : Plan) (call : CallLine) → HasBytesOf plan other
     → opening_items plan call ≡ opening_items other call
-items_same plan other (calls.Seal context item) bytes = refl
-items_same plan other (calls.Unseal context item) bytes = refl
 items_same plan other (calls.UnsealAll context first count) bytes =
     ap (λ items. items_from items first count) bytes.items
-items_same plan other (calls.Export context exporter size) bytes = refl
-items_same plan other (calls.Add name) bytes = refl
-items_same plan other (calls.Retire name) bytes = refl
+items_same plan other call bytes = refl
 
 pub spans_here : (plan other : Plan) (call : CallLine) → HasBytesOf plan other
     → All (ItemIsInPool (length plan.pool)) (opening_items plan call)

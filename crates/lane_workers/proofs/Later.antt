@@ -9,11 +9,12 @@ use Rattle.call_places.specs.Entries.{own}
 use Rattle.turn_lock.specs.Passes.{LockId, PassView}
 use Rattle.stamp_counter.specs.Seats.{SeatView, CounterView}
 use Rattle.hpke_context.specs.Contexts.{ContextView}
-use Rattle.legal_journals.specs.Batches.{place}
-use Rattle.legal_journals.specs.Entries.{entry, entries_from}
-use Rattle.legal_journals.proofs.Members.{In, in_contains}
-use Rattle.legal_journals.proofs.Lists.{is_cases}
-use Rattle.gathered_lanes.proofs.Entries.{own-append, own_in}
+use Rattle.context_books.specs.Batches.{place}
+use Rattle.context_books.specs.Entries.{entry, entries_from}
+use Rattle.context_books.proofs.Members.{in_contains}
+use Rattle.context_books.specs.Lists.{In}
+use Rattle.context_books.proofs.Lists.{is_cases}
+use Rattle.lane_workers.proofs.ShowingEntries.{own-append, own_in}
 use Rattle.context_books.specs.declared.book.Draw.{Draw}
 use Rattle.context_books.specs.Books.{drawn_step}
 use Rattle.context_books.specs.Openings.{opening_steps}

@@ -25,3 +25,10 @@ pub mod AreHeard
 pub mod LiveLines
 pub mod LiveEnded
 pub mod LiveAnswering
+pub mod ShowingEntries
+pub mod ShowingContexts
+pub mod Shown
+pub mod Gathering
+pub mod ShowingCalls
+pub mod Stamping
+pub mod ShowingExamples

@@ -7,9 +7,10 @@ use Rattle.std.proofs.lemmas.List.Concat.{flat_map-append}
 use Rattle.call_places.specs.declared.entries.Entry.{Entry}
 use Rattle.call_places.specs.Entries.{own}
 use Rattle.stamp_counter.specs.Seats.{SeatView}
-use Rattle.legal_journals.specs.Batches.{place}
-use Rattle.legal_journals.proofs.Lists.{append-nil}
-use Rattle.legal_journals.proofs.Members.{In, in_contains, in_map}
+use Rattle.context_books.specs.Batches.{place}
+use Rattle.context_books.proofs.Lists.{append-nil}
+use Rattle.context_books.proofs.Members.{in_contains, in_map}
+use Rattle.context_books.specs.Lists.{In}
 use Rattle.batch_plans.specs.declared.plan.Plan.{Plan}
 use Rattle.batch_plans.specs.declared.plan.CallLine.{CallLine}
 use Rattle.batch_plans.specs.declared.plan.CallLine.TheVariants as calls
@@ -60,37 +61,25 @@ own_where found = if found then None else Some (Refused NoContext)
 own_same : (plan : Plan) (n m : List Entry) (lane k : ℕ) (call : CallLine)
     → was_live n (place lane k 0) ≡ was_live m (place lane k 0)
     → own_reply plan n lane k call ≡ own_reply plan m lane k call
-own_same plan n m lane k (calls.Seal context item) same =
-    ap (λ live. own_where (nat_lt context first_name || live)) same
-own_same plan n m lane k (calls.Unseal context item) same =
-    ap (λ live. own_where (nat_lt context first_name || live)) same
-own_same plan n m lane k (calls.UnsealAll context first count) same =
-    ap (λ live. own_where (nat_lt context first_name || live)) same
-own_same plan n m lane k (calls.Export context exporter size) same =
-    ap (λ live. own_where (nat_lt context first_name || live)) same
 own_same plan n m lane k (calls.Add name) same = refl
 own_same plan n m lane k (calls.Retire name) same = ap (λ live. Some (retire_reply live)) same
+own_same plan n m lane k call same =
+    ap (λ live. own_where (nat_lt (context_of call) first_name || live)) same
 
 -- a call that finds its context has no reply of the lane's own
 pub found_placed : (plan : Plan) (notes : List Entry) (lane k : ℕ) (call : CallLine)
     → IsOnContext call → finds notes lane k call ≡ true → own_reply plan notes lane k call ≡ None
-found_placed plan notes lane k (calls.Seal context item) on is = ap own_where is
-found_placed plan notes lane k (calls.Unseal context item) on is = ap own_where is
-found_placed plan notes lane k (calls.UnsealAll context first count) on is = ap own_where is
-found_placed plan notes lane k (calls.Export context exporter size) on is = ap own_where is
 found_placed plan notes lane k (calls.Add name) on is = absurd on
 found_placed plan notes lane k (calls.Retire name) on is = absurd on
+found_placed plan notes lane k call on is = ap own_where is
 
 -- and one that doesn't is refused as a call on a context that isn't there
 pub lost_own : (plan : Plan) (notes : List Entry) (lane k : ℕ) (call : CallLine)
     → IsOnContext call → finds notes lane k call ≡ false
     → own_reply plan notes lane k call ≡ Some (Refused NoContext)
-lost_own plan notes lane k (calls.Seal context item) on is = ap own_where is
-lost_own plan notes lane k (calls.Unseal context item) on is = ap own_where is
-lost_own plan notes lane k (calls.UnsealAll context first count) on is = ap own_where is
-lost_own plan notes lane k (calls.Export context exporter size) on is = ap own_where is
 lost_own plan notes lane k (calls.Add name) on is = absurd on
 lost_own plan notes lane k (calls.Retire name) on is = absurd on
+lost_own plan notes lane k call on is = ap own_where is
 
 -- a call that no reply of the lane's own answers is made at its place
 placed_looked : (plan : Plan) (notes : List Entry) (lane k : ℕ) (call : CallLine)
@@ -101,12 +90,9 @@ placed_looked plan notes lane k call is =
   where
     found : (call : CallLine) → own_reply plan notes lane k call ≡ None
         → own_where (finds notes lane k call) ≡ None
-    found (calls.Seal context item) is = is
-    found (calls.Unseal context item) is = is
-    found (calls.UnsealAll context first count) is = is
-    found (calls.Export context exporter size) is = is
     found (calls.Add name) is = absurd (cc)
     found (calls.Retire name) is = absurd (cc)
+    found call is = is
 
     step : (b : Bool) → finds notes lane k call ≡ b
         → (if b then at_position plan call else call) ≡ at_position plan call
@@ -141,20 +127,14 @@ own_refused v shared notes lane k call reply is = of_kind call is
 
     of_kind : (call : CallLine) → own_reply v.plan notes lane k call ≡ Some reply
         → call_refusal (standing v) (looked_up v.plan notes lane k call) ≡ Some NoContext
-    of_kind (calls.Seal context item) is =
-        lost (calls.Seal context item) (nat_lt context first_name) refl live is
-    of_kind (calls.Unseal context item) is =
-        lost (calls.Unseal context item) (nat_lt context first_name) refl live is
-    of_kind (calls.UnsealAll context first count) is =
-        lost (calls.UnsealAll context first count) (nat_lt context first_name) refl live is
-    of_kind (calls.Export context exporter size) is =
-        lost (calls.Export context exporter size) (nat_lt context first_name) refl live is
     of_kind (calls.Add name) is =
         either (calls.Add name) refl (added_refused v name)
         (nat_lt (context_of (calls.Add name)) first_name || live)
     of_kind (calls.Retire name) is =
         either (calls.Retire name) refl (retired_refused v name)
         (nat_lt (context_of (calls.Retire name)) first_name || live)
+    of_kind call is =
+        lost call (nat_lt (context_of call) first_name) refl live is
 
 -- ---- a call that is noted
 
@@ -332,12 +312,8 @@ module _ (v : LiveView) (shared : AreSharedLive v) (lane k : ℕ) (call : CallLi
           same_count : (plan : Plan) (call : CallLine)
               → items_of (at_position plan call) + served_batches (at_position plan call)
               ≡ items_of call + served_batches call
-          same_count plan (calls.Seal context item) = refl
-          same_count plan (calls.Unseal context item) = refl
-          same_count plan (calls.UnsealAll context first count) = refl
-          same_count plan (calls.Export context exporter size) = refl
           same_count plan (calls.Add name) = refl
-          same_count plan (calls.Retire name) = refl
+          same_count plan call = refl
 
       reads_placed : (notes : List Entry) → TellsAs lane (k + 1) seen notes
           → ReadsAs v lane (k + 1) (t.chunks ++ placed_chunk ∷ []) work notes

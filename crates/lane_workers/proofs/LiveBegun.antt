@@ -9,7 +9,7 @@ use Rattle.std.proofs.lemmas.List.Sums.{sum_by-cons}
 use Rattle.call_places.specs.declared.entries.Entry.{Entry}
 use Rattle.call_places.specs.Entries.{own}
 use Rattle.turn_lock.specs.Passes.{PassView, fresh_pass}
-use Rattle.legal_journals.proofs.Members.{in_contains}
+use Rattle.context_books.proofs.Members.{in_contains}
 use Rattle.batch_plans.specs.declared.plan.Plan.{Plan}
 use Rattle.batch_plans.specs.declared.plan.CallLine.{CallLine}
 use Rattle.batch_plans.specs.declared.replies.CallRefusal.{CallRefusal}

@@ -7,7 +7,7 @@ use Rattle.std.proofs.lemmas.List.Elements.{All-head, All-tail, All-nil, filter-
 use Rattle.call_places.specs.declared.entries.Entry.{Entry}
 use Rattle.turn_lock.specs.Passes.{PassView}
 use Rattle.stamp_counter.specs.Seats.{SeatView}
-use Rattle.legal_journals.specs.Batches.{place}
+use Rattle.context_books.specs.Batches.{place}
 use Rattle.batch_plans.specs.declared.plan.Plan.{Plan}
 use Rattle.batch_plans.specs.declared.plan.CallLine.{CallLine}
 use Rattle.batch_plans.specs.declared.plan.CallLine.TheVariants as calls
@@ -75,14 +75,6 @@ module _ (v : LiveView) (notes : List Entry) (lane : ℕ) where
   -- a call's own reply is no blank
   own_given : (number : ℕ) (call : CallLine) (reply : Reply)
       → own_reply v.plan notes lane number call ≡ Some reply → is_given reply ≡ true
-  own_given number (calls.Seal context item) reply is =
-      missed_given number (calls.Seal context item) reply is
-  own_given number (calls.Unseal context item) reply is =
-      missed_given number (calls.Unseal context item) reply is
-  own_given number (calls.UnsealAll context first count) reply is =
-      missed_given number (calls.UnsealAll context first count) reply is
-  own_given number (calls.Export context exporter size) reply is =
-      missed_given number (calls.Export context exporter size) reply is
   own_given number (calls.Add name) reply is =
       let some : Some (add_reply (add_refusal v.plan name)) ≡ Some reply = is in
       let same : reply ≡ add_reply (add_refusal v.plan name) = cc in
@@ -92,6 +84,8 @@ module _ (v : LiveView) (notes : List Entry) (lane : ℕ) where
       let some : Some (retire_reply live) ≡ Some reply = is in
       let same : reply ≡ retire_reply live = cc in
       ap is_given same ∙ retired_given live
+  own_given number call reply is =
+      missed_given number call reply is
 
   chunk_given : (number : ℕ) (call : CallLine) (c : Chunk) (own : Option Reply)
       → own_reply v.plan notes lane number call ≡ own → IsHeardAs v call own c

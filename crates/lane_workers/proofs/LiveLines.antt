@@ -8,8 +8,8 @@ use Rattle.std.proofs.lemmas.List.Elements.{All-head, All-tail}
 use Rattle.std.proofs.Math.Seq.{take-append_seam, drop-append_seam}
 use Rattle.call_places.specs.declared.entries.Entry.{Entry}
 use Rattle.context_books.proofs.Blocks.{length-block}
-use Rattle.legal_journals.specs.Batches.{place, block, lane_of}
-use Rattle.legal_journals.specs.Guesses.{guess_at}
+use Rattle.context_books.specs.Batches.{place, block, lane_of}
+use Rattle.context_books.specs.Guesses.{guess_at}
 use Rattle.batch_plans.specs.declared.plan.CallLine.{CallLine}
 use Rattle.batch_plans.specs.declared.plan.CallLine.TheVariants as calls
 use Rattle.batch_plans.specs.declared.replies.Batch.{Batch}
@@ -83,26 +83,18 @@ module _ (pool : List ℕ) where
 module _ (v : LiveView) where
   placed_replies : (call : CallLine) (replies : List Reply) (guesses : List Batch)
       → HasReplies (at_position v.plan call) replies guesses → HasReplies call replies guesses
-  placed_replies (calls.Seal context item) replies guesses has =
-      record { some = has.some; count = has.count; guesses = has.guesses }
-  placed_replies (calls.Unseal context item) replies guesses has =
-      record { some = has.some; count = has.count; guesses = has.guesses }
   placed_replies (calls.UnsealAll context first count) replies guesses has =
-      record { some = has.some; count = has.count; guesses = has.guesses }
-  placed_replies (calls.Export context exporter size) replies guesses has =
       record { some = has.some; count = has.count; guesses = has.guesses }
   placed_replies (calls.Add name) replies guesses has = has
   placed_replies (calls.Retire name) replies guesses has = has
+  placed_replies call replies guesses has =
+      record { some = has.some; count = has.count; guesses = has.guesses }
 
   placed_items : (call : CallLine)
       → items_of (at_position v.plan call) + served_batches (at_position v.plan call)
       ≡ items_of call + served_batches call
-  placed_items (calls.Seal context item) = refl
-  placed_items (calls.Unseal context item) = refl
-  placed_items (calls.UnsealAll context first count) = refl
-  placed_items (calls.Export context exporter size) = refl
   placed_items (calls.Add name) = refl
-  placed_items (calls.Retire name) = refl
+  placed_items call = refl
 
 module _ (v : LiveView) (notes : List Entry) (lane : ℕ) (told : Told) where
   abbrev looked : ℕ → CallLine → CallLine
@@ -119,8 +111,6 @@ module _ (v : LiveView) (notes : List Entry) (lane : ℕ) (told : Told) where
       (told_served (looked_up_plan v.plan notes) (standing v) told lane number call))
       ≡ served_or refusal (items_of call + served_batches call) 1
   lines_served number call (Some why) is = refl
-  lines_served number (calls.Seal context item) None is = refl
-  lines_served number (calls.Unseal context item) None is = refl
   lines_served number (calls.UnsealAll context first count) None is =
       let asks = lane_of (batch_of (looked_up_plan v.plan notes) (standing v)) lane in
       let answers = map (λ p. answer_line (told.replies p)) (block lane number 0 count) in
@@ -128,11 +118,11 @@ module _ (v : LiveView) (notes : List Entry) (lane : ℕ) (told : Told) where
       length-append answers (guess ∷ [])
       ∙ ap (λ n. n + 1) (length-map (block lane number 0 count) (λ p. answer_line (told.replies p))
       ∙ length-block lane number 0 count)
-  lines_served number (calls.Export context exporter size) None is = refl
   lines_served number (calls.Add name) None is =
       absurd (let some = added_refused (standing v) name in cc)
   lines_served number (calls.Retire name) None is =
       absurd (let some = retired_refused (standing v) name in cc)
+  lines_served number call None is = refl
 
   length-told : (number : ℕ) (call : CallLine) → length (told_of number call)
       ≡ served_or (call_refusal (standing v) call) (items_of call + served_batches call) 1
@@ -206,16 +196,11 @@ module _ (v : LiveView) (shared : AreSharedLive v) (replies : List ContextReply)
   placed : (number : ℕ) (call : CallLine) → own_reply v.plan notes lane number call ≡ None
       → (look number call ≡ at_position v.plan call)
       × (live_at number call ≡ told_at number (look number call))
-  placed number (calls.Seal context item) is = (found number (calls.Seal context item) is, refl)
-  placed number (calls.Unseal context item) is = (found number (calls.Unseal context item) is, refl)
-  placed number (calls.UnsealAll context first count) is =
-      (found number (calls.UnsealAll context first count) is, refl)
-  placed number (calls.Export context exporter size) is =
-      (found number (calls.Export context exporter size) is, refl)
   placed number (calls.Add name) is =
       absurd (let some : Some (add_reply (add_refusal v.plan name)) ≡ None = is in cc)
   placed number (calls.Retire name) is =
       absurd (let some : Some (retire_reply (was_live notes (place lane number 0))) ≡ None = is in cc)
+  placed number call is = (found number call is, refl)
 
   kept : (number : ℕ) (call : CallLine) (c : Chunk)
       → own_reply v.plan notes lane number call ≡ None → IsKept v call c
@@ -271,14 +256,6 @@ module _ (v : LiveView) (shared : AreSharedLive v) (replies : List ContextReply)
 
   unserved : (number : ℕ) (call : CallLine) (reply : Reply) → AddsOneOf v.plan.added call
       → own_reply v.plan notes lane number call ≡ Some reply → IsUnserved number call reply
-  unserved number (calls.Seal context item) reply one is =
-      lost number (calls.Seal context item) reply is refl
-  unserved number (calls.Unseal context item) reply one is =
-      lost number (calls.Unseal context item) reply is refl
-  unserved number (calls.UnsealAll context first count) reply one is =
-      lost number (calls.UnsealAll context first count) reply is refl
-  unserved number (calls.Export context exporter size) reply one is =
-      lost number (calls.Export context exporter size) reply is refl
   unserved number (calls.Add name) reply one is =
       let some : Some (add_reply (add_refusal v.plan name)) ≡ Some reply = is in
       let same : add_reply (add_refusal v.plan name) ≡ reply = cc in
@@ -300,6 +277,8 @@ module _ (v : LiveView) (shared : AreSharedLive v) (replies : List ContextReply)
             ∙ retired_refused (standing v) name;
         line = ap (λ l. l ∷ []) (retired_line_is pool live) ∙ ap (λ r. reply_line pool r ∷ []) same;
       }
+  unserved number call reply one is =
+      lost number call reply is refl
 
   -- ---- either way
 

@@ -16,13 +16,14 @@ use Rattle.call_places.specs.Notes.{note_entry}
 use Rattle.turn_lock.specs.Passes.{LockId, PassView}
 use Rattle.stamp_counter.specs.Seats.{SeatView, CounterView}
 use Rattle.hpke_context.specs.Contexts.{ContextView}
-use Rattle.legal_journals.specs.Batches.{place}
-use Rattle.legal_journals.specs.Entries.{entry_places}
-use Rattle.legal_journals.specs.Legal.{is_same_place}
-use Rattle.legal_journals.proofs.Lists.{append-nil}
-use Rattle.legal_journals.proofs.Members.{In, In-append, contains_in, in_contains, in_map}
-use Rattle.legal_journals.proofs.OneLane.{parted, few_taken, taken_more}
-use Rattle.gathered_lanes.proofs.Entries.{own-append}
+use Rattle.context_books.specs.Batches.{place}
+use Rattle.context_books.specs.Entries.{entry_places}
+use Rattle.context_books.specs.Legal.{is_same_place}
+use Rattle.context_books.proofs.Lists.{append-nil}
+use Rattle.context_books.proofs.Members.{In-append, contains_in, in_contains, in_map}
+use Rattle.context_books.specs.Lists.{In}
+use Rattle.context_books.proofs.OneLane.{parted, few_taken, taken_more}
+use Rattle.lane_workers.proofs.ShowingEntries.{own-append}
 use Rattle.shared_context.specs.Stamped.{IsNote}
 use Rattle.shared_context.specs.Calls.{MayCall, SharedView}
 use Rattle.live_table.specs.Calls.{HasNoted}
@@ -51,12 +52,9 @@ use Rattle.lane_workers.proofs.Answering.{one_pass, one_seat}
 module _ (plan : Plan) (stand : List (Option ContextView)) where
   looks_up : (call : CallLine) → IsOnContext call
       → noting plan stand call ≡ looking plan (context_of call)
-  looks_up (calls.Seal context item) on = refl
-  looks_up (calls.Unseal context item) on = refl
-  looks_up (calls.UnsealAll context first count) on = refl
-  looks_up (calls.Export context exporter size) on = refl
   looks_up (calls.Add name) on = absurd on
   looks_up (calls.Retire name) on = absurd on
+  looks_up call on = refl
 
   -- a call on a context line's context isn't
   pub line_unnoted : (call : CallLine) → IsOnContext call → context_of call < first_name

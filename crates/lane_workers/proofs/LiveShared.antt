@@ -11,8 +11,8 @@ use Rattle.std.proofs.lemmas.List.Sums.{sum_by-cons}
 use Rattle.call_places.specs.declared.spans.Item.{Item}
 use Rattle.call_places.specs.declared.entries.Entry.{Entry}
 use Rattle.hpke_context.specs.Contexts.{ContextView}
-use Rattle.legal_journals.specs.Batches.{Nothing, Spot, place, asked, all_asked, on, lane_places}
-use Rattle.legal_journals.proofs.Lists.{on-append}
+use Rattle.context_books.specs.Batches.{Nothing, Spot, place, asked, all_asked, on, lane_places}
+use Rattle.context_books.proofs.Lists.{on-append}
 use Rattle.batch_plans.specs.declared.plan.Plan.{Plan}
 use Rattle.batch_plans.specs.declared.plan.CallLine.{CallLine}
 use Rattle.batch_plans.specs.declared.plan.CallLine.TheVariants as calls
@@ -101,16 +101,10 @@ record IsAsLarge (items : List Item) (call other : CallLine) : Type 0 where
 
 placed_size : (plan : Plan) (items : List Item) (call : CallLine)
     → IsAsLarge items (at_position plan call) call
-placed_size plan items (calls.Seal context item) =
-    record { items_are = refl; size = refl; text = refl }
-placed_size plan items (calls.Unseal context item) =
-    record { items_are = refl; size = refl; text = refl }
-placed_size plan items (calls.UnsealAll context first count) =
-    record { items_are = refl; size = refl; text = refl }
 placed_size plan items (calls.Export context exporter size) =
     record { items_are = refl; size = refl; text = refl }
-placed_size plan items (calls.Add name) = record { items_are = refl; size = refl; text = refl }
-placed_size plan items (calls.Retire name) = record { items_are = refl; size = refl; text = refl }
+placed_size plan items call =
+    record { items_are = refl; size = refl; text = refl }
 
 pub looked_items_of : (plan : Plan) (notes : List Entry) (lane number : ℕ) (call : CallLine)
     → items_of (looked_up plan notes lane number call) ≡ items_of call
@@ -198,12 +192,8 @@ retired_refused v = refusals.retired_refused (standing v)
 
 asked_same : (plan : Plan) (notes : List Entry) (call : CallLine)
     → asked_by (looked_up_plan plan notes) call ≡ asked_by (all_live plan) call
-asked_same plan notes (calls.Seal context item) = refl
-asked_same plan notes (calls.Unseal context item) = refl
-asked_same plan notes (calls.UnsealAll context first count) = refl
-asked_same plan notes (calls.Export context exporter size) = refl
 asked_same plan notes (calls.Add name) = refl
-asked_same plan notes (calls.Retire name) = refl
+asked_same plan notes call = refl
 
 pub asks_are : (plan : Plan) (contexts : List (Option ContextView)) (lane : ℕ)
     → asks_of plan contexts lane ≡ map (ask_of plan contexts) (lane_calls plan lane)

@@ -8,12 +8,13 @@ use Rattle.call_places.specs.declared.entries.Step.TheVariants.{Note}
 use Rattle.call_places.specs.Entries.{own, StampsRise}
 use Rattle.call_places.specs.Notes.{AreLive}
 use Rattle.hpke_context.specs.Contexts.{ContextView}
-use Rattle.legal_journals.specs.Batches.{own_places, place}
-use Rattle.legal_journals.specs.Entries.{entry_places}
-use Rattle.legal_journals.proofs.Members.{In, In-left, In-right, In-append, contains_in, in_contains, in_map, map_in, RisesBy, rises-append, pairs_rise}
-use Rattle.legal_journals.proofs.Places as lane_places
-use Rattle.legal_journals.proofs.Places.{same_place}
-use Rattle.gathered_lanes.proofs.Entries.{in_own, own_in, own_places-entries}
+use Rattle.context_books.specs.Batches.{own_places, place}
+use Rattle.context_books.specs.Entries.{entry_places}
+use Rattle.context_books.proofs.Members.{In-left, In-right, In-append, contains_in, in_contains, in_map, map_in, RisesBy, rises-append, pairs_rise}
+use Rattle.context_books.specs.Lists.{In}
+use Rattle.context_books.proofs.Places as lane_places
+use Rattle.context_books.proofs.Places.{same_place}
+use Rattle.lane_workers.proofs.ShowingEntries.{in_own, own_in, own_places-entries}
 use Rattle.batch_plans.specs.declared.plan.Plan.{Plan}
 use Rattle.batch_plans.specs.declared.plan.CallLine.{CallLine}
 use Rattle.due_replies.specs.Live.{Noting, noting, noting_in, IsNoted, LegalTable}

@@ -13,14 +13,14 @@ use Rattle.call_places.specs.Entries.{mark_of, own, stamps_of, StampsRise}
 use Rattle.call_places.specs.Notes.{AreLive}
 use Rattle.turn_lock.specs.Passes.{PassView}
 use Rattle.hpke_context.specs.Contexts.{ContextView}
-use Rattle.legal_journals.specs.Batches.{Batch}
-use Rattle.legal_journals.specs.Histories.{AreAllFrom0, all_stamps, marks_at}
-use Rattle.legal_journals.specs.Entries.{entry_places}
-use Rattle.legal_journals.proofs.Members.{contains_in, in_contains}
-use Rattle.gathered_lanes.specs.Lanes.{Closes}
-use Rattle.gathered_lanes.proofs.Entries.{in_own}
-use Rattle.gathered_lanes.proofs.Shown as shown
-use Rattle.gathered_lanes.proofs.Shown.{all_from_0, all_stamps-books}
+use Rattle.context_books.specs.Batches.{Batch}
+use Rattle.context_books.specs.Histories.{AreAllFrom0, all_stamps, marks_at}
+use Rattle.context_books.specs.Entries.{entry_places}
+use Rattle.context_books.proofs.Members.{contains_in, in_contains}
+use Rattle.lane_workers.specs.Showing.{Closes}
+use Rattle.lane_workers.proofs.ShowingEntries.{in_own}
+use Rattle.lane_workers.proofs.Shown as shown
+use Rattle.lane_workers.proofs.Shown.{all_from_0, all_stamps-books}
 use Rattle.batch_plans.specs.declared.plan.Plan.{Plan}
 use Rattle.batch_plans.specs.declared.plan.CallLine.{CallLine}
 use Rattle.batch_plans.specs.declared.plan.CallLine.TheVariants as calls
@@ -217,15 +217,10 @@ module _ (plan : Plan) (replies : List ContextReply) (standing : List (Option Co
       call_lines_due : (call : CallLine) → slice_get (lane_calls plan lane) k ≡ Some call
           → live_told_lines plan replies standing (tables lane) (told lane) lane k call
           ≡ live_call_lines live lane k call
-      call_lines_due (calls.Seal context item) at = called (calls.Seal context item) at
-      call_lines_due (calls.Unseal context item) at = called (calls.Unseal context item) at
-      call_lines_due (calls.UnsealAll context first count) at =
-          called (calls.UnsealAll context first count) at
-      call_lines_due (calls.Export context exporter size) at =
-          called (calls.Export context exporter size) at
       call_lines_due (calls.Add name) at = refl
       call_lines_due (calls.Retire name) at =
           ap (λ was. retire_line was ∷ []) (live_same plan (tables lane) notes lane (same lane) k)
+      call_lines_due call at = called call at
 
     pub lines_are_due : (lane : ℕ) → lane < length plan.lanes
         → given_lines (lane_calls plan lane) (answers lane)

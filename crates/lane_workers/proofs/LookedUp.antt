@@ -7,9 +7,9 @@ use Rattle.call_places.specs.declared.entries.Place.{Place}
 use Rattle.call_places.specs.Entries.{own}
 use Rattle.hpke_context.specs.Answers.{Answer, Cipher}
 use Rattle.hpke_context.specs.Contexts.{ContextView}
-use Rattle.legal_journals.specs.Batches.{Batch, Ask, block, place, unseal, item_in_call, item_of, lane_of, lane_places}
-use Rattle.legal_journals.specs.Guesses.{guess_at, guess_count}
-use Rattle.gathered_lanes.specs.Lanes.{LaneShows, OpeningShows, OpeningsShow}
+use Rattle.context_books.specs.Batches.{Batch, Ask, block, place, unseal, item_in_call, item_of, lane_of, lane_places}
+use Rattle.context_books.specs.Guesses.{guess_at, guess_count}
+use Rattle.lane_workers.specs.Showing.{LaneShows, OpeningShows, OpeningsShow}
 use Rattle.batch_plans.specs.declared.plan.Plan.{Plan}
 use Rattle.batch_plans.specs.declared.plan.CallLine.{CallLine}
 use Rattle.batch_plans.specs.declared.plan.CallLine.TheVariants as calls
@@ -39,12 +39,8 @@ line_looked plan notes lane k call at = call_looked plan notes lane k
 
 at_position_items : (plan : Plan) (items : ℕ) (call : CallLine) → HasItems items call
     → HasItems items (at_position plan call)
-at_position_items plan items (calls.Seal context item) has = tt
-at_position_items plan items (calls.Unseal context item) has = tt
 at_position_items plan items (calls.UnsealAll context first count) has = has
-at_position_items plan items (calls.Export context exporter size) has = tt
-at_position_items plan items (calls.Add name) has = tt
-at_position_items plan items (calls.Retire name) has = tt
+at_position_items plan items call has = tt
 
 pub looked_items : (plan : Plan) (notes : List Entry) (items lane k : ℕ) (call : CallLine)
     → HasItems items call → HasItems items (looked_up plan notes lane k call)
@@ -59,12 +55,8 @@ looked_items plan notes items lane k call has =
 
 asked_same : (plan : Plan) (n m : List Entry) (call : CallLine)
     → asked_by (looked_up_plan plan n) call ≡ asked_by (looked_up_plan plan m) call
-asked_same plan n m (calls.Seal context item) = refl
-asked_same plan n m (calls.Unseal context item) = refl
-asked_same plan n m (calls.UnsealAll context first count) = refl
-asked_same plan n m (calls.Export context exporter size) = refl
 asked_same plan n m (calls.Add name) = refl
-asked_same plan n m (calls.Retire name) = refl
+asked_same plan n m call = refl
 
 lane_of_batch : (plan : Plan) (contexts : List (Option ContextView)) (lane : ℕ)
     → lane_of (batch_of plan contexts) lane ≡ map (ask_of plan contexts) (lane_calls plan lane)
@@ -124,12 +116,8 @@ pub told_same : (plan : Plan) (contexts : List (Option ContextView)) (told : Tol
     ≡ lane_of (batch_of (looked_up_plan plan m) contexts) lane
     → (call : CallLine) → told_lines (looked_up_plan plan n) contexts told lane k call
     ≡ told_lines (looked_up_plan plan m) contexts told lane k call
-told_same plan contexts told n m lane k same (calls.Seal context item) = refl
-told_same plan contexts told n m lane k same (calls.Unseal context item) = refl
 told_same plan contexts told n m lane k same (calls.UnsealAll context first count) =
     ap (λ asks. lines_unless (call_refusal contexts (calls.UnsealAll context first count))
     (map (λ p. answer_line (told.replies p)) (block lane k 0 count)
     ++ batch_line (guess_at asks told.guesses k) (guess_at asks told.misses k) ∷ [])) same
-told_same plan contexts told n m lane k same (calls.Export context exporter size) = refl
-told_same plan contexts told n m lane k same (calls.Add name) = refl
-told_same plan contexts told n m lane k same (calls.Retire name) = refl
+told_same plan contexts told n m lane k same call = refl

@@ -10,13 +10,14 @@ use Rattle.turn_lock.specs.Passes.{PassView}
 use Rattle.stamp_counter.specs.Seats.{CounterView}
 use Rattle.hpke_context.specs.Answers.{Answer, Cipher, run}
 use Rattle.hpke_context.specs.Contexts.{ContextView}
-use Rattle.legal_journals.specs.Batches.{Ask, Nothing, ToOpenAll, block, unseal, items_in, context_in}
-use Rattle.legal_journals.specs.Guesses.{guess_of, guess_at}
-use Rattle.legal_journals.specs.Entries.{entries_from, steps_from}
-use Rattle.legal_journals.proofs.Lists.{append-nil, is_cases}
-use Rattle.gathered_lanes.specs.Lanes.{OpeningShows}
-use Rattle.gathered_lanes.proofs.Contexts.{AllReplied}
-use Rattle.gathered_lanes.proofs.Stamping.{StampsAre, added_to, stamps_wait, stamps_call}
+use Rattle.context_books.specs.Batches.{Ask, Nothing, ToOpenAll, block, unseal, items_in, context_in}
+use Rattle.context_books.specs.Guesses.{guess_of, guess_at}
+use Rattle.context_books.specs.Entries.{entries_from, steps_from}
+use Rattle.context_books.proofs.Lists.{append-nil, is_cases}
+use Rattle.lane_workers.specs.Showing.{OpeningShows}
+use Rattle.lane_workers.specs.OnTheWay.{AllReplied}
+use Rattle.lane_workers.proofs.Stamping.{added_to, stamps_wait, stamps_call}
+use Rattle.lane_workers.specs.OnTheWay.{StampsAre}
 use Rattle.shared_context.specs.Calls.{SharedView}
 use Rattle.batch_plans.specs.declared.plan.Plan.{Plan}
 use Rattle.batch_plans.specs.declared.plan.CallLine.{CallLine}
@@ -144,7 +145,7 @@ module _ (plan : Plan) (contexts : List (Option SharedView)) (counter : Option (
       let steps = steps_from c due (items_in a) in
       let stamped : StampsAre lane (k + 1)
       (λ d. (seen d ++ others d) ++ added_to lane a k first steps d) (first + length steps) =
-      Rattle.gathered_lanes.proofs.Stamping.stamps_call lane k (λ d. seen d ++ others d) t.low a first
+      Rattle.lane_workers.proofs.Stamping.stamps_call lane k (λ d. seen d ++ others d) t.low a first
       steps e.enough (stamps_wait lane k seen others t.low e.of_others t.stamps) in
       record {
         lane_is = e.lane_same ∙ t.lane_is;

@@ -12,13 +12,13 @@ use Rattle.turn_lock.specs.Passes.{PassView}
 use Rattle.stamp_counter.specs.Seats.{CounterView}
 use Rattle.hpke_context.specs.Answers.{Answer, Unseal, Cipher, answer, run}
 use Rattle.hpke_context.specs.Contexts.{ContextView, cipher_of}
-use Rattle.legal_journals.specs.Batches.{Ask, ToOpenAll, block, unseal, items_in, context_in}
-use Rattle.legal_journals.specs.Guesses.{missed}
-use Rattle.legal_journals.specs.Entries.{entries_from, steps_from, numbers_from}
-use Rattle.gathered_lanes.specs.Lanes.{OpeningShows}
-use Rattle.gathered_lanes.proofs.Contexts.{AllReplied}
-use Rattle.gathered_lanes.proofs.Entries.{own-append}
-use Rattle.gathered_lanes.proofs.Serving.{opening_shows}
+use Rattle.context_books.specs.Batches.{Ask, ToOpenAll, block, unseal, items_in, context_in}
+use Rattle.context_books.specs.Guesses.{missed}
+use Rattle.context_books.specs.Entries.{entries_from, steps_from, numbers_from}
+use Rattle.lane_workers.specs.Showing.{OpeningShows}
+use Rattle.lane_workers.specs.OnTheWay.{AllReplied}
+use Rattle.lane_workers.proofs.ShowingEntries.{own-append}
+use Rattle.lane_workers.proofs.ShowingCalls.{opening_shows}
 use Rattle.context_books.specs.Openings.{unseals, opening_steps}
 use Rattle.shared_context.specs.Calls.{SharedView, HasCommitted}
 use Rattle.speculative_open.specs.Tables.{TableView}

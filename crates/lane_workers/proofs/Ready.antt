@@ -11,10 +11,10 @@ use Rattle.std.proofs.lemmas.List.{length-set}
 use Rattle.call_places.specs.Entries.{own}
 use Rattle.turn_lock.specs.Passes.{LockId, PassView}
 use Rattle.speculative_open.specs.Tables.{TableView}
-use Rattle.legal_journals.proofs.Lists.{append-nil}
-use Rattle.gathered_lanes.proofs.Entries.{own-append}
+use Rattle.context_books.proofs.Lists.{append-nil}
+use Rattle.lane_workers.proofs.ShowingEntries.{own-append}
 use Rattle.hpke_context.specs.Contexts.{ContextView, CanSeal, CanOpen, encrypts}
-use Rattle.legal_journals.specs.Batches.{Ask, items_in, context_in}
+use Rattle.context_books.specs.Batches.{Ask, items_in, context_in}
 use Rattle.context_books.specs.declared.book.Draw.{Draw}
 use Rattle.context_books.specs.declared.book.Draw.TheVariants.{Number}
 use Rattle.shared_context.specs.Calls.{SharedView}
@@ -51,12 +51,9 @@ open_free Sender x e = absurd (no_refusal _ e)
 
 opens_by : (r : Role) (x : Aead) (limit : ℕ) (call : CallLine) → IsOpening call
     → refusal_by r x limit call ≡ None → open_refusal r x ≡ None
-opens_by r x limit (calls.Seal context item) opening e = absurd opening
 opens_by r x limit (calls.Unseal context item) opening e = e
 opens_by r x limit (calls.UnsealAll context first count) opening e = e
-opens_by r x limit (calls.Export context exporter size) opening e = absurd opening
-opens_by r x limit (calls.Add name) opening e = absurd opening
-opens_by r x limit (calls.Retire name) opening e = absurd opening
+opens_by r x limit call opening e = absurd opening
 
 module _ (plan : Plan) (contexts : List (Option SharedView)) (counter : Option (Bor CounterView))
     (k : ℕ) (call : CallLine) (s : SharedView) (w : LaneWork)

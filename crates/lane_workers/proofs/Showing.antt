@@ -10,15 +10,15 @@ use Rattle.call_places.specs.Entries.{mark_of}
 use Rattle.call_places.specs.Messages.{sealed_messages}
 use Rattle.hpke_context.specs.Answers.{Item}
 use Rattle.hpke_context.specs.Contexts.{ContextView}
-use Rattle.legal_journals.specs.Batches.{Batch, Ask, block, place, unseal, items_in, context_in, item_of, lane_of}
-use Rattle.legal_journals.specs.Guesses.{AllGuessed, guess_at, missed_in}
-use Rattle.legal_journals.specs.Histories.{LegalMarks, marks_at, places}
-use Rattle.legal_journals.specs.Legal.{Legal, OpensOn, reply_of}
-use Rattle.legal_journals.proofs.Members.{got}
-use Rattle.legal_journals.proofs.Runs.{item_here}
-use Rattle.gathered_lanes.proofs.Shown as shown
-use Rattle.gathered_lanes.proofs.Shown.{places-marks}
-use Rattle.gathered_lanes.specs.Lanes.{Showing, LaneShows, OpeningsShow, StampsInOrder, LaneIsShown, Closes, journal}
+use Rattle.context_books.specs.Batches.{Batch, Ask, block, place, unseal, items_in, context_in, item_of, lane_of}
+use Rattle.context_books.specs.Guesses.{AllGuessed, guess_at, missed_in}
+use Rattle.context_books.specs.Histories.{LegalMarks, marks_at, places}
+use Rattle.context_books.specs.Legal.{Legal, OpensOn, reply_of}
+use Rattle.context_books.proofs.Members.{got}
+use Rattle.context_books.proofs.Runs.{item_here}
+use Rattle.lane_workers.proofs.Shown as shown
+use Rattle.lane_workers.proofs.Shown.{places-marks}
+use Rattle.lane_workers.specs.Showing.{Showing, LaneShows, OpeningsShow, StampsInOrder, LaneIsShown, Closes, journal}
 use Rattle.batch_plans.specs.declared.plan.Plan.{Plan}
 use Rattle.batch_plans.specs.declared.plan.CallLine.{CallLine}
 use Rattle.batch_plans.specs.declared.plan.CallLine.TheVariants as calls
@@ -52,12 +52,8 @@ numbered_same {X = X} {Y = Y} f g start (x ∷ xs) same =
 
 -- an opening names items that are there
 abbrev pub HasItems : ℕ → CallLine → Type 0
-HasItems items (calls.Seal context item) = Unit {0}
-HasItems items (calls.Unseal context item) = Unit {0}
 HasItems items (calls.UnsealAll context first count) = first + count ≤ items
-HasItems items (calls.Export context exporter size) = Unit {0}
-HasItems items (calls.Add name) = Unit {0}
-HasItems items (calls.Retire name) = Unit {0}
+HasItems items call = Unit {0}
 
 -- what a lane tells, and shows of each context
 pub record LaneTells (plan : Plan) (contexts : List (Option ContextView)) (lane : ℕ) (told : Told)

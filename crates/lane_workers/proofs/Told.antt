@@ -4,8 +4,8 @@ use Rattle.std.specs.Prelude.{slice_index_or}
 use Rattle.std.proofs.lemmas.Option.{get_or_from_slice_get}
 use Rattle.call_places.specs.declared.entries.Place.{Place}
 use Rattle.hpke_context.specs.Answers.{Answer, At_limit}
-use Rattle.legal_journals.specs.Batches.{block}
-use Rattle.gathered_lanes.proofs.Contexts.{AllReplied}
+use Rattle.context_books.specs.Batches.{block}
+use Rattle.lane_workers.specs.OnTheWay.{AllReplied}
 use Rattle.lane_workers.specs.Served.{Told}
 use Rattle.lane_workers.specs.Lanes.{Tells}
 

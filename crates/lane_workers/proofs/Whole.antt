@@ -9,9 +9,9 @@ use Rattle.call_places.specs.Entries.{mark_of}
 use Rattle.turn_lock.specs.Passes.{PassView}
 use Rattle.hpke_context.specs.Answers.{At_limit}
 use Rattle.hpke_context.specs.Contexts.{ContextView}
-use Rattle.legal_journals.specs.Batches.{Ask, ToOpenAll, lane_of, lane_places}
-use Rattle.legal_journals.specs.Guesses.{guess_count}
-use Rattle.legal_journals.proofs.Members.{in_contains}
+use Rattle.context_books.specs.Batches.{Ask, ToOpenAll, lane_of, lane_places}
+use Rattle.context_books.specs.Guesses.{guess_count}
+use Rattle.context_books.proofs.Members.{in_contains}
 use Rattle.batch_plans.specs.declared.plan.Plan.{Plan}
 use Rattle.batch_plans.specs.declared.plan.CallLine.{CallLine}
 use Rattle.batch_plans.specs.declared.replies.LaneAnswers.{LaneAnswers}

@@ -6,7 +6,7 @@ use Rattle.call_places.specs.declared.entries.Mark.{Mark}
 use Rattle.call_places.specs.Entries.{stamps_of}
 use Rattle.turn_lock.specs.Passes.{PassView}
 use Rattle.hpke_context.specs.Contexts.{ContextView}
-use Rattle.gathered_lanes.specs.Lanes.{Closes}
+use Rattle.lane_workers.specs.Showing.{Closes}
 use Rattle.batch_plans.specs.declared.plan.Plan.{Plan}
 use Rattle.batch_plans.specs.declared.replies.LaneAnswers.{LaneAnswers}
 use Rattle.reply_texts.specs.ReplyText.{numbered, lanes_lines}

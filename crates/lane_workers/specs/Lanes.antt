@@ -8,12 +8,12 @@ use Rattle.turn_lock.specs.Passes.{PassView}
 use Rattle.stamp_counter.specs.Seats.{SeatView, CounterView}
 use Rattle.hpke_context.specs.Answers.{Answer}
 use Rattle.hpke_context.specs.Contexts.{ContextView}
-use Rattle.legal_journals.specs.Batches.{Ask, ToOpenAll, block, unseal, lane_of, lane_places}
-use Rattle.legal_journals.specs.Guesses.{guess_at, guess_count}
-use Rattle.gathered_lanes.specs.Lanes.{OpeningShows}
-use Rattle.gathered_lanes.proofs.Contexts.{AllReplied}
-use Rattle.gathered_lanes.proofs.Serving.{LaneIs}
-use Rattle.gathered_lanes.proofs.Stamping.{StampsAre}
+use Rattle.context_books.specs.Batches.{Ask, ToOpenAll, block, unseal, lane_of, lane_places}
+use Rattle.context_books.specs.Guesses.{guess_at, guess_count}
+use Rattle.lane_workers.specs.Showing.{OpeningShows}
+use Rattle.lane_workers.specs.OnTheWay.{AllReplied}
+use Rattle.lane_workers.specs.OnTheWay.{LaneIs}
+use Rattle.lane_workers.specs.OnTheWay.{StampsAre}
 use Rattle.shared_context.specs.Stamped.{IsNote}
 use Rattle.shared_context.specs.Calls.{SharedView}
 use Rattle.batch_plans.specs.declared.plan.Plan.{Plan}

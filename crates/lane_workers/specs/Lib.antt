@@ -11,3 +11,6 @@ pub mod LiveLanes
 pub mod LiveReturned
 pub mod Handing
 pub mod Services
+pub mod Showing
+pub mod ShowingRows
+pub mod OnTheWay

@@ -8,7 +8,7 @@ use Rattle.call_places.specs.Entries.{stamps_of}
 use Rattle.call_places.specs.Notes.{AreLive}
 use Rattle.turn_lock.specs.Passes.{PassView}
 use Rattle.hpke_context.specs.Contexts.{ContextView}
-use Rattle.gathered_lanes.specs.Lanes.{Closes}
+use Rattle.lane_workers.specs.Showing.{Closes}
 use Rattle.batch_plans.specs.declared.plan.Plan.{Plan}
 use Rattle.batch_plans.specs.declared.replies.ContextReply.{ContextReply}
 use Rattle.batch_plans.specs.declared.replies.LaneAnswers.{LaneAnswers}

@@ -11,8 +11,8 @@ use Rattle.stamp_counter.specs.Seats.{CounterView}
 use Rattle.key_schedule.specs.declared.psks.PskFault.{PskFault}
 use Rattle.key_schedule.specs.declared.psks.PskFault.TheVariants.{Inconsistent, Unneeded, Missing}
 use Rattle.key_schedule.specs.Psks.{verify_psk_inputs}
-use Rattle.legal_journals.specs.Batches.{place}
-use Rattle.legal_journals.specs.Entries.{entry_places}
+use Rattle.context_books.specs.Batches.{place}
+use Rattle.context_books.specs.Entries.{entry_places}
 use Rattle.shared_context.specs.Calls.{SharedView}
 use Rattle.live_table.specs.Calls.{TableView}
 use Rattle.batch_plans.specs.declared.plan.Plan.{Plan}
@@ -80,12 +80,8 @@ standing v = views v.contexts
 
 -- a line that adds a context adds one of the plan's
 abbrev pub AddsOneOf : ℕ → CallLine → Type 0
-AddsOneOf added (calls.Seal context item) = Unit {0}
-AddsOneOf added (calls.Unseal context item) = Unit {0}
-AddsOneOf added (calls.UnsealAll context first count) = Unit {0}
-AddsOneOf added (calls.Export context exporter size) = Unit {0}
 AddsOneOf added (calls.Add name) = name < added
-AddsOneOf added (calls.Retire name) = Unit {0}
+AddsOneOf added call = Unit {0}
 
 -- The contexts are those of the case that each may be called, and each lane may note all that its
 -- calls note. An added context stands just where its psk inputs are in order.
@@ -114,12 +110,9 @@ AddsAre plan contexts = (name : ℕ) → name < plan.added
 
 -- a call on a context
 abbrev pub IsOnContext : CallLine → Type 0
-IsOnContext (calls.Seal context item) = Unit {0}
-IsOnContext (calls.Unseal context item) = Unit {0}
-IsOnContext (calls.UnsealAll context first count) = Unit {0}
-IsOnContext (calls.Export context exporter size) = Unit {0}
 IsOnContext (calls.Add name) = ⊥
 IsOnContext (calls.Retire name) = ⊥
+IsOnContext call = Unit {0}
 
 -- ---- for the proofs: the replies of a lane, and those that stand for them
 

@@ -6,9 +6,9 @@ use Rattle.call_places.specs.declared.entries.Place.{Place}
 use Rattle.turn_lock.specs.Passes.{PassView}
 use Rattle.hpke_context.specs.Answers.{Answer}
 use Rattle.hpke_context.specs.Contexts.{ContextView}
-use Rattle.legal_journals.specs.Batches.{block, place, lane_of}
-use Rattle.legal_journals.specs.Guesses.{guess_at}
-use Rattle.gathered_lanes.specs.Lanes.{LaneShows, OpeningsShow, StampsInOrder}
+use Rattle.context_books.specs.Batches.{block, place, lane_of}
+use Rattle.context_books.specs.Guesses.{guess_at}
+use Rattle.lane_workers.specs.Showing.{LaneShows, OpeningsShow, StampsInOrder}
 use Rattle.batch_plans.specs.declared.plan.Plan.{Plan}
 use Rattle.batch_plans.specs.declared.plan.CallLine.{CallLine}
 use Rattle.batch_plans.specs.declared.plan.CallLine.TheVariants as calls
@@ -41,8 +41,7 @@ told_served plan contexts told lane number (calls.UnsealAll context first count)
     ++ batch_line (guess_at asks told.guesses number) (guess_at asks told.misses number) ∷ []
 told_served plan contexts told lane number (calls.Export context exporter size) =
     export_line (standing_at contexts context) (span_bytes plan.pool exporter) size ∷ []
-told_served plan contexts told lane number (calls.Add name) = []
-told_served plan contexts told lane number (calls.Retire name) = []
+told_served plan contexts told lane number call = []
 
 abbrev pub told_lines : Plan → List (Option ContextView) → Told → ℕ → ℕ → CallLine → List (List ℕ)
 told_lines plan contexts told lane number call =

@@ -19,10 +19,18 @@
 //! `LiveLaneIsServed` of `specs/LiveServed.antt` says what it shows, and [`live_lanes_make_a_run`]
 //! says the same of all of them, of the closed contexts and of the closed table as the other law.
 //!
+//! While threads serve lanes, each lane sees the first entries of every context, and knows only of its
+//! own entries that they are right. `AllShown` of `specs/Showing.antt` says what each lane then shows,
+//! what the contexts show once they are closed, and that the counter gave each stamp once. From that
+//! the laws of `showing_laws`, functions that do nothing, prove whole journals: they are one legal
+//! history, each place has the reply of the sequential context along its journal (RFC 9180, 5.2), and
+//! each guess may have been made.
+//!
 //! `serve` and `serve_live` may wait for a turn. They take no memory and refuse nothing. Nothing
 //! says that a turn ever comes, or in which order lanes get theirs.
 //!
-//! Tests: `command_tests` (through `batch_runner`).
+//! Tests: `command_tests` (through `batch_runner`); of what lanes show the row of `src/showing_rows.rt`,
+//! which the prover computes.
 #![tactic(auto)]
 
 mod calls;
@@ -32,6 +40,8 @@ mod live_lane;
 mod live_serving;
 mod passes;
 mod serving;
+mod showing_laws;
+mod showing_rows;
 mod works;
 
 pub use laws::{live_lanes_make_a_run, served_lanes_make_a_run};
@@ -39,4 +49,8 @@ pub use live_lane::LiveLane;
 pub use live_serving::serve_live;
 pub use passes::{put_passes, take_passes};
 pub use serving::serve;
+pub use showing_laws::{
+    shown_guesses_may_have_been_made, shown_lanes_are_answered, shown_lanes_have_legal_journals,
+};
+pub use showing_rows::rows_of_showings;
 pub use works::{LanePasses, LaneWork, SharedList};

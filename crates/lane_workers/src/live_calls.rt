@@ -127,10 +127,7 @@ impl<R: Threads + Wait + Sync, G: Gate> LiveService<'_, R, G> {
         match *line {
             CallLine::Add { name } => self.add(lane, call, name),
             CallLine::Retire { name } => self.retire(lane, call, name),
-            CallLine::Seal { .. }
-            | CallLine::Unseal { .. }
-            | CallLine::UnsealAll { .. }
-            | CallLine::Export { .. } => self.call(lane, call, line),
+            _ => self.call(lane, call, line),
         }
         self.service
             .gate

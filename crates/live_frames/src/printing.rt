@@ -9,15 +9,14 @@ ghost use Rattle.batch_plans.specs.Replies.{IsPrintable};
 ghost use Rattle.field_text.specs.Printing.{Puts, AppendsPrefix};
 ghost use Rattle.reply_texts.specs.ReplyText.{numbered, all_lines, lane_lines, IsAnswered};
 ghost use Rattle.reply_texts.specs.LiveText.{given_lines, lanes_given, added_journal_lines};
-ghost use Rattle.reply_texts.specs.LiveText.{tells_live as live_test, bit as bit_of, note_line};
-ghost use Rattle.reply_texts.specs.LiveText.{table_lines, live_text};
+ghost use Rattle.reply_texts.specs.LiveText.{note_line, table_lines, live_text};
 
 use crate::lane_replies::put_calls;
 use batch_io::Sink;
 use batch_plans::{Answers, CallLine, LaneAnswers, PlainList, Plan};
-use call_places::{Entry, Mark, Step};
+use call_places::{Entry, Mark};
 use field_text::{Buffer, Printed};
-use request_frames::{put_journals, put_marks, put_setup, put_version};
+use request_frames::{put_journals, put_marks, put_note, put_numbered, put_setup, put_version};
 
 /// Writes the reply to a batch whose lanes add and retire contexts: its keys, its context lines, its
 /// lanes, the journals of all contexts, and the table of the notes.
@@ -95,9 +94,7 @@ fn put_lane<K: Sink>(
     ensures { Puts K.written K.faults sink.old sink.new out.old out.new
         (concat (lane_lines number (given_lines calls.now lane.now))) }
 {
-    out.put_text(sink, b"lane ");
-    out.put_number(sink, number);
-    out.put_text(sink, b"\n");
+    put_numbered(out, sink, b"lane ", number);
     put_calls(out, sink, calls, lane)
 }
 
@@ -114,9 +111,7 @@ fn put_added_journal<K: Sink>(out: &mut Buffer, sink: &mut K, name: u64, marks: 
     ensures { Puts K.written K.faults sink.old sink.new out.old out.new
         (concat (added_journal_lines name marks.now)) }
 {
-    out.put_text(sink, b"journal +");
-    out.put_number(sink, name);
-    out.put_text(sink, b"\n");
+    put_numbered(out, sink, b"journal +", name);
     put_marks(out, sink, true, marks)
 }
 
@@ -135,32 +130,4 @@ fn put_notes<K: Sink>(out: &mut Buffer, sink: &mut K, notes: &[Entry])
     'notes: for note in notes {
         put_note(out, sink, note);
     }
-}
-
-fn put_note<K: Sink>(out: &mut Buffer, sink: &mut K, note: &Entry)
-    ensures { Puts K.written K.faults sink.old sink.new out.old out.new (note_line note.now) }
-{
-    out.put_number(sink, note.place.lane as u64);
-    out.put_text(sink, b" ");
-    out.put_number(sink, note.place.call as u64);
-    out.put_text(sink, b" ");
-    out.put_number(sink, bit(tells_live(note.step)));
-    out.put_text(sink, b" ");
-    out.put_number(sink, note.stamp);
-    out.put_text(sink, b"\n")
-}
-
-fn tells_live(step: Step) -> bool
-    ensures { result ≡ live_test step }
-{
-    match step {
-        Step::Note { live, .. } => live,
-        _ => false,
-    }
-}
-
-fn bit(live: bool) -> u64
-    ensures { result ≡ bit_of live }
-{
-    if live { 1 } else { 0 }
 }

@@ -14,7 +14,7 @@ use Rattle.call_places.proofs.Live.{another, AreLive-push}
 use Rattle.call_places.proofs.Stamps.{StampsBelow-weaker, StampsRise-push}
 use Rattle.call_places.proofs.Quotas.{one_left_less, room_for}
 use Rattle.stamp_counter.specs.Seats.{SeatView}
-use Rattle.stamped_lists.proofs.Stamping.{stamped_more}
+use Rattle.stamp_counter.proofs.Stamping.{stamped_more}
 use Rattle.live_table.specs.Notes.{AreNotes}
 
 -- the list of live names, after a note of one of them

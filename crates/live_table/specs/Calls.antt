@@ -5,8 +5,8 @@ use Rattle.call_places.specs.declared.entries.Entry.{Entry}
 use Rattle.call_places.specs.Notes.{note_entry, live_at}
 use Rattle.turn_lock.specs.Passes.{LockId, PassView, AddedByOthers}
 use Rattle.stamp_counter.specs.Seats.{SeatView}
-use Rattle.stamped_lists.specs.Stamps.{ComesAfter}
-use Rattle.stamped_lists.specs.Turns.{IsAfter}
+use Rattle.stamp_counter.specs.Stamps.{ComesAfter}
+use Rattle.stamp_counter.specs.Turns.{IsAfter}
 
 -- how many names there are, the lock round the notes, and how many passes there are
 pub record TableView : Type 0 where

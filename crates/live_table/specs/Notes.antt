@@ -6,7 +6,7 @@ use Rattle.call_places.specs.Entries.{StampsRise}
 use Rattle.call_places.specs.Notes.{live_at, AreLive}
 use Rattle.call_places.specs.Quotas.{AreLeft}
 use Rattle.stamp_counter.specs.Seats.{SeatView}
-use Rattle.stamped_lists.specs.Stamps.{IsStamped}
+use Rattle.stamp_counter.specs.Stamps.{IsStamped}
 
 -- the notes, how many each lane may have, and their seat
 pub record NotesView : Type 0 where

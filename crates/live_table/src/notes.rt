@@ -5,12 +5,11 @@ ghost use Rattle.call_places.specs.declared.entries.Entry.{Entry};
 ghost use Rattle.call_places.specs.declared.entries.Place.{Place};
 ghost use Rattle.call_places.specs.Entries.{own, last_of, stamps_of, StampsRise};
 ghost use Rattle.call_places.specs.Notes.{note_entry, live_at, AreLive};
-ghost use Rattle.stamped_lists.specs.Stamps.{IsNote, ComesAfter};
+ghost use Rattle.stamp_counter.specs.Stamps.{IsNote, ComesAfter};
 ghost use Rattle.live_table.specs.Notes.{terms_of};
 
 use call_places::{Act, Entry, Listed, Place, Step};
-use stamp_counter::{StampCounter, StampSeat};
-use stamped_lists::draw_stamps;
+use stamp_counter::{StampCounter, StampSeat, draw_stamps};
 use std::alloc::{AllocError as OutOfMemory, Global};
 use std::marker::Model;
 

@@ -4,8 +4,8 @@ ghost use Rattle.std.specs.Prelude.{◌≡◌, ◌+◌, ◌<◌, ◌≤◌, [], 
 ghost use Rattle.call_places.specs.Entries.{stamps_of, StampsRise};
 ghost use Rattle.call_places.specs.Notes.{AreLive};
 ghost use Rattle.turn_lock.specs.Passes.{fresh_from, AllOf, IsShown, NoOthers};
-ghost use Rattle.stamped_lists.specs.Stamps.{IsNote};
-ghost use Rattle.stamped_lists.specs.Turns.{MayCall};
+ghost use Rattle.stamp_counter.specs.Stamps.{IsNote};
+ghost use Rattle.stamp_counter.specs.Turns.{MayCall};
 ghost use Rattle.live_table.specs.Calls.{HasNoted};
 
 use crate::note_list::NoteList;

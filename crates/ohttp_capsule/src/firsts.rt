@@ -6,9 +6,9 @@ ghost use Rattle.hpke_context.specs.Contexts.{HasCipher, cipher_of};
 use crate::faults::CapsuleFault;
 use crate::responses::{opened, sealed};
 use aes_gcm::Checks;
+use byte_strings::ByteList;
 use hpke_context::Context;
 use key_schedule::nonce_at;
-use radix_pack::ByteList;
 use std::alloc::{AllocError as OutOfMemory, Global};
 
 /// ContextS.Seal("", text), at number 0.

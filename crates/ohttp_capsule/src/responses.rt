@@ -9,11 +9,10 @@ ghost use Rattle.ohttp_capsule.specs.Responses.{key_size, entropy_size, response
 ghost use Rattle.ohttp_capsule.specs.Replies.{opened_with};
 
 use crate::faults::CapsuleFault;
-use crate::strings::joined;
 use aes_gcm::{Checks, GcmKey};
+use byte_strings::{ByteList, PlainList, joined};
 use hkdf_labelled::{Aead, Kdf, Prk, Suite, expand_into, extract};
 use hpke_context::Context;
-use radix_pack::ByteList;
 use std::alloc::{AllocError as OutOfMemory, Global};
 
 /// Nt, the size of a tag, in bytes.
@@ -121,7 +120,7 @@ pub(crate) fn sealed(
 {
     let mut ct = vec![in alloc; 0u8; text.len() + TAG_SIZE]?;
     key.seal_into(nonce, &[], text, &mut ct);
-    Ok(ByteList::from_vec(ct))
+    Ok(PlainList::from_vec(ct))
 }
 
 /// Open(key, nonce, "", ct).
@@ -141,7 +140,7 @@ pub(crate) fn opened(
     }
     let mut text = vec![in alloc; 0u8; ct.len() - TAG_SIZE]?;
     key.decrypt_into(nonce, &[], ct, &mut text);
-    Ok(ByteList::from_vec(text))
+    Ok(PlainList::from_vec(text))
 }
 
 /// The response with this text: the nonce, and the text sealed with no aad.

@@ -9,7 +9,7 @@ use crate::asking::Asked;
 use crate::faults::CapsuleFault;
 use crate::responses::{TAG_SIZE, entropy_size, opened, response_key};
 use aes_gcm::{Checks, MayCheck};
-use radix_pack::ByteList;
+use byte_strings::ByteList;
 use std::alloc::Global;
 use std::thread::Threads;
 

@@ -10,8 +10,8 @@ ghost use Rattle.radix_pack.specs.Codings.{rounded_length, rounded_encode, round
 ghost use Rattle.radix_pack.specs.Steps.{step_radix, step_digit, step_back, step_length, step_encode, step_decode, IsStep};
 
 use crate::levels::{Digit, encoded};
-use crate::lists::ByteList;
 use crate::parts::decoded;
+use byte_strings::ByteList;
 use ring_core::{Params, Rq};
 use std::alloc::{AllocError as OutOfMemory, Global};
 

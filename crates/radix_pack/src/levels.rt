@@ -6,7 +6,7 @@
 ghost use Rattle.std.specs.Prelude.{◌≡◌, ℕ, ◌+◌, ◌/◌, ◌<◌, ◌≤◌, ◌++◌, length, take, IfOk};
 ghost use Rattle.radix_pack.specs.Radix.{bytes_in, radix_in, low_bytes, above_bytes, pair_written, pair_digit, level_bytes, next_digits, encode_in, AreDigits};
 
-use crate::lists::ByteList;
+use byte_strings::{ByteList, PlainList};
 use std::alloc::{AllocError as OutOfMemory, Global};
 
 /// A value and its radix.
@@ -97,5 +97,5 @@ pub(crate) fn encoded(alloc: Global, digits: &mut [Digit]) -> Result<ByteList, O
 {
     let mut out = Vec::new(alloc);
     write_levels(&mut out, digits)?;
-    Ok(ByteList::from_vec(out))
+    Ok(PlainList::from_vec(out))
 }

@@ -18,12 +18,11 @@
 mod elements;
 pub mod laws;
 mod levels;
-mod lists;
 mod parts;
 mod radix;
 mod small;
 
+pub use byte_strings::ByteList;
 pub use elements::{rounded_decode, rounded_encode, rq_decode, rq_encode};
-pub use lists::{ByteList, DigitList};
-pub use radix::{decode, encode};
+pub use radix::{DigitList, decode, encode};
 pub use small::{small_decode, small_encode};

@@ -4,8 +4,8 @@ ghost use Rattle.std.specs.Prelude.{◌≡◌, ◌<◌, length, IfOk};
 ghost use Rattle.radix_pack.specs.Radix.{encode, decode, encoded_length, with_radices, AreRadices, AreBelow};
 
 use crate::levels::{Digit, encoded};
-use crate::lists::{ByteList, DigitList};
 use crate::parts::decoded;
+use byte_strings::{ByteList, PlainList};
 use std::alloc::{AllocError as OutOfMemory, Global};
 
 // The values with their radices.
@@ -37,6 +37,9 @@ pub fn encode(alloc: Global, digits: &[u16], radices: &[u16]) -> Result<ByteList
     encoded(alloc, &mut digits)
 }
 
+/// Digits, each below a radix of its own that stands elsewhere. Contracts see the list of them.
+pub type DigitList = PlainList<u16>;
+
 /// Decode (NTRU Prime round 3): the digits below these radices that `bytes` stand for.
 ///
 /// There is a radix, and each is from 1 to 16383. Every byte string of the length that [`encode`]
@@ -49,5 +52,5 @@ pub fn decode(alloc: Global, bytes: &[u8], radices: &[u16]) -> Result<DigitList,
     ensures digits { IfOk result (λ d. d ≡ decode bytes.now radices.now) }
     ensures below { IfOk result (λ d. AreBelow d radices.now) }
 {
-    Ok(DigitList::from_vec(decoded(alloc, bytes, radices)?))
+    Ok(PlainList::from_vec(decoded(alloc, bytes, radices)?))
 }

@@ -4,7 +4,7 @@ ghost use Rattle.std.specs.Prelude.{◌≡◌, ◌↔◌, ◌+◌, ◌*◌, ◌^
 ghost use Rattle.ring_core.specs.Bounds.{IsWithin};
 ghost use Rattle.radix_pack.specs.Codings.{small_length, two_bits, four_coefficients, small_encode, bits_at, small_decode, IsMalformed};
 
-use crate::lists::ByteList;
+use byte_strings::{ByteList, PlainList};
 use ring_core::{Params, Small};
 use std::alloc::{AllocError as OutOfMemory, Global};
 
@@ -49,7 +49,7 @@ pub fn small_encode<S: Params>(alloc: Global, a: &Small<S>) -> Result<ByteList, 
     ensures bytes { IfOk result (λ b. b ≡ small_encode S.set.p a.now) }
     ensures count { IfOk result (λ b. length b ≡ small_length S.set.p) }
 {
-    Ok(ByteList::from_vec(small_bytes(alloc, a.as_slice())?))
+    Ok(PlainList::from_vec(small_bytes(alloc, a.as_slice())?))
 }
 
 // The two bits at place k.

@@ -1,13 +1,14 @@
 -- The lines of a lane's calls, one call more at a time.
-use Rattle.std.proofs.Common.{◌≡◌, ◌<◌, ℕ, List, [], ◌∷◌, ◌++◌, Bool, false, if◌then◌else◌, length, map, refl, sym, ap, subst, ◌∙◌, append-nil, append_assoc, take, drop, arith}
+use Rattle.std.proofs.Common.{◌≡◌, ◌<◌, ℕ, List, [], ◌∷◌, ◌++◌, Bool, true, false, if◌then◌else◌, length, map, refl, sym, ap, subst, ◌∙◌, append-nil, append_assoc, take, drop, arith}
 use Rattle.std.proofs.Math.Seq.{take-append_seam, drop-append_seam}
 use Rattle.std.specs.Prelude.{slice_get, Some}
 use Rattle.batch_plans.specs.declared.plan.CallLine.{CallLine}
-use Rattle.batch_plans.specs.declared.plan.CallLine.TheVariants.{Seal, Unseal, UnsealAll, Export, Add, Retire}
+use Rattle.batch_plans.specs.declared.plan.CallLine.TheVariants.{UnsealAll}
 use Rattle.batch_plans.specs.declared.replies.CallRefusal.{CallRefusal}
 use Rattle.batch_plans.specs.declared.replies.Reply.{Reply}
 use Rattle.batch_plans.specs.declared.replies.Reply.TheVariants.{Refused}
 use Rattle.batch_plans.specs.declared.replies.Batch.{Batch}
+use Rattle.batch_plans.specs.Calls.{items_of}
 use Rattle.batch_plans.specs.Room.{served_batches}
 use Rattle.reply_texts.specs.Lines.{reply_line}
 use Rattle.reply_texts.specs.ReplyText.{is_refused, reply_count, batch_count, guess_line, calls_lines, HasReplies, UsesUp}
@@ -20,25 +21,26 @@ one : {call : CallLine} {reply : Reply}
     → HasReplies call (reply ∷ []) []
 one count guesses = record { some = omega arith; count = sym count; guesses = sym guesses }
 
+one_item : (call : CallLine) → served_batches call ≡ 0 → items_of call ≡ 1
+one_item (UnsealAll context first count) single = absurd (omega (arith, single))
+one_item call single = refl
+
+same : (b : Bool) (n : ℕ) → (if b then n else n) ≡ n
+same true n = refl
+same false n = refl
+
 -- a call that isn't an opening of several messages has one reply
 pub HasReplies-one : (call : CallLine) (reply : Reply) → served_batches call ≡ 0
     → HasReplies call (reply ∷ []) []
-HasReplies-one (Seal context item) reply single = one refl refl
-HasReplies-one (Unseal context item) reply single = one refl refl
-HasReplies-one (UnsealAll context first count) reply single = absurd (omega (arith, single))
-HasReplies-one (Export context exporter size) reply single = one refl refl
-HasReplies-one (Add name) reply single = one refl refl
-HasReplies-one (Retire name) reply single = one refl refl
+HasReplies-one call reply single =
+    let refused = is_refused (Some reply) in
+    one (ap (λ n. if refused then 1 else n) (one_item call single) ∙ same refused 1)
+    (ap (λ n. if refused then 0 else n) single ∙ same refused 0)
 
 -- a call that is refused has one reply
 pub HasReplies-refused : (call : CallLine) (refusal : CallRefusal)
     → HasReplies call (Refused refusal ∷ []) []
-HasReplies-refused (Seal context item) refusal = one refl refl
-HasReplies-refused (Unseal context item) refusal = one refl refl
-HasReplies-refused (UnsealAll context first count) refusal = one refl refl
-HasReplies-refused (Export context exporter size) refusal = one refl refl
-HasReplies-refused (Add name) refusal = one refl refl
-HasReplies-refused (Retire name) refusal = one refl refl
+HasReplies-refused call refusal = one refl refl
 
 -- an opening of several messages that is served has a reply for each, and a guess
 pub HasReplies-opening : (context first count : ℕ) (replies : List Reply) (batch : Batch)

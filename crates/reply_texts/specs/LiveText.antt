@@ -5,13 +5,13 @@ use Rattle.std.specs.List.{concat}
 use Rattle.call_places.specs.declared.entries.Entry.{Entry}
 use Rattle.call_places.specs.declared.entries.Mark.{Mark}
 use Rattle.call_places.specs.declared.entries.Step.{Step}
-use Rattle.call_places.specs.declared.entries.Step.TheVariants.{Sealed, SealLimit, Opened, Failed, OpenLimit, Note}
+use Rattle.call_places.specs.declared.entries.Step.TheVariants.{Note}
 use Rattle.batch_plans.specs.declared.plan.Plan.{Plan}
 use Rattle.batch_plans.specs.declared.plan.CallLine.{CallLine}
 use Rattle.batch_plans.specs.declared.replies.KeyReply.{KeyReply}
 use Rattle.batch_plans.specs.declared.replies.ContextReply.{ContextReply}
 use Rattle.batch_plans.specs.declared.replies.Reply.{Reply}
-use Rattle.batch_plans.specs.declared.replies.Reply.TheVariants as replies
+use Rattle.batch_plans.specs.declared.replies.Reply.TheVariants.{Blank}
 use Rattle.batch_plans.specs.declared.replies.LaneAnswers.{LaneAnswers}
 use Rattle.batch_plans.specs.declared.replies.Answers.{Answers}
 use Rattle.batch_plans.specs.Names.{line_count}
@@ -20,15 +20,8 @@ use Rattle.reply_texts.specs.ReplyText.{answered_lines, numbered, all_lines, set
 -- ---- lanes
 
 abbrev pub is_given : Reply → Bool
-is_given replies.Blank = false
-is_given (replies.Sealed number text) = true
-is_given (replies.Opened number text) = true
-is_given (replies.Failed number) = true
-is_given replies.Limit = true
-is_given (replies.Exported text) = true
-is_given (replies.Refused refusal) = true
-is_given replies.Added = true
-is_given replies.Retired = true
+is_given Blank = false
+is_given reply = true
 
 -- The lines of a lane's calls, by the replies that were given. Where an opening of several messages
 -- is refused, so many replies are left over, and a guess at the end of all.
@@ -53,12 +46,8 @@ added_journal_lines name marks =
 
 -- the name of a note was live; no other step tells it
 abbrev pub tells_live : Step → Bool
-tells_live Sealed = false
-tells_live SealLimit = false
-tells_live Opened = false
-tells_live Failed = false
-tells_live OpenLimit = false
 tells_live (Note name act live) = live
+tells_live step = false
 
 abbrev pub bit : Bool → ℕ
 bit true = 1

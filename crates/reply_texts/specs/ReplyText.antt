@@ -7,49 +7,31 @@ use Rattle.field_text.specs.declared.faults.BadBatch.{BadBatch}
 use Rattle.batch_plans.specs.declared.replies.KeyReply.{KeyReply}
 use Rattle.batch_plans.specs.declared.replies.ContextReply.{ContextReply}
 use Rattle.batch_plans.specs.declared.replies.Reply.{Reply}
-use Rattle.batch_plans.specs.declared.replies.Reply.TheVariants.{Blank, Sealed, Opened, Failed, Limit, Exported, Refused, Added, Retired}
+use Rattle.batch_plans.specs.declared.replies.Reply.TheVariants.{Refused}
 use Rattle.batch_plans.specs.declared.replies.Batch.{Batch}
 use Rattle.batch_plans.specs.declared.replies.LaneAnswers.{LaneAnswers}
 use Rattle.batch_plans.specs.declared.replies.Answers.{Answers}
 use Rattle.batch_plans.specs.Replies.{IsPrintable}
 use Rattle.batch_plans.specs.declared.plan.CallLine.{CallLine}
-use Rattle.batch_plans.specs.declared.plan.CallLine.TheVariants as lines
 use Rattle.batch_plans.specs.declared.plan.Plan.{Plan}
+use Rattle.batch_plans.specs.Calls.{items_of}
+use Rattle.batch_plans.specs.Room.{served_batches}
 use Rattle.reply_texts.specs.Words.{reason_word}
 use Rattle.reply_texts.specs.Lines.{key_line, context_line, reply_line, batch_line}
 
 -- ---- the replies of a call
 
 abbrev pub is_refused : Option Reply → Bool
-is_refused None = false
-is_refused (Some Blank) = false
-is_refused (Some (Sealed number text)) = false
-is_refused (Some (Opened number text)) = false
-is_refused (Some (Failed number)) = false
-is_refused (Some Limit) = false
-is_refused (Some (Exported text)) = false
 is_refused (Some (Refused refusal)) = true
-is_refused (Some Added) = false
-is_refused (Some Retired) = false
+is_refused next = false
 
--- how many of a lane's next replies are a call's: an opening of several messages has one for each,
--- unless the next reply is a refusal
+-- how many of a lane's next replies are a call's: one for each item, and one where it is a refusal
 abbrev pub reply_count : CallLine → Option Reply → ℕ
-reply_count (lines.Seal context item) next = 1
-reply_count (lines.Unseal context item) next = 1
-reply_count (lines.UnsealAll context first count) next = if is_refused next then 1 else count
-reply_count (lines.Export context exporter size) next = 1
-reply_count (lines.Add name) next = 1
-reply_count (lines.Retire name) next = 1
+reply_count call next = if is_refused next then 1 else items_of call
 
 -- how many of a lane's next guesses are a call's
 abbrev pub batch_count : CallLine → Option Reply → ℕ
-batch_count (lines.Seal context item) next = 0
-batch_count (lines.Unseal context item) next = 0
-batch_count (lines.UnsealAll context first count) next = if is_refused next then 0 else 1
-batch_count (lines.Export context exporter size) next = 0
-batch_count (lines.Add name) next = 0
-batch_count (lines.Retire name) next = 0
+batch_count call next = if is_refused next then 0 else served_batches call
 
 -- ---- lanes
 

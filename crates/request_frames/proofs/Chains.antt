@@ -1,2 +1,2 @@
--- Passed on from key_frames: pieces of a text that are put one after another.
-pub use Rattle.key_frames.proofs.Chains.{◌⨾◌}
+-- Passed on from request_frames: pieces of a text that are put one after another.
+pub use Rattle.request_frames.proofs.KeyChains.{◌⨾◌}

@@ -11,7 +11,7 @@ use Rattle.field_text.specs.Fields.{◌>>=◌, next, Stops}
 use Rattle.batch_plans.specs.declared.plan.Plan.{Plan}
 use Rattle.batch_plans.specs.declared.plan.CallLine.TheVariants as calls
 use Rattle.batch_plans.specs.Limits.{most_opening, most_ciphertext}
-use Rattle.key_frames.specs.Forms.{at_most}
+use Rattle.request_frames.specs.KeyForms.{at_most}
 use Rattle.request_frames.specs.Batch.{counted, with_several}
 use Rattle.request_frames.specs.Forms.{ctx, item, pairs, one_and_pairs, unseal_all}
 use Rattle.request_frames.specs.Firsts.{first_items, unseal_first, with_first}

@@ -11,7 +11,7 @@ use Rattle.field_text.proofs.Fronts.{front_goes_on, front_alone, nothing_behind}
 use Rattle.field_text.proofs.SpelledLines.{front_ok}
 use Rattle.batch_plans.specs.declared.plan.Plan.{Plan}
 use Rattle.batch_plans.specs.Limits.{most_input}
-use Rattle.key_frames.specs.KeyText.{seed_text, key_text}
+use Rattle.request_frames.specs.KeyText.{seed_text, key_text}
 use Rattle.request_frames.specs.Batch.{batch, batch_lines, ended, front_batch, Spells, BadAt, BeginsWith, FrontBadAt}
 use Rattle.request_frames.specs.PlanText.{context_text, lane_text, text_of}
 use Rattle.request_frames.specs.Added.{added_contexts}

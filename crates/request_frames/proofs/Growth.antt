@@ -7,14 +7,16 @@ use Rattle.std.proofs.lemmas.List.Sums.{sum_by-cons, sum_by_push}
 use Rattle.call_places.specs.declared.spans.Item.{Item}
 use Rattle.batch_plans.specs.declared.plan.Plan.{Plan}
 use Rattle.batch_plans.specs.declared.plan.KeyLine.{KeyLine}
-use Rattle.batch_plans.specs.declared.plan.KeyLine.TheVariants as keys
+use Rattle.batch_plans.specs.declared.plan.KeySource.{KeySource}
+use Rattle.batch_plans.specs.declared.plan.KeySource.TheVariants as sources
+use Rattle.batch_plans.specs.KeyLines.{source_of}
 use Rattle.batch_plans.specs.declared.plan.ContextKind.{ContextKind}
 use Rattle.batch_plans.specs.declared.plan.ContextKind.TheVariants as kinds
 use Rattle.batch_plans.specs.declared.plan.ContextLine.{ContextLine}
 use Rattle.batch_plans.specs.declared.plan.CallLine.{CallLine}
 use Rattle.batch_plans.specs.declared.plan.CallLine.TheVariants as calls
-use Rattle.batch_plans.specs.Limits.{most_input, most_keys, most_contexts, most_lanes, most_items, most_exported, most_field, most_ciphertext, items_of, size_of, items_from, text_size, all_items, all_sizes, all_texts, IsItemWithin, IsKeyWithin, IsKindWithin, IsContextWithin, IsCallWithin, IsWithinLimits, IsPlainCall, IsPlain}
-use Rattle.key_frames.proofs.MoreLines.{field_grown, message_grown}
+use Rattle.batch_plans.specs.Limits.{most_input, most_keys, most_contexts, most_lanes, most_items, most_exported, most_field, most_ciphertext, items_of, size_of, items_from, text_size, all_items, all_sizes, all_texts, IsItemWithin, IsSourceWithin, IsKeyWithin, IsKindWithin, IsContextWithin, IsCallWithin, IsWithinLimits, IsPlainCall, IsPlain}
+use Rattle.request_frames.proofs.MoreLines.{field_grown, message_grown}
 use Rattle.request_frames.specs.Batch.{add_call, empty_plan}
 
 -- ---- one line, over a pool that is as long and items that are as many
@@ -22,13 +24,14 @@ use Rattle.request_frames.specs.Batch.{add_call, empty_plan}
 item_grown : (most n m : ℕ) (item : Item) → n ≤ m → IsItemWithin most n item → IsItemWithin most m item
 item_grown most n m item long h = record { aad = field_grown most_field n m item.aad long h.aad; text = field_grown most n m item.text long h.text }
 
+source_grown : (seed : Option (List ℕ)) (n m : ℕ) (source : KeySource) → n ≤ m
+    → IsSourceWithin seed n source → IsSourceWithin seed m source
+source_grown seed n m sources.Generate long h = h
+source_grown seed n m (sources.Secret bytes) long h = field_grown most_field n m bytes long h
+source_grown seed n m (sources.Peer bytes) long h = field_grown most_field n m bytes long h
+
 key_grown : (seed : Option (List ℕ)) (n m : ℕ) (key : KeyLine) → n ≤ m → IsKeyWithin seed n key → IsKeyWithin seed m key
-key_grown seed n m keys.Generate long h = h
-key_grown seed n m (keys.Secret bytes) long h = field_grown most_field n m bytes long h
-key_grown seed n m (keys.Peer bytes) long h = field_grown most_field n m bytes long h
-key_grown seed n m keys.Generate857 long h = h
-key_grown seed n m (keys.Secret857 bytes) long h = field_grown most_field n m bytes long h
-key_grown seed n m (keys.Peer857 bytes) long h = field_grown most_field n m bytes long h
+key_grown seed n m key = source_grown seed n m (source_of key)
 
 kind_grown : (seed : Option (List ℕ)) (n m : ℕ) (kind : ContextKind) → n ≤ m → IsKindWithin seed n kind → IsKindWithin seed m kind
 kind_grown seed n m (kinds.Share role kem secret) long h = (h.0, field_grown most_field n m secret long h.1)
@@ -50,8 +53,7 @@ call_grown items more n m (calls.Seal context item) many long h = (h.0, item_gro
 call_grown items more n m (calls.Unseal context item) many long h = (h.0, item_grown _ n m item long h.1)
 call_grown items more n m (calls.UnsealAll context first count) many long h = (h.0, h.1, h.2, omega (arith, h.3))
 call_grown items more n m (calls.Export context exporter size) many long h = (h.0, field_grown most_field n m exporter long h.1, h.2)
-call_grown items more n m (calls.Add name) many long h = h
-call_grown items more n m (calls.Retire name) many long h = h
+call_grown items more n m call many long h = h
 
 -- ---- sums over lanes
 
@@ -97,12 +99,8 @@ items_own items more rest =
     ∙ take_all (length more) more (omega arith)
 
 text_same : (items more : List Item) (pool : ℕ) (call : CallLine) → IsCallWithin (length items) pool call → text_size (items ++ more) call ≡ text_size items call
-text_same items more pool (calls.Seal context item) h = refl
-text_same items more pool (calls.Unseal context item) h = refl
 text_same items more pool (calls.UnsealAll context first count) h = ap (sum_by (λ (item : Item). item.text.len)) (items_stay items more first count h.3)
-text_same items more pool (calls.Export context exporter size) h = refl
-text_same items more pool (calls.Add name) h = refl
-text_same items more pool (calls.Retire name) h = refl
+text_same items more pool call h = refl
 
 texts_same : (items more : List Item) (pool : ℕ) (lanes : List (List CallLine)) → All (All (IsCallWithin (length items) pool)) lanes
     → all_texts (items ++ more) lanes ≡ all_texts items lanes

@@ -7,7 +7,7 @@ use Rattle.field_text.specs.Fields.{◌>>=◌, Gives}
 use Rattle.batch_plans.specs.declared.plan.Plan.{Plan}
 use Rattle.batch_plans.specs.declared.plan.CallLine.{CallLine}
 use Rattle.batch_plans.specs.Limits.{most_opening, most_items, most_exported, items_of, size_of, all_items, all_sizes}
-use Rattle.key_frames.specs.Forms.{at_most}
+use Rattle.request_frames.specs.KeyForms.{at_most}
 use Rattle.request_frames.specs.Batch.{add_call, counted}
 use Rattle.request_frames.specs.Drafts.{call_more}
 

@@ -1,2 +1,2 @@
--- Passed on from key_frames: a text of which a front was put.
-pub use Rattle.key_frames.proofs.Leaves.{Leaves, Leaves-whole, Leaves-next, Leaves-nothing}
+-- Passed on from request_frames: a text of which a front was put.
+pub use Rattle.request_frames.proofs.KeyLeaves.{Leaves, Leaves-whole, Leaves-next, Leaves-nothing}

@@ -12,3 +12,9 @@ pub mod Leaves
 pub mod LinesLeft
 pub mod SpelledTexts
 pub mod Fronts
+pub mod SpelledKeyFields
+pub mod SpelledKeys
+pub mod MoreLines
+pub mod KeyChains
+pub mod KeyLeaves
+pub mod KeyLinesLeft

@@ -11,8 +11,8 @@ use Rattle.batch_plans.specs.declared.replies.LaneAnswers.{LaneAnswers}
 use Rattle.reply_texts.specs.Lines.{reply_line}
 use Rattle.reply_texts.specs.ReplyText.{numbered, all_lines, reply_count, batch_count, guess_line, calls_lines, answered_lines, lanes_lines, lane_lines}
 use Rattle.reply_texts.proofs.Lanes.{IsLane}
-use Rattle.key_frames.proofs.LinesLeft.{drop-next}
-pub use Rattle.key_frames.proofs.LinesLeft.{each_from, each-next, each-end, numbered_from, numbered-next, numbered-end, parts_from, parts-next, parts-end}
+use Rattle.request_frames.proofs.KeyLinesLeft.{drop-next}
+pub use Rattle.request_frames.proofs.KeyLinesLeft.{each_from, each-next, each-end, numbered_from, numbered-next, numbered-end, parts_from, parts-next, parts-end}
 
 -- ---- the lanes
 

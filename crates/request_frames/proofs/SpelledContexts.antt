@@ -11,9 +11,9 @@ use Rattle.batch_plans.specs.declared.plan.ContextKind.{ContextKind}
 use Rattle.batch_plans.specs.declared.plan.ContextKind.TheVariants as kinds
 use Rattle.batch_plans.specs.declared.plan.ContextLine.{ContextLine}
 use Rattle.batch_plans.specs.Limits.{most_field, IsKindWithin, IsContextWithin}
-use Rattle.key_frames.specs.Words.{kdf}
-use Rattle.key_frames.specs.Forms.{message}
-use Rattle.key_frames.proofs.SpelledFields.{kdf_ok, message_ok, piece_is, front_length, field_within}
+use Rattle.request_frames.specs.KeyWords.{kdf}
+use Rattle.request_frames.specs.KeyForms.{message}
+use Rattle.request_frames.proofs.SpelledKeyFields.{kdf_ok, message_ok, piece_is, front_length, field_within}
 use Rattle.request_frames.specs.declared.words.LineWord.TheVariants.{Context}
 use Rattle.request_frames.specs.declared.words.ContextWord.{ContextWord}
 use Rattle.request_frames.specs.declared.words.ContextWord.TheVariants.{Share, Send, Recv}

@@ -15,12 +15,12 @@ use Rattle.batch_plans.specs.declared.plan.Plan.{Plan}
 use Rattle.batch_plans.specs.declared.plan.ContextLine.{ContextLine}
 use Rattle.batch_plans.specs.declared.plan.CallLine.{CallLine}
 use Rattle.batch_plans.specs.declared.plan.CallLine.TheVariants as calls
-use Rattle.key_frames.specs.declared.words.KeyWord.{KeyWord}
-use Rattle.key_frames.specs.Forms.{rand, key}
-use Rattle.key_frames.specs.KeyText.{seed_text, key_text}
-use Rattle.key_frames.proofs.SpelledFields.{piece_is, front_length}
-use Rattle.key_frames.proofs.SpelledKeys.{rand_ok, key_ok}
-use Rattle.key_frames.proofs.MoreLines.{last_more, before_none, texts_none, counted_ok, seed_given, no_seed}
+use Rattle.request_frames.specs.declared.key_words.KeyWord.{KeyWord}
+use Rattle.request_frames.specs.KeyForms.{rand, key}
+use Rattle.request_frames.specs.KeyText.{seed_text, key_text}
+use Rattle.request_frames.proofs.SpelledKeyFields.{piece_is, front_length}
+use Rattle.request_frames.proofs.SpelledKeys.{rand_ok, key_ok}
+use Rattle.request_frames.proofs.MoreLines.{last_more, before_none, texts_none, counted_ok, seed_given, no_seed}
 use Rattle.request_frames.specs.declared.words.LineWord.{LineWord}
 use Rattle.request_frames.specs.declared.words.LineWord.TheVariants.{Rand, Key, Context, Lane, Call}
 use Rattle.request_frames.specs.declared.words.ContextWord.{ContextWord}

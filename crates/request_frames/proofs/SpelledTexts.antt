@@ -13,7 +13,7 @@ use Rattle.field_text.proofs.Spellings.{joined, word_ok, IsFront-same}
 use Rattle.field_text.proofs.SpelledLines.{IsText, text_read, front_read}
 use Rattle.batch_plans.specs.declared.plan.Plan.{Plan}
 use Rattle.batch_plans.specs.declared.plan.ContextLine.{ContextLine}
-use Rattle.key_frames.specs.KeyText.{seed_text, key_text}
+use Rattle.request_frames.specs.KeyText.{seed_text, key_text}
 use Rattle.request_frames.specs.Added.{added_contexts, IsLive}
 use Rattle.request_frames.specs.Batch.{ended, front_batch, header, batch_lines, batch, empty_plan, Spells}
 use Rattle.batch_plans.specs.Limits.{most_input, IsWithinLimits, IsPlain}

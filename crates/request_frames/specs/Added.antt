@@ -9,10 +9,10 @@ use Rattle.batch_plans.specs.declared.plan.ContextKind.{ContextKind}
 use Rattle.batch_plans.specs.declared.plan.ContextKind.TheVariants as kinds
 use Rattle.batch_plans.specs.declared.plan.ContextLine.{ContextLine}
 use Rattle.batch_plans.specs.declared.plan.CallLine.{CallLine}
-use Rattle.batch_plans.specs.declared.plan.CallLine.TheVariants.{Seal, Unseal, UnsealAll, Export, Add, Retire}
+use Rattle.batch_plans.specs.declared.plan.CallLine.TheVariants.{Add, Retire}
 use Rattle.batch_plans.specs.Limits.{most_contexts}
 use Rattle.batch_plans.specs.Names.{line_count}
-use Rattle.key_frames.specs.Forms.{at_most}
+use Rattle.request_frames.specs.KeyForms.{at_most}
 use Rattle.request_frames.specs.Forms.{share, name}
 use Rattle.request_frames.specs.Batch.{counted}
 
@@ -49,12 +49,8 @@ IsShare (kinds.Recv key enc) = ⊥
 
 -- the name that a call adds, if it adds one
 abbrev pub name_added : CallLine → List ℕ
-name_added (Seal context item) = []
-name_added (Unseal context item) = []
-name_added (UnsealAll context first count) = []
-name_added (Export context exporter size) = []
 name_added (Add name) = name ∷ []
-name_added (Retire name) = []
+name_added call = []
 
 -- the names that the calls of all lanes add, in the order of the text
 abbrev pub names_added : List (List CallLine) → List ℕ

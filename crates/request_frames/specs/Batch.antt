@@ -15,8 +15,8 @@ use Rattle.field_text.specs.declared.faults.ReadBatchFault.TheVariants as faults
 use Rattle.batch_plans.specs.declared.plan.Plan.{Plan}
 use Rattle.batch_plans.specs.declared.plan.CallLine.{CallLine}
 use Rattle.batch_plans.specs.declared.plan.CallLine.TheVariants as calls
-use Rattle.key_frames.specs.declared.words.KeyWord.{KeyWord}
-use Rattle.key_frames.specs.Forms.{rand, key, at_most}
+use Rattle.request_frames.specs.declared.key_words.KeyWord.{KeyWord}
+use Rattle.request_frames.specs.KeyForms.{rand, key, at_most}
 use Rattle.request_frames.specs.declared.words.LineWord.{LineWord}
 use Rattle.request_frames.specs.declared.words.LineWord.TheVariants.{Rand, Key, Context, Lane, Call}
 use Rattle.request_frames.specs.declared.words.ContextWord.{ContextWord}

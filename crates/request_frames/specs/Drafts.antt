@@ -4,7 +4,7 @@ use Rattle.field_text.specs.declared.reasons.Reason.{Reason}
 use Rattle.field_text.specs.Fields.{◌>>=◌}
 use Rattle.batch_plans.specs.declared.plan.Plan.{Plan}
 use Rattle.batch_plans.specs.declared.plan.CallLine.{CallLine}
-use Rattle.key_frames.specs.Forms.{at_most}
+use Rattle.request_frames.specs.KeyForms.{at_most}
 use Rattle.request_frames.specs.declared.open_lanes.OpenLanes.{OpenLanes}
 use Rattle.request_frames.specs.declared.draft.BatchDraft.{BatchDraft}
 use Rattle.request_frames.specs.Batch.{add_call}

@@ -12,8 +12,8 @@ use Rattle.batch_plans.specs.declared.plan.ContextKind.TheVariants as kinds
 use Rattle.batch_plans.specs.declared.plan.ContextLine.{ContextLine}
 use Rattle.batch_plans.specs.declared.plan.CallLine.{CallLine}
 use Rattle.batch_plans.specs.declared.plan.CallLine.TheVariants.{Seal, Unseal, Export}
-use Rattle.key_frames.specs.Words.{kdf}
-use Rattle.key_frames.specs.Forms.{message}
+use Rattle.request_frames.specs.KeyWords.{kdf}
+use Rattle.request_frames.specs.KeyForms.{message}
 use Rattle.request_frames.specs.declared.words.ContextWord.{ContextWord}
 use Rattle.request_frames.specs.declared.words.ContextWord.TheVariants.{Share, Send, Recv}
 use Rattle.request_frames.specs.Words.{role, mode, aead}

@@ -7,3 +7,6 @@ pub mod FieldFaults
 pub mod LineParts
 pub mod Drafts
 pub mod Firsts
+pub mod KeyWords
+pub mod KeyForms
+pub mod KeyText

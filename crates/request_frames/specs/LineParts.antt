@@ -5,7 +5,7 @@ use Rattle.hkdf_labelled.specs.declared.suites.Aead.{Aead}
 use Rattle.key_schedule.specs.declared.modes.Role.{Role}
 use Rattle.field_text.specs.declared.reasons.Reason.{Reason}
 use Rattle.field_text.specs.Fields.{◌>>=◌, next, number}
-use Rattle.key_frames.specs.Words.{kdf}
+use Rattle.request_frames.specs.KeyWords.{kdf}
 use Rattle.request_frames.specs.Words.{role, aead}
 
 -- `ROLE KEM KDF AEAD`

@@ -1,5 +1,5 @@
 -- The pieces of a line that are one of a few words or numbers.
-use Rattle.std.specs.Prelude.{ℕ, ◌==◌, Bool, true, false, List, [], ◌∷◌, ◌++◌, codes, Result, Ok, Err, if◌then◌else◌}
+use Rattle.std.specs.Prelude.{ℕ, ◌==◌, Bool, true, false, List, [], ◌∷◌, ◌++◌, map, codes, Result, Ok, Err, if◌then◌else◌}
 use Rattle.std.specs.Str.{bytes_eq}
 use Rattle.hkdf_labelled.specs.declared.suites.Aead.{Aead}
 use Rattle.hkdf_labelled.specs.declared.suites.Aead.TheVariants.{Aes128, Aes256, ExportOnly}
@@ -10,8 +10,8 @@ use Rattle.key_schedule.specs.declared.modes.Mode.TheVariants.{Base, Psk}
 use Rattle.field_text.specs.declared.reasons.Reason.{Reason}
 use Rattle.field_text.specs.declared.reasons.Reason.TheVariants.{Word, Range}
 use Rattle.field_text.specs.Fields.{◌>>=◌, number}
-use Rattle.key_frames.specs.declared.words.KeyWord.TheVariants.{Generate, Secret, Peer, Generate857, Secret857, Peer857}
-use Rattle.key_frames.specs.Words.{key_word_text, key_draws}
+use Rattle.batch_plans.specs.declared.plan.KeySet.TheVariants.{Sntrup761, Sntrup857}
+use Rattle.request_frames.specs.KeyWords.{key_word_text, key_words, key_draws}
 use Rattle.request_frames.specs.declared.words.LineWord.{LineWord}
 use Rattle.request_frames.specs.declared.words.LineWord.TheVariants.{Rand, Key, Context, Lane, Call}
 use Rattle.request_frames.specs.declared.words.ContextWord.TheVariants.{Share, Send, Recv}
@@ -36,20 +36,14 @@ word_text (Call Export) = codes "export"
 abbrev pub set_up_words : List LineWord
 set_up_words =
     Rand
-    ∷ Key Generate
-    ∷ Key Secret
-    ∷ Key Peer
-    ∷ Context Share
-    ∷ Context Send
-    ∷ Context Recv
-    ∷ []
+    ∷ (map Key (key_words Sntrup761) ++ (Context Share ∷ Context Send ∷ Context Recv ∷ []))
 
 abbrev pub lane_words : List LineWord
 lane_words = Lane ∷ Call Seal ∷ Call Unseal ∷ Call UnsealAll ∷ Call Export ∷ []
 
 -- the words of version 2 alone
 abbrev pub words_857 : List LineWord
-words_857 = Key Generate857 ∷ Key Secret857 ∷ Key Peer857 ∷ []
+words_857 = map Key (key_words Sntrup857)
 
 -- the words of a version
 abbrev pub words_of : ℕ → List LineWord

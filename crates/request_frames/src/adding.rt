@@ -13,12 +13,13 @@ ghost use Rattle.request_frames.specs.Added.{with_added as added_of, with_retire
 ghost use Rattle.request_frames.specs.Drafts.{plan_of, pool_size, IsKept};
 
 use crate::draft::BatchDraft;
+use crate::key_lines::{read_key, read_rand};
+use crate::key_words::KeyWord;
 use crate::words::{CallWord, ContextWord, LineWord};
 use crate::{call_lines, contexts, names};
 use batch_plans::CallLine;
 use batch_plans::limits::{MOST_CONTEXTS, MOST_KEYS};
 use field_text::{Pieces, Reason, Stop};
-use key_frames::{KeyWord, read_key, read_rand};
 
 impl BatchDraft {
     // A call of the open lane, where the counts are within their limits with it.

@@ -6,13 +6,14 @@ ghost use Rattle.request_frames.specs.LineParts.{shared_parts as shared_parts_of
 ghost use Rattle.request_frames.specs.Forms.{schedule as schedule_of, share as share_of};
 ghost use Rattle.request_frames.specs.Forms.{send as send_of, recv as recv_of, context as context_of};
 
+use crate::key_words::read_kdf;
+use crate::messages::read_message;
 use crate::words;
 use crate::words::ContextWord;
 use batch_plans::limits::MOST_FIELD;
 use batch_plans::{ContextKind, ContextLine};
 use field_text::{Pieces, Reason, Stop};
 use hkdf_labelled::{Aead, Kdf};
-use key_frames::{read_kdf, read_message};
 use key_schedule::Role;
 
 // `MODE INFO PSK PSKID LIMIT`, behind what the line says before.

@@ -10,7 +10,7 @@ ghost use Rattle.reply_texts.specs.ReplyText.{guess_line, answered_lines};
 
 use crate::reply_lines::{put_batch, put_reply};
 use batch_io::Sink;
-use batch_plans::{Batch, CallLine, LaneAnswers, Reply};
+use batch_plans::{Batch, CallLine, LaneAnswers, Reply, items_of, keeps_guess};
 use field_text::Buffer;
 
 // Each call takes its replies from those that are left, and an opening that was served its guess.
@@ -67,9 +67,10 @@ pub fn guesses_of<'a>(
 pub fn reply_count(call: &CallLine, replies: &[Reply]) -> usize
     ensures { result ≡ reply_count call.now (slice_get replies.now 0) }
 {
-    match *call {
-        CallLine::UnsealAll { count, .. } if !is_refused(replies) => count as usize,
-        _ => 1,
+    if is_refused(replies) {
+        1
+    } else {
+        items_of(call) as usize
     }
 }
 
@@ -77,10 +78,7 @@ pub fn reply_count(call: &CallLine, replies: &[Reply]) -> usize
 fn batch_count(call: &CallLine, replies: &[Reply]) -> usize
     ensures { result ≡ batch_count call.now (slice_get replies.now 0) }
 {
-    match *call {
-        CallLine::UnsealAll { .. } if !is_refused(replies) => 1,
-        _ => 0,
-    }
+    usize::from(keeps_guess(call) && !is_refused(replies))
 }
 
 // Whether the next reply is a refusal.

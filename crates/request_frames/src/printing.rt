@@ -13,12 +13,12 @@ ghost use Rattle.reply_texts.specs.ReplyText.{has_stamps, mark_line, journal_lin
 ghost use Rattle.reply_texts.specs.ReplyText.{answers_text, bad_text, IsAnswered};
 
 use crate::lane_replies::put_calls;
+use crate::replies::put_keys;
 use crate::reply_lines::{put_bad, put_context_line, put_mark, put_numbered, put_reply};
 use batch_io::Sink;
 use batch_plans::{Answers, CallLine, ContextReply, KeyReply, LaneAnswers, PlainList, Plan, Reply};
 use call_places::Mark;
 use field_text::{BadBatch, Buffer, Printed};
-use key_frames::put_keys;
 
 /// Writes the reply to a batch: its keys, its contexts, its lanes and its journals.
 ///

@@ -7,15 +7,16 @@ ghost use Rattle.field_text.specs.Printing.{Puts};
 ghost use Rattle.reply_texts.specs.Lines.{context_words, context_line};
 ghost use Rattle.reply_texts.specs.Lines.{served_line, exported_line, refused_line, reply_line};
 ghost use Rattle.reply_texts.specs.ReplyText.{guess_line, stamp_words, mark_line, bad_text};
+ghost use Rattle.reply_texts.specs.LiveText.{tells_live as live_test, bit as bit_of, note_line};
 
 use crate::reply_words::{word_of_call_refusal, word_of_context_refusal, word_of_reason};
 use batch_io::Sink;
 use batch_plans::{Batch, CallRefusal, ContextReply, Reply};
-use call_places::{Mark, Place};
+use call_places::{Entry, Mark, Place, Step};
 use field_text::{BadBatch, Buffer};
 
-/// Puts a line of a word and a number.
-pub(crate) fn put_numbered<K: Sink>(out: &mut Buffer, sink: &mut K, word: &[u8], number: u64)
+/// Puts a line of a word and a number behind what is in the buffer.
+pub fn put_numbered<K: Sink>(out: &mut Buffer, sink: &mut K, word: &[u8], number: u64)
     ensures { Puts K.written K.faults sink.old sink.new out.old out.new
         (word.now ++ decimal number ++ codes "\n") }
 {
@@ -156,6 +157,36 @@ fn put_stamp<K: Sink>(out: &mut Buffer, sink: &mut K, stamps: bool, stamp: u64)
     }
     out.put_text(sink, b" ");
     out.put_number(sink, stamp)
+}
+
+/// Puts the line of a note of the table behind what is in the buffer.
+pub fn put_note<K: Sink>(out: &mut Buffer, sink: &mut K, note: &Entry)
+    ensures { Puts K.written K.faults sink.old sink.new out.old out.new (note_line note.now) }
+{
+    out.put_number(sink, note.place.lane as u64);
+    out.put_text(sink, b" ");
+    out.put_number(sink, note.place.call as u64);
+    out.put_text(sink, b" ");
+    out.put_number(sink, bit(tells_live(note.step)));
+    out.put_text(sink, b" ");
+    out.put_number(sink, note.stamp);
+    out.put_text(sink, b"\n")
+}
+
+/// Whether the name of a note was live; no other step tells it.
+pub fn tells_live(step: Step) -> bool
+    ensures { result ≡ live_test step }
+{
+    match step {
+        Step::Note { live, .. } => live,
+        _ => false,
+    }
+}
+
+fn bit(live: bool) -> u64
+    ensures { result ≡ bit_of live }
+{
+    if live { 1 } else { 0 }
 }
 
 pub(crate) fn put_bad<K: Sink>(out: &mut Buffer, sink: &mut K, bad: &BadBatch)

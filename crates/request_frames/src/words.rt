@@ -7,9 +7,10 @@ ghost use Rattle.request_frames.specs.Words.{set_up_words, lane_words, word_amon
 ghost use Rattle.request_frames.specs.Words.{line_word as line_word_of, role as role_of};
 ghost use Rattle.request_frames.specs.Words.{mode as mode_of, aead as aead_field};
 
+use crate::key_words::KeyWord;
+use batch_plans::KeySet;
 use field_text::{Pieces, Reason, read_number};
 use hkdf_labelled::Aead;
-use key_frames::KeyWord;
 use key_schedule::{Mode, Role};
 
 /// The first word of a line, other than `end`, by what the line is for.
@@ -81,11 +82,11 @@ fn common_word(piece: &[u8]) -> Result<LineWord, Reason>
     if is_word(piece, b"rand") {
         Ok(LineWord::Rand)
     } else if is_word(piece, b"keygen") {
-        Ok(LineWord::Key(KeyWord::Generate))
+        Ok(LineWord::Key(KeyWord::Generate(KeySet::Sntrup761)))
     } else if is_word(piece, b"secret") {
-        Ok(LineWord::Key(KeyWord::Secret))
+        Ok(LineWord::Key(KeyWord::Secret(KeySet::Sntrup761)))
     } else if is_word(piece, b"peer") {
-        Ok(LineWord::Key(KeyWord::Peer))
+        Ok(LineWord::Key(KeyWord::Peer(KeySet::Sntrup761)))
     } else if is_word(piece, b"share") {
         Ok(LineWord::Context(ContextWord::Share))
     } else if is_word(piece, b"send") {
@@ -104,11 +105,11 @@ pub fn line_word(version: u8, piece: &[u8]) -> Result<LineWord, Reason>
     if version != 2 {
         common_word(piece)
     } else if is_word(piece, b"keygen857") {
-        Ok(LineWord::Key(KeyWord::Generate857))
+        Ok(LineWord::Key(KeyWord::Generate(KeySet::Sntrup857)))
     } else if is_word(piece, b"secret857") {
-        Ok(LineWord::Key(KeyWord::Secret857))
+        Ok(LineWord::Key(KeyWord::Secret(KeySet::Sntrup857)))
     } else if is_word(piece, b"peer857") {
-        Ok(LineWord::Key(KeyWord::Peer857))
+        Ok(LineWord::Key(KeyWord::Peer(KeySet::Sntrup857)))
     } else {
         common_word(piece)
     }

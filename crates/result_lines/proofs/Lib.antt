@@ -14,3 +14,16 @@ pub mod TookLive
 pub mod GaveLive
 pub mod TableText
 pub mod BackLive
+pub mod Limited
+pub mod RunTexts
+pub mod RightGuesses
+pub mod ReplyLines
+pub mod DueReplies
+pub mod Counting
+pub mod SameJournals
+pub mod LegalJournals
+pub mod LegalTexts
+pub mod LookedLimits
+pub mod LiveLines
+pub mod LiveLegal
+pub mod LiveTexts

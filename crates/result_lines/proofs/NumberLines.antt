@@ -13,7 +13,7 @@ use Rattle.std.proofs.lemmas.Slice.Eq.{bytes_eq-Decides}
 use Rattle.std.proofs.lemmas.Str.Parse.{numerals_by_value, tells_digits, digit_from_value}
 use Rattle.field_text.proofs.SpelledLines.{no_piece}
 use Rattle.call_places.specs.declared.entries.Mark.{Mark}
-use Rattle.decimal_text.specs.Decimals.{is_decimal, is_from_to}
+use Rattle.byte_strings.specs.Decimals.{is_decimal, is_from_to}
 use Rattle.field_text.specs.declared.reasons.Reason.{Reason}
 use Rattle.field_text.specs.declared.reasons.Reason.TheVariants.{Word, Fields, Number, Range}
 use Rattle.field_text.specs.Cuts.{pieces_of}
@@ -22,8 +22,8 @@ use Rattle.field_text.specs.Fields.{◌>>=◌, number, next, exactly}
 use Rattle.field_text.proofs.Spellings.{joined, step_ok, next_ok, exactly_ok, number_ok, ok_same}
 use Rattle.batch_plans.specs.Limits.{most_opening}
 use Rattle.batch_plans.specs.declared.replies.Batch.{Batch}
-use Rattle.legal_journals.specs.Batches.{place}
-use Rattle.legal_journals.specs.Histories.{mark}
+use Rattle.context_books.specs.Batches.{place}
+use Rattle.context_books.specs.Histories.{mark}
 use Rattle.reply_texts.specs.ReplyText.{guess_line, mark_line, stamp_words}
 use Rattle.result_lines.specs.declared.stamps.Stamps.{Stamps}
 use Rattle.result_lines.specs.declared.stamps.Stamps.TheVariants.{Unprinted, Places, PlacesAndNotes}

@@ -7,8 +7,8 @@ use Rattle.field_text.specs.declared.reasons.Reason.{Reason}
 use Rattle.field_text.specs.declared.reasons.Reason.TheVariants.{Word}
 use Rattle.field_text.specs.Cuts.{pieces_of}
 use Rattle.field_text.specs.Fields.{◌>>=◌, next, exactly, number}
-use Rattle.legal_journals.specs.Batches.{place}
-use Rattle.legal_journals.specs.Histories.{mark}
+use Rattle.context_books.specs.Batches.{place}
+use Rattle.context_books.specs.Histories.{mark}
 use Rattle.batch_plans.specs.Limits.{most_opening}
 use Rattle.batch_plans.specs.declared.replies.Batch.{Batch}
 use Rattle.result_lines.specs.declared.stamps.Stamps.{Stamps}

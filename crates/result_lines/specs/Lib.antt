@@ -5,3 +5,11 @@ pub mod Printed
 pub mod Tables
 pub mod ToldLive
 pub mod PrintedLive
+pub mod Journals
+pub mod Replies
+pub mod Guesses
+pub mod Verdicts
+pub mod LiveVerdicts
+pub mod OneRun
+pub mod VerdictText
+pub mod Opened

@@ -10,7 +10,7 @@ use Rattle.hpke_context.specs.Contexts.{ContextView}
 use Rattle.field_text.specs.declared.reasons.Reason.{Reason}
 use Rattle.field_text.specs.Cuts.{lines_of, pieces_of}
 use Rattle.field_text.specs.Fields.{◌>>=◌, next, exactly, number}
-use Rattle.legal_journals.specs.Batches.{place}
+use Rattle.context_books.specs.Batches.{place}
 use Rattle.batch_plans.specs.declared.plan.Plan.{Plan}
 use Rattle.due_replies.specs.Live.{Noting, noting_in}
 use Rattle.result_lines.specs.declared.stamps.Stamps.TheVariants.{PlacesAndNotes}

@@ -9,7 +9,6 @@ ghost use Rattle.result_lines.specs.Places.{Tells};
 ghost use Rattle.result_lines.specs.Told.{with_lines, with_setup, nothing_yet};
 ghost use Rattle.result_lines.specs.ToldLive.{with_added_journals, with_all_journals, told_live_by};
 
-use crate::due_lines::note_line;
 use crate::reading::{read_journals, read_lanes, read_setup};
 use crate::stamps::Stamps;
 use crate::stop::Stop;
@@ -17,6 +16,7 @@ use crate::told::Told;
 use batch_plans::{CallLine, ContextLine, ContextReply, KeyReply, PlainList, Plan};
 use call_places::Entry;
 use hpke_context::Context;
+use request_frames::note_line;
 use std::alloc::Global;
 
 // The journals of contexts that are added.

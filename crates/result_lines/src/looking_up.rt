@@ -3,8 +3,8 @@
 ghost use Rattle.std.specs.Prelude.{◌≡◌, ◌<◌, ℕ, ◌==◌, ◌||◌, ◌&&◌, nat_lt, false, length};
 ghost use Rattle.std.specs.Prelude.{if◌then◌else◌};
 ghost use Rattle.std.specs.Prelude.{slice_index_or, IfOk};
-ghost use Rattle.legal_journals.specs.Batches.{place};
-ghost use Rattle.legal_journals.specs.Legal.{is_same_place};
+ghost use Rattle.context_books.specs.Batches.{place};
+ghost use Rattle.context_books.specs.Legal.{is_same_place};
 ghost use Rattle.reply_texts.specs.LiveText.{tells_live as tells_live_of};
 ghost use Rattle.batch_plans.specs.Calls.{context_of as context_of_call};
 ghost use Rattle.batch_plans.specs.Limits.{IsWithinLimits, first_name};
@@ -12,9 +12,9 @@ ghost use Rattle.batch_plans.specs.Names.{at_position};
 ghost use Rattle.reply_texts.specs.ReplyText.{numbered};
 ghost use Rattle.due_replies.specs.Live.{was_live, looked_up as looked_up_call, looked_up_plan};
 
-use crate::due_lines::tells_live;
 use batch_plans::{CallLine, FIRST_NAME, LaneLines, PlainList, Plan, context_of};
 use call_places::Entry;
+use request_frames::tells_live;
 use std::alloc::{AllocError, Global};
 
 // Puts down that a call's name was live.
@@ -59,8 +59,9 @@ pub fn live_calls(
     Ok(live)
 }
 
-// A call as it is served, where a note of it tells whether its name was live.
-fn looked_up(plan: &Plan, call: &CallLine, live: bool) -> CallLine
+/// A call as it is served, where a note of it tells whether its name was live: on the place of its
+/// context, but for one on a name that wasn't live. That keeps its number, which no context has.
+pub fn looked_up(plan: &Plan, call: &CallLine, live: bool) -> CallLine
     requires { IsWithinLimits plan.now }
     ensures { result ≡ (if nat_lt (context_of_call call.now) first_name || live
         then at_position plan.now call.now else call.now) }

@@ -9,12 +9,12 @@ ghost use Rattle.result_lines.specs.Places.{Tells};
 ghost use Rattle.result_lines.specs.Told.{with_lines, with_setup, with_lanes, with_journals};
 ghost use Rattle.result_lines.specs.Told.{nothing_yet, told_by};
 
-use crate::due_lines::{context_line, key_line};
 use crate::stamps::Stamps;
 use crate::stop::Stop;
 use crate::told::Told;
 use batch_plans::{CallLine, ContextLine, ContextReply, KeyReply, PlainList, Plan};
 use hpke_context::Context;
+use request_frames::{context_line, key_line};
 use std::alloc::Global;
 
 // The lines of the keys.

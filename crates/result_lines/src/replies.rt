@@ -37,7 +37,7 @@ impl<'a> Replies<'a> {
     pub fn take(&mut self) -> Option<ReplyLine<'a>>
         ensures some { IfSome result (λ reply.
             self.old ≡ record { number = reply.number; line = reply.line.now } ∷ self.new) }
-        ensures none { IfNone result (self.old ≡ []) }
+        ensures none { IfNone result ((self.old ≡ []) × (self.new ≡ [])) }
     {
         if self.next >= self.replies.len() {
             return None;

@@ -5,7 +5,7 @@ ghost use Rattle.result_lines.specs.declared.stop.Stop.TheVariants.{OutOfMemory}
 
 use std::alloc::{AllocError, AllocFailed};
 
-/// Why a result was not read.
+/// Why a result was not read to its end, or its replies not compared to theirs.
 #[derive(Debug, Drop)]
 pub enum Stop {
     /// There is no memory for what the line tells.

@@ -30,11 +30,11 @@ pub struct NoteLine {
     pub stamp: u64,
 }
 
-// What a call does, and to which name.
+/// What a call does, and to which name.
 #[derive(Drop)]
-struct NamedAct {
-    act: Act,
-    name: u32,
+pub struct NamedAct {
+    pub act: Act,
+    pub name: u32,
 }
 
 impl Model for NamedAct {
@@ -141,7 +141,9 @@ fn adding(plan: &Plan, contexts: &[Option<Context>], name: u32) -> Option<NamedA
     }
 }
 
-fn noting(plan: &Plan, contexts: &[Option<Context>], call: &CallLine) -> Option<NamedAct>
+/// What the note of a call tells, if the call has one: it looks up or retires a name that a line adds,
+/// or adds a context that stands.
+pub fn noting(plan: &Plan, contexts: &[Option<Context>], call: &CallLine) -> Option<NamedAct>
     requires { IsWithinLimits plan.now }
     ensures { result ≡ noting_of_call plan.now contexts.now call.now }
 {

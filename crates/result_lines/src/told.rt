@@ -9,7 +9,6 @@ ghost use Rattle.result_lines.specs.Told.{lane_ended, with_lane, with_journal, w
 ghost use Rattle.result_lines.specs.ToldLive.{with_added_journal};
 ghost use Rattle.batch_plans.specs.Limits.{most_input};
 
-use crate::due_lines::numbered;
 use crate::lines::{JournalLines, Lines};
 use crate::replies::Replies;
 use crate::stamps::Stamps;
@@ -17,6 +16,7 @@ use crate::stop::Stop;
 use batch_plans::{Batch, CallLine, PlainList};
 use due_replies::refusal_of;
 use hpke_context::Context;
+use request_frames::numbered_line;
 use std::alloc::Global;
 use std::marker::Model;
 use std::mem;
@@ -124,7 +124,7 @@ impl<'a> Told<'a> {
         ensures { Tells (λ _. self.new) result
             (with_line (word.now ++ decimal number ++ codes "\n") self.old) }
     {
-        let line = numbered(alloc, word, number, b'\n')?;
+        let line = numbered_line(alloc, word, number)?;
         self.expect(&line)
     }
 

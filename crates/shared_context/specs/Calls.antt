@@ -6,13 +6,13 @@ use Rattle.call_places.specs.Entries.{seq_of}
 use Rattle.turn_lock.specs.Passes.{LockId, PassView, AddedByOthers, next_after}
 use Rattle.stamp_counter.specs.Seats.{SeatView}
 use Rattle.hpke_context.specs.Contexts.{ContextView}
-use Rattle.legal_journals.specs.Batches.{place}
-use Rattle.legal_journals.specs.Entries.{entry, entries_from}
+use Rattle.context_books.specs.Batches.{place}
+use Rattle.context_books.specs.Entries.{entry, entries_from}
 use Rattle.context_books.specs.Books.{drawn_step}
 use Rattle.context_books.specs.declared.book.Draw.{Draw}
 use Rattle.context_books.specs.declared.book.Draw.TheVariants.{Number, Limit}
-use Rattle.stamped_lists.specs.Stamps.{ComesAfter}
-pub use Rattle.stamped_lists.specs.Turns.{MayCall, IsAfter}
+use Rattle.stamp_counter.specs.Stamps.{ComesAfter}
+pub use Rattle.stamp_counter.specs.Turns.{MayCall, IsAfter}
 
 -- a context, the lock round its book, and how many passes there are
 pub record SharedView : Type 0 where

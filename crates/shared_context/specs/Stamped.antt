@@ -2,7 +2,7 @@
 use Rattle.call_places.specs.declared.listed.Terms.{Terms}
 use Rattle.stamp_counter.specs.Seats.{SeatView}
 use Rattle.context_books.specs.Books.{BookView}
-pub use Rattle.stamped_lists.specs.Stamps.{IsNote, ComesAfter}
+pub use Rattle.stamp_counter.specs.Stamps.{IsNote, ComesAfter}
 
 -- what is under the lock of a context
 pub record StampedView : Type 0 where

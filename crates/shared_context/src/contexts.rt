@@ -6,8 +6,8 @@ ghost use Rattle.hpke_context.specs.Contexts.{CanSeal, CanOpen};
 ghost use Rattle.turn_lock.specs.Passes.{fresh_from, AllOf, IsShown, NoOthers};
 ghost use Rattle.call_places.specs.Spans.{ItemIsInPool};
 ghost use Rattle.context_books.specs.Openings.{opening_steps, opening_misses, IsTableFor};
-ghost use Rattle.stamped_lists.specs.Stamps.{IsNote};
-ghost use Rattle.stamped_lists.specs.Turns.{MayCall};
+ghost use Rattle.stamp_counter.specs.Stamps.{IsNote};
+ghost use Rattle.stamp_counter.specs.Turns.{MayCall};
 ghost use Rattle.shared_context.specs.Calls.{HasDrawn, HasPeeked, HasCommitted};
 
 use crate::stamped::StampedBook;

@@ -3,11 +3,11 @@
 ghost use Rattle.std.specs.Prelude.{ℕ, ◌≡◌, ◌↔◌, ◌+◌, ◌<◌, ◌≤◌, ◌^◌, ◌++◌, ◌∷◌, [], All, length, slice_index, sum};
 ghost use Rattle.call_places.specs.Entries.{own, seq_of};
 ghost use Rattle.hpke_context.specs.Contexts.{HasCipher};
-ghost use Rattle.legal_journals.specs.Entries.{entry, entries_from};
+ghost use Rattle.context_books.specs.Entries.{entry, entries_from};
 ghost use Rattle.call_places.specs.Spans.{ItemIsInPool};
 ghost use Rattle.context_books.specs.Books.{drawn_step};
 ghost use Rattle.context_books.specs.Openings.{opening_steps, opening_misses, IsTableFor};
-ghost use Rattle.stamped_lists.specs.Stamps.{IsStamped, IsNote, ComesAfter};
+ghost use Rattle.stamp_counter.specs.Stamps.{IsStamped, IsNote, ComesAfter};
 ghost use Rattle.shared_context.specs.Stamped.{terms_of};
 
 use aes_gcm::Checks;
@@ -15,8 +15,7 @@ use call_places::{Entry, Item, Listed, Place, Step};
 use context_books::{Book, Draw};
 use hpke_context::Context;
 use speculative_open::GuessTable;
-use stamp_counter::{StampCounter, StampSeat};
-use stamped_lists::draw_stamps;
+use stamp_counter::{StampCounter, StampSeat, draw_stamps};
 use std::marker::Model;
 
 /// A book with the seat that its stamps are drawn from. Contracts see both: the seat has drawn the
@@ -28,7 +27,7 @@ pub struct StampedBook {
 }
 
 impl Model for StampedBook {
-    ghost use Rattle.stamped_lists.specs.Stamps.{IsStamped};
+    ghost use Rattle.stamp_counter.specs.Stamps.{IsStamped};
     ghost use Rattle.shared_context.specs.Stamped.{StampedView};
 
     ghost Value = { StampedView };

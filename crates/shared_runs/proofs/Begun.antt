@@ -4,15 +4,14 @@ use Rattle.std.specs.Prelude.{sum}
 use Rattle.std.specs.List.{range_with_len}
 use Rattle.std.proofs.lemmas.Bool.{cases_lt}
 use Rattle.std.proofs.lemmas.List.{length-map, get_or-map, get_or_past, ext_get_or}
-use Rattle.std.proofs.lemmas.List.FromFn.{get_or-map-range_with_len, length-map-range_with_len}
 use Rattle.turn_lock.specs.Passes.{PassListView, fresh_from}
 use Rattle.hpke_context.specs.Contexts.{ContextView}
 use Rattle.shared_context.specs.Calls.{SharedView}
 use Rattle.batch_plans.specs.declared.plan.Plan.{Plan}
 use Rattle.batch_plans.specs.Limits.{IsWithinLimits}
 use Rattle.due_replies.specs.Standing.{standing_at}
-use Rattle.lane_quotas.specs.Quotas.{lane_quota, quotas_on, all_quotas}
-use Rattle.lane_quotas.proofs.Counts.{all_quotas_few}
+use Rattle.lane_replies.specs.Quotas.{lane_quota, quotas_on, all_quotas}
+use Rattle.lane_replies.proofs.Counts.{all_quotas_few, quotas_at}
 use Rattle.lane_workers.specs.Handing.{list_at}
 use Rattle.lane_workers.specs.Turns.{shared_at, view_in, views}
 use Rattle.shared_runs.specs.Sharing.{IsSharedBy, Shares, SharesEach}
@@ -21,15 +20,6 @@ use Rattle.shared_runs.specs.Tables.{AreLeft}
 -- ---- quotas
 
 module _ (plan : Plan) (contexts : List (Option ContextView)) where
-  pub quotas_at : (number : ℕ) → number < length contexts
-      → get_or (all_quotas plan contexts) number [] ≡ quotas_on plan contexts number
-  quotas_at number low =
-      get_or-map-range_with_len (quotas_on plan contexts) 0 (length contexts) number number [] low
-      (omega arith)
-
-  pub quotas_count : length (all_quotas plan contexts) ≡ length contexts
-  quotas_count = length-map-range_with_len (quotas_on plan contexts) 0 (length contexts)
-
   pub lanes_count : (number : ℕ) → length (quotas_on plan contexts number) ≡ length plan.lanes
   lanes_count number = length-map plan.lanes (lane_quota plan contexts number)
 

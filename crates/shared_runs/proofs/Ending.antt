@@ -14,15 +14,14 @@ use Rattle.call_places.specs.Entries.{mark_of, stamps_of}
 use Rattle.turn_lock.specs.Passes.{PassView}
 use Rattle.hpke_context.specs.Contexts.{ContextView}
 use Rattle.context_books.specs.Books.{BookView}
-use Rattle.gathered_lanes.specs.Lanes.{Closes}
+use Rattle.lane_workers.specs.Showing.{Closes}
 use Rattle.batch_plans.specs.declared.plan.Plan.{Plan}
 use Rattle.batch_plans.specs.declared.plan.CallLine.{CallLine}
 use Rattle.batch_plans.specs.declared.replies.LaneAnswers.{LaneAnswers}
-use Rattle.batch_plans.specs.Calls.{all_items_on}
+use Rattle.batch_plans.specs.Room.{all_items_on, journal_room}
 use Rattle.batch_plans.specs.Replies.{IsPrintable}
-use Rattle.batch_plans.specs.Room.{journal_room}
 use Rattle.due_replies.specs.Standing.{export_limits}
-use Rattle.lane_quotas.specs.Quotas.{lane_quota, quotas_on}
+use Rattle.lane_replies.specs.Quotas.{lane_quota, quotas_on}
 use Rattle.lane_workers.specs.Gathered.{no_answers, AllLanesServed, AllClosed}
 use Rattle.lane_workers.specs.Served.{seen_of}
 use Rattle.lane_workers.specs.Turns.{views}

@@ -3,7 +3,7 @@ use Rattle.std.proofs.Common.{◌≡◌, ◌≢◌, ◌==◌, true, false, ℕ, 
 use Rattle.std.specs.Prelude.{◌⊎◌, slice_get}
 use Rattle.std.proofs.lemmas.Bool.Decides.{nat_tests}
 use Rattle.std.proofs.lemmas.List.{length-map, get_or-map, nil_from_length}
-use Rattle.legal_journals.proofs.Lists.{is_cases}
+use Rattle.context_books.proofs.Lists.{is_cases}
 use Rattle.shared_runs.specs.Serving.{InOrder}
 
 pub at_front : {X : Type 0} (xs ys : List X) (d : X) (k : ℕ) → k < length xs

@@ -9,7 +9,7 @@ use Rattle.call_places.specs.Entries.{stamps_of, StampsRise}
 use Rattle.call_places.specs.Notes as notes
 use Rattle.turn_lock.specs.Passes.{PassView, IsShown, NoOthers}
 use Rattle.stamp_counter.specs.Seats.{SeatView}
-use Rattle.gathered_lanes.specs.Lanes.{Closes}
+use Rattle.lane_workers.specs.Showing.{Closes}
 use Rattle.batch_plans.specs.declared.replies.LaneAnswers.{LaneAnswers}
 use Rattle.lane_workers.specs.LiveGathered.{AllLiveClosed}
 use Rattle.lane_workers.specs.Served.{seen_of, seen_by}

@@ -23,12 +23,8 @@ place_count lane number None = refl
 place_count lane number (Some n) = refl
 
 some_item : (items pool : ℕ) (call : CallLine) → IsCallWithin items pool call → 1 ≤ items_of call
-some_item items pool (calls.Seal context item) within = omega arith
-some_item items pool (calls.Unseal context item) within = omega arith
 some_item items pool (calls.UnsealAll context first count) within = within.1
-some_item items pool (calls.Export context exporter size) within = omega arith
-some_item items pool (calls.Add name) within = omega arith
-some_item items pool (calls.Retire name) within = omega arith
+some_item items pool call within = omega arith
 
 -- a lane has no more calls than items
 lane_calls_few : (items pool : ℕ) (calls : List CallLine) → All (IsCallWithin items pool) calls

@@ -6,8 +6,8 @@ use Rattle.call_places.specs.declared.listed.Terms.{Terms}
 use Rattle.stamp_counter.specs.Seats.{CounterView}
 use Rattle.batch_plans.specs.declared.plan.Plan.{Plan}
 use Rattle.batch_plans.specs.Limits.{IsWithinLimits}
-use Rattle.lane_quotas.specs.Quotas.{lane_quota}
-use Rattle.lane_quotas.proofs.Places.{quota_is}
+use Rattle.lane_replies.specs.Quotas.{lane_quota}
+use Rattle.lane_replies.proofs.Places.{quota_is}
 use Rattle.lane_workers.specs.declared.works.LaneWork.{LaneWork}
 use Rattle.lane_workers.specs.Groups.{IsServed, Each, EachServed, AllServed}
 use Rattle.lane_replies.specs.LaneCalls.{lane_calls}

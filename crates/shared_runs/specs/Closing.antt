@@ -7,11 +7,11 @@ use Rattle.turn_lock.specs.Passes.{PassView, PassListView, AllOf, IsShown, NoOth
 use Rattle.stamp_counter.specs.Seats.{SeatView}
 use Rattle.context_books.specs.Books.{BookView}
 use Rattle.shared_context.specs.Calls.{SharedView}
-use Rattle.gathered_lanes.specs.Lanes.{Closes}
+use Rattle.lane_workers.specs.Showing.{Closes}
 use Rattle.lane_workers.specs.Served.{seen_of}
 use Rattle.lane_workers.specs.Turns.{views}
 use Rattle.shared_runs.specs.declared.tables.Table.{Table}
-use Rattle.lane_quotas.specs.Quotas.{quotas_on}
+use Rattle.lane_replies.specs.Quotas.{quotas_on}
 use Rattle.shared_runs.specs.Tables.{planned}
 use Rattle.shared_runs.specs.Collected.{passes_of}
 

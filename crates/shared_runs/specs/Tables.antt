@@ -17,7 +17,7 @@ use Rattle.lane_workers.specs.Groups.{IsFresh, IsDone}
 use Rattle.lane_workers.specs.Handing.{list_at}
 use Rattle.lane_workers.specs.Served.{seen_of}
 use Rattle.lane_workers.specs.Turns.{shared_at, pass_at, views}
-use Rattle.lane_quotas.specs.Quotas.{quotas_on, all_quotas}
+use Rattle.lane_replies.specs.Quotas.{quotas_on, all_quotas}
 use Rattle.shared_runs.specs.declared.tables.Table.{Table}
 use Rattle.shared_runs.specs.declared.tables.Left.{Left}
 use Rattle.shared_runs.specs.Sharing.{IsSharedBy}

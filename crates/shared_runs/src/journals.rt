@@ -7,7 +7,7 @@ ghost use Rattle.shared_runs.specs.Closing.{entries_of};
 use batch_plans::PlainList;
 use call_places::Mark;
 use context_books::Book;
-use lane_quotas::write_journals;
+use lane_replies::write_journals;
 
 // How many places a context has in its journal.
 fn place_count(book: &Option<Book>) -> usize

@@ -5,7 +5,7 @@ ghost use Rattle.batch_plans.specs.Limits.{IsWithinLimits, first_name, most_cont
 ghost use Rattle.lane_workers.specs.LiveLanes.{AddsOneOf};
 ghost use Rattle.shared_runs.specs.Noting.{notes_of, note_quota, note_quotas};
 
-use batch_plans::{CallLine, FIRST_NAME, Plan};
+use batch_plans::{CallLine, FIRST_NAME, Plan, context_of};
 use due_replies::standing;
 use hpke_context::Context;
 use std::alloc::{AllocError as OutOfMemory, Global};
@@ -25,15 +25,12 @@ fn notes_of(plan: &Plan, contexts: &[Option<Context>], call: &CallLine) -> u32
     ensures { result ≡ notes_of plan.now contexts.now call.now }
 {
     let noted = match *call {
-        CallLine::Seal { context, .. }
-        | CallLine::Unseal { context, .. }
-        | CallLine::UnsealAll { context, .. }
-        | CallLine::Export { context, .. } => is_name(plan, context),
         CallLine::Add { name } => {
             let lines = plan.contexts.as_slice().len() as u32 - plan.added;
             standing(contexts, lines + name).is_some()
         }
         CallLine::Retire { name } => name < plan.added,
+        _ => is_name(plan, context_of(call)),
     };
     u32::from(noted)
 }

@@ -9,7 +9,7 @@ ghost use Rattle.hpke_context.specs.Contexts.{ContextView};
 ghost use Rattle.batch_plans.specs.declared.plan.Plan.{Plan};
 ghost use Rattle.batch_plans.specs.declared.replies.Answers.{Answers};
 ghost use Rattle.batch_plans.specs.declared.replies.LaneAnswers.{LaneAnswers};
-ghost use Rattle.batch_plans.specs.Calls.{all_items_on};
+ghost use Rattle.batch_plans.specs.Room.{all_items_on};
 ghost use Rattle.batch_plans.specs.Room.{lane_room, room_for};
 ghost use Rattle.due_replies.specs.Standing.{export_limits};
 ghost use Rattle.lane_replies.specs.LaneCalls.{lane_calls};

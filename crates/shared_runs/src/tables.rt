@@ -12,7 +12,7 @@ ghost use Rattle.shared_runs.specs.Collected.{ArePassesOf, AreBack};
 use crate::sharing::{share_all, shares};
 use batch_plans::{LaneLines, PlainList, Plan};
 use hpke_context::Context;
-use lane_quotas::all_quotas;
+use lane_replies::all_quotas;
 use lane_workers::{LanePasses, SharedList, put_passes, take_passes};
 use stamp_counter::{StampCounter, StampSeat};
 use std::alloc::{AllocError as OutOfMemory, Global};

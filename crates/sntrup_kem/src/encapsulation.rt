@@ -10,7 +10,8 @@ use crate::hashes::{hash_confirm, hash_session, key_hash};
 use crate::keys::{PublicKey, SecretKey};
 use crate::masks::{choose, difference, mask_of};
 use crate::params::KemParams;
-use radix_pack::{ByteList, rounded_decode, rounded_encode, rq_decode, small_decode, small_encode};
+use byte_strings::{ByteList, joined};
+use radix_pack::{rounded_decode, rounded_encode, rq_decode, small_decode, small_encode};
 use rand_words::{Words, short_random};
 use ring_core::{Multiplier, Params, Small};
 use sntrup_core::{PublicPoly, SecretPolys, decrypt, encrypt};
@@ -52,16 +53,6 @@ impl<S: KemParams> Enc<S> {
 pub(crate) struct Hidden {
     pub(crate) enc: ByteList,
     pub(crate) r_enc: ByteList,
-}
-
-// One string behind another.
-fn joined(alloc: Global, first: &[u8], second: &[u8]) -> Result<ByteList, OutOfMemory>
-    ensures { IfOk result (λ b. b ≡ first.now ++ second.now) }
-{
-    let mut bytes = Vec::new(alloc);
-    bytes.extend_from_slice(first)?;
-    bytes.extend_from_slice(second)?;
-    Ok(ByteList::from_vec(bytes))
 }
 
 // The coding of the ciphertext of r.

@@ -11,7 +11,8 @@ ghost use Rattle.sntrup_kem.specs.Kem.{word_bytes, drawn_rho, IsCodedKey, IsGene
 use crate::hashes::key_hash;
 use crate::keys::{PublicKey, SecretKey, small_size};
 use crate::params::KemParams;
-use radix_pack::{ByteList, rq_encode, small_encode};
+use byte_strings::{ByteList, PlainList};
+use radix_pack::{rq_encode, small_encode};
 use rand_words::Words;
 use ring_core::{Multiplier, Params};
 use sntrup_core::{KeyFault, PublicPoly, SecretPolys, keygen};
@@ -106,7 +107,7 @@ fn draw_rho<S: Params, R: Words>(alloc: Global, words: &mut R) -> Result<ByteLis
     let size = small_size::<S>();
     let mut bytes = draw_bytes(alloc, words, size.div_ceil(4))?;
     bytes.truncate(size);
-    Ok(ByteList::from_vec(bytes))
+    Ok(PlainList::from_vec(bytes))
 }
 
 // The parts of a secret key, one after the other.
@@ -122,7 +123,7 @@ fn secret_bytes(alloc: Global, key: &CodedKey, rho: &ByteList) -> Result<ByteLis
     bytes.extend_from_slice(key.public.as_slice())?;
     bytes.extend_from_slice(rho.as_slice())?;
     bytes.extend_from_slice(&key_hash(key.public.as_slice()))?;
-    Ok(ByteList::from_vec(bytes))
+    Ok(PlainList::from_vec(bytes))
 }
 
 /// KeyGen with rho (NTRU Prime round 3): a pair of keys from random words.

@@ -7,7 +7,8 @@ ghost use Rattle.sntrup_kem.specs.Faults.{fault_text};
 ghost use Rattle.sntrup_kem.specs.Kem.{f_part, ginv_part, public_part, rho_part, cache_part, HasMalformedPart};
 
 use crate::params::KemParams;
-use radix_pack::{ByteList, small_decode};
+use byte_strings::{ByteList, copied};
+use radix_pack::small_decode;
 use ring_core::Params;
 use std::alloc::{AllocError as OutOfMemory, Global};
 use std::error::Error;
@@ -53,13 +54,6 @@ impl From<OutOfMemory> for KeyBytesFault {
     fn from(_error: OutOfMemory) -> KeyBytesFault {
         KeyBytesFault::OutOfMemory
     }
-}
-
-// The same bytes in memory of their own.
-fn copied(alloc: Global, bytes: &[u8]) -> Result<ByteList, OutOfMemory>
-    ensures { IfOk result (λ b. b ≡ bytes.now) }
-{
-    Ok(ByteList::from_vec(Vec::from_slice(alloc, bytes)?))
 }
 
 /// A public key: the coding of h (NTRU Prime round 3, KeyGen), of `S::PUBLIC` bytes. Contracts see

@@ -5,3 +5,4 @@ pub mod Ends
 pub mod Apart
 pub mod Ids
 pub mod Dealing
+pub mod Stamping

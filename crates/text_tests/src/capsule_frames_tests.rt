@@ -125,14 +125,20 @@ fn replies_are_printed(rt: HostRuntime) -> Result<(), Fail> {
                 request: PlainList::from_vec(Vec::from_array(alloc, [1u8])?),
             },
             CapsuleReply::Answered {
-                text: KnownText::held_in(alloc, &[2u8], &[2u8])?,
+                text: KnownText::held_in(
+                    &[2u8],
+                    PlainList::from_vec(Vec::from_slice(alloc, &[2u8])?),
+                ),
                 response: PlainList::from_vec(Vec::from_array(alloc, [3u8])?),
             },
             CapsuleReply::Took {
                 text: KnownText::own(PlainList::from_vec(Vec::new(alloc))),
             },
             CapsuleReply::Took {
-                text: KnownText::held_in(alloc, &[4u8], &[5u8])?,
+                text: KnownText::held_in(
+                    &[4u8],
+                    PlainList::from_vec(Vec::from_slice(alloc, &[5u8])?),
+                ),
             },
             CapsuleReply::Refused(CapsuleRefusal::NonceSize),
         ],

@@ -1,5 +1,5 @@
 use crate::expected::{assert_at, assert_same};
-use decimal_text::{decimal_from_to, is_decimal, value_of};
+use byte_strings::{decimal_from_to, is_decimal, value_of};
 use std::test::Fail;
 
 // A number from 1 to 65,535 where the text writes one. All are own, by hand from the form.

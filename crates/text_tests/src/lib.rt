@@ -1,4 +1,4 @@
-//! Tests of the texts: of decimal_text, call_places, batch_io, field_text, request_frames (with
+//! Tests of the texts: of byte_strings, call_places, batch_io, field_text, request_frames (with
 //! batch_plans), live_frames, capsule_frames and batch_words, a module a crate.
 //!
 //! They are a crate of their own, so that each of those crates is proved without them, and use

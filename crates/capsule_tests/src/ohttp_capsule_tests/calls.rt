@@ -3,9 +3,9 @@
 ghost use Rattle.std.specs.Prelude.{◌≤◌, ◌^◌, length, IsTrue};
 ghost use Rattle.hpke_context.specs.Contexts.{encrypts};
 
+use byte_strings::ByteList;
 use hkdf_labelled::Suite;
 use ohttp_capsule::{Asked, CapsuleFault, answer, ask, take};
-use radix_pack::ByteList;
 use rand_words::SeedStream;
 use ring_core::Plain;
 use sntrup_kem::{KemParams, PublicKey, SecretKey, generate};

@@ -2,9 +2,9 @@
 
 use super::calls::{QUESTION, REPLY, answered, asked, keys_of, taken};
 use crate::expected::assert_same;
+use byte_strings::{ByteList, PlainList};
 use hkdf_labelled::{Aead, Kdf, Suite};
 use ohttp_capsule::{Asked, CapsuleFault};
-use radix_pack::ByteList;
 use ring_core::{Sntrup761, Sntrup857};
 use sntrup_kem::{KemParams, SecretKey};
 use std::alloc::Global;
@@ -27,7 +27,7 @@ fn spoil(rt: &impl Abort, alloc: Global, bytes: &[u8], case: &Spoilt) -> ByteLis
             copy[place] ^= mask;
         }
     }
-    ByteList::from_vec(copy)
+    PlainList::from_vec(copy)
 }
 
 // Of a request to key 7 of sntrup761 with HKDF-SHA256 and AES-128-GCM: 7 bytes of header, 1,039 of
@@ -267,7 +267,7 @@ fn responses_are_refused_by_the_first_cause(rt: HostRuntime) -> Result<(), Fail>
     }
     let other = Asked {
         context: asked.context,
-        enc: ByteList::from_vec(vec![in alloc; 0u8; 1_039]?),
+        enc: PlainList::from_vec(vec![in alloc; 0u8; 1_039]?),
     };
     assert_response_refused(&rt, alloc, &other, response.as_slice(), &WHOLE);
     Ok(())

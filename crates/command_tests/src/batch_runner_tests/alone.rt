@@ -1,15 +1,32 @@
 //! Rows that the calling thread serves alone: tests of batch_serving.
 
+use crate::batch_runner_tests::live::{ADDS, RETIRES};
 use crate::batch_runner_tests::other_runs::{BAD, OTHERS};
 use crate::batch_runner_tests::runs::{OPENINGS_AND_SCHEDULES, RUNS, Run};
 use crate::batch_runner_tests::words_of;
 use crate::expected::assert_same;
 use aes_gcm::MayCheck;
 use batch_io::MemorySink;
-use batch_serving::{Outcome, ThreadsNeeded, serve_alone};
+use batch_serving::{Outcome, serve_alone};
 use std::alloc::Global;
 use std::process::Abort;
+use std::test::Fail;
 use std::thread::Threads;
+
+// How the words end on an input, and what they write.
+fn served_alone<R: Abort + Threads>(
+    rt: &R,
+    alloc: Global,
+    words: &[&str],
+    input: &[u8],
+) -> (Outcome, MemorySink) {
+    let words = words_of(alloc, words).expect(rt, "memory");
+    let room = vec![in alloc; 0; 32_768].expect(rt, "memory");
+    let mut sink = MemorySink::new(room, 4096, Vec::new(alloc));
+    let permission = MayCheck::on_threads(rt);
+    let end = serve_alone(permission, alloc, &words, input, &mut sink);
+    (end, sink)
+}
 
 // The words end so on an input, and write this text.
 fn assert_alone<R: Abort + Threads>(
@@ -17,28 +34,23 @@ fn assert_alone<R: Abort + Threads>(
     alloc: Global,
     words: &[&str],
     input: &str,
-    end: Result<Outcome, ThreadsNeeded>,
+    end: Outcome,
     text: &str,
     name: &str,
 ) {
-    let words = words_of(alloc, words).expect(rt, "memory");
-    let room = vec![in alloc; 0; 32_768].expect(rt, "memory");
-    let mut sink = MemorySink::new(room, 4096, Vec::new(alloc));
-    let permission = MayCheck::on_threads(rt);
-    let got = serve_alone(permission, alloc, &words, input.as_bytes(), &mut sink);
+    let (got, sink) = served_alone(rt, alloc, words, input.as_bytes());
     assert_same(rt, got, end, name);
     assert_same(rt, sink.bytes(), text.as_bytes(), name);
 }
 
 fn assert_runs<R: Abort + Threads>(rt: &R, alloc: Global, runs: &[Run]) {
     for case in runs {
-        let done = Ok(Outcome::Done);
         assert_alone(
             rt,
             alloc,
             case.words,
             case.input,
-            done,
+            Outcome::Done,
             case.reply,
             case.source,
         );
@@ -51,29 +63,48 @@ fn the_calling_thread_writes_the_same_texts(rt: HostRuntime) {
     assert_runs(&rt, alloc, RUNS.as_slice());
     assert_runs(&rt, alloc, OPENINGS_AND_SCHEDULES.as_slice());
     for case in &BAD {
-        let bad = Ok(Outcome::BadBatch {
+        let bad = Outcome::BadBatch {
             line: case.line,
             reason: case.reason,
-        });
+        };
         assert_alone(&rt, alloc, &["run"], case.input, bad, case.reply, case.what);
     }
 }
 
 #[test]
-fn live_and_demo_need_threads(rt: HostRuntime) {
+fn the_calling_thread_obeys_each_command(rt: HostRuntime) {
     for case in &OTHERS {
-        let (end, text) = match case.words.first().copied() {
-            Some("live") | Some("demo") => (Err(ThreadsNeeded), ""),
-            _ => (Ok(case.outcome), case.text),
-        };
         assert_alone(
             &rt,
             rt.alloc(),
             case.words,
             case.input,
-            end,
-            text,
+            case.outcome,
+            case.text,
             case.source,
         );
     }
+}
+
+// Own, by hand: the journals and the table of `RETIRES` where lane 0 is served before lane 1. The notes
+// of lane 0 are before the place of its opening, and that of the retirement is the last stamp.
+const RETIRED_IN_ORDER: &str =
+    "\njournal 0\n1 0 0 3\njournal +0\n0 1 0 2\ntable\n0 0 0 0\n0 1 1 1\n1 1 1 4\nend\n";
+
+#[test]
+fn live_on_the_calling_thread_is_legal(rt: HostRuntime) -> Result<(), Fail> {
+    let alloc = rt.alloc();
+    for batch in [ADDS, RETIRES] {
+        let (end, sink) = served_alone(&rt, alloc, &["live"], batch.as_bytes());
+        assert_same(&rt, end, Outcome::Done, "outcome");
+        let mut both = Vec::from_slice(alloc, batch.as_bytes())?;
+        both.extend_from_slice(sink.bytes())?;
+        let (verdict, told) = served_alone(&rt, alloc, &["check", "--live"], &both);
+        assert_same(&rt, verdict, Outcome::Done, "verdict");
+        assert_same(&rt, told.bytes(), b"legal\n".as_slice(), "legal");
+    }
+    let (_, sink) = served_alone(&rt, alloc, &["live"], RETIRES.as_bytes());
+    let text = str::from_utf8(sink.bytes())?;
+    assert!(rt; text.ends_with(RETIRED_IN_ORDER));
+    Ok(())
 }

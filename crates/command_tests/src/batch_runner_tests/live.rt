@@ -14,7 +14,7 @@ use std::test::Fail;
 use std::thread::{self, Threads};
 
 // Two lanes that seal the same text on one context, and then on one that each adds.
-const ADDS: &str =
+pub(crate) const ADDS: &str =
     "hpkebatch 2\nshare send 32 1 1 fe0e18c9f024ce43799ae393c7e8fe8fce9d218875e8227b0187c04e7d2ea1fc base 4f6465206f6e2061204772656369616e2055726e - - 9\nlane\nseal 0 436f756e742d30 4265617574792069732074727574682c20747275746820626561757479\nadd send 32 1 1 fe0e18c9f024ce43799ae393c7e8fe8fce9d218875e8227b0187c04e7d2ea1fc base 4f6465206f6e2061204772656369616e2055726e - - 9\nseal +0 436f756e742d30 4265617574792069732074727574682c20747275746820626561757479\nlane\nseal 0 436f756e742d30 4265617574792069732074727574682c20747275746820626561757479\nadd send 32 1 1 fe0e18c9f024ce43799ae393c7e8fe8fce9d218875e8227b0187c04e7d2ea1fc base 4f6465206f6e2061204772656369616e2055726e - - 9\nseal +1 436f756e742d30 4265617574792069732074727574682c20747275746820626561757479\nend\n";
 
 // The replies to a lane's `add`, and to its seal on the added context (RFC 9180, A.1.1.1).
@@ -102,7 +102,7 @@ fn a_lane_that_is_held_up_holds_no_add_up(rt: HostRuntime) -> Result<(), Fail> {
 
 // Lane 0 adds a context and opens a message of RFC 9180, A.1.1.1, on it; lane 1 seals that message on
 // another context, and then it retires the one that lane 0 added.
-const RETIRES: &str =
+pub(crate) const RETIRES: &str =
     "hpkebatch 2\nshare send 32 1 1 fe0e18c9f024ce43799ae393c7e8fe8fce9d218875e8227b0187c04e7d2ea1fc base 4f6465206f6e2061204772656369616e2055726e - - 9\nlane\nadd recv 32 1 1 fe0e18c9f024ce43799ae393c7e8fe8fce9d218875e8227b0187c04e7d2ea1fc base 4f6465206f6e2061204772656369616e2055726e - - 9\nunseal +0 436f756e742d30 f938558b5d72f1a23810b4be2ab4f84331acc02fc97babc53a52ae8218a355a96d8770ac83d07bea87e13c512a\nlane\nseal 0 436f756e742d30 4265617574792069732074727574682c20747275746820626561757479\nretire +0\nend\n";
 
 // What a text has of `RETIRES` where the retirement comes between the look and the opening: the replies,

@@ -3,7 +3,7 @@
 
 use batch_runner::Outcome;
 use request_frames::Reason;
-use result_verdicts::Verdict;
+use result_lines::Verdict;
 
 // A batch with keys. Its reply has so many bytes and ends with the lanes and the journals; the bytes of
 // keys and encapsulations before them are compared in lattice_tests and core_tests; here only that each
@@ -159,7 +159,7 @@ pub const BAD: [BadRun; 15] = [
     },
 ];
 
-// Another command that reads an input, the input, and the text that it writes.
+// Another command, its input, and the text that it writes.
 pub struct Other {
     pub source: &'static str,
     pub words: &'static [&'static str],
@@ -168,7 +168,21 @@ pub struct Other {
     pub text: &'static str,
 }
 
-pub const OTHERS: [Other; 10] = [
+pub const OTHERS: [Other; 14] = [
+    Other {
+        source: "tools/reference/demo.py; one message",
+        words: &["demo", "0", "1", "1"],
+        input: "",
+        outcome: Outcome::Done,
+        text: "messages 1 opened 1 refused 0\nsha256 e2949e0ada9610f5a9a3f86ed8b2874de13668035dbe1b48d2f75e748c416ad0\n",
+    },
+    Other {
+        source: "tools/reference/demo.py; lanes that meet, and two lines that open",
+        words: &["demo", "7", "257", "16"],
+        input: "hpkebatch 1\n",
+        outcome: Outcome::Done,
+        text: "messages 257 opened 257 refused 0\nsha256 13e73f7dbcd4e67bfcf45400f9d91c90f2c14721cdef0328ff2e95094e3a5cab\n",
+    },
     Other {
         source: "RFC 9180, A.1.1.1; the batch and its reply",
         words: &["check"],
@@ -211,6 +225,22 @@ pub const OTHERS: [Other; 10] = [
             reason: Reason::Header,
         },
         text: "bad 1 header\n",
+    },
+    Other {
+        source: "RFC 9180, A.1.1.1: the batch of `live` below and its reply",
+        words: &["check", "--live"],
+        input: "hpkebatch 2\nlane\nseal +0 436f756e742d30 4265617574792069732074727574682c20747275746820626561757479\nadd send 32 1 1 fe0e18c9f024ce43799ae393c7e8fe8fce9d218875e8227b0187c04e7d2ea1fc base 4f6465206f6e2061204772656369616e2055726e - - 9\nseal +0 436f756e742d30 4265617574792069732074727574682c20747275746820626561757479\nretire +0\nseal +0 436f756e742d30 4265617574792069732074727574682c20747275746820626561757479\nend\nhpkebatch 2\nlane 0\nrefused nocontext\nadded\nsealed 0 f938558b5d72f1a23810b4be2ab4f84331acc02fc97babc53a52ae8218a355a96d8770ac83d07bea87e13c512a\nretired\nrefused nocontext\njournal +0\n0 2 0 3\ntable\n0 0 0 0\n0 1 0 1\n0 2 1 2\n0 3 1 4\n0 4 0 5\nend\n",
+        outcome: Outcome::Done,
+        text: "legal\n",
+    },
+    Other {
+        source: "own: the same, with a table that calls the name dead which is retired",
+        words: &["check", "--mult", "lanes", "--live"],
+        input: "hpkebatch 2\nlane\nseal +0 436f756e742d30 4265617574792069732074727574682c20747275746820626561757479\nadd send 32 1 1 fe0e18c9f024ce43799ae393c7e8fe8fce9d218875e8227b0187c04e7d2ea1fc base 4f6465206f6e2061204772656369616e2055726e - - 9\nseal +0 436f756e742d30 4265617574792069732074727574682c20747275746820626561757479\nretire +0\nseal +0 436f756e742d30 4265617574792069732074727574682c20747275746820626561757479\nend\nhpkebatch 2\nlane 0\nrefused nocontext\nadded\nsealed 0 f938558b5d72f1a23810b4be2ab4f84331acc02fc97babc53a52ae8218a355a96d8770ac83d07bea87e13c512a\nretired\nrefused nocontext\njournal +0\n0 2 0 3\ntable\n0 0 0 0\n0 1 0 1\n0 2 1 2\n0 3 0 4\n0 4 0 5\nend\n",
+        outcome: Outcome::Broken {
+            verdict: Verdict::Table,
+        },
+        text: "broken table\n",
     },
     Other {
         source: "RFC 9180, A.1.1.1: a context is called before it is added, then, and after it is retired",

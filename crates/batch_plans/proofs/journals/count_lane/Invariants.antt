@@ -1,6 +1,6 @@
 use Rattle.std.proofs.Common.{◌≡◌, ◌<◌, ◌+◌, ℕ, length, take, get_or}
 use Rattle.std.specs.List.{sum_by}
-use Rattle.batch_plans.specs.Calls.{items_on}
+use Rattle.batch_plans.specs.Room.{items_on}
 use Rattle.batch_plans.proofs.journals.count_lane.Given as goal
 
 abbrev pub invariant-calls : goal.invariant-calls

@@ -2,7 +2,7 @@ use Rattle.std.proofs.Common.{◌≡◌, length, get_or, sum_by, take, ap, ◌�
 use Rattle.std.proofs.lemmas.List.{take_all}
 use Rattle.std.proofs.lemmas.List.FromFn.{fill_by_all}
 use Rattle.batch_plans.specs.Limits.{items_of, all_items}
-use Rattle.batch_plans.specs.Calls.{all_items_on}
+use Rattle.batch_plans.specs.Room.{all_items_on}
 use Rattle.batch_plans.proofs.Counts.{lane_fits}
 use Rattle.batch_plans.proofs.journals.counts_of.Goals as goal
 

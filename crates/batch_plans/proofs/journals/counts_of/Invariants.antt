@@ -1,5 +1,5 @@
 use Rattle.std.proofs.Common.{◌≡◌, ◌<◌, ℕ, length, take, get_or}
-use Rattle.batch_plans.specs.Calls.{all_items_on}
+use Rattle.batch_plans.specs.Room.{all_items_on}
 use Rattle.batch_plans.proofs.journals.counts_of.Given as goal
 
 abbrev pub invariant-lanes : goal.invariant-lanes

@@ -3,8 +3,7 @@ use Rattle.std.specs.Prelude.{replicate}
 use Rattle.std.specs.List.{range_with_len}
 use Rattle.std.proofs.lemmas.List.{take_all, map_more}
 use Rattle.std.proofs.lemmas.Simd.{map-map}
-use Rattle.batch_plans.specs.Calls.{all_items_on}
-use Rattle.batch_plans.specs.Room.{blank_mark}
+use Rattle.batch_plans.specs.Room.{all_items_on, blank_mark}
 use Rattle.batch_plans.proofs.journals.journals_room.Goals as goal
 
 pub counts-preserved : goal.counts-preserved

@@ -1,5 +1,5 @@
 use Rattle.std.proofs.Common.{true}
-use Rattle.result_verdicts.specs.VerdictText.{verdict_text}
+use Rattle.result_lines.specs.VerdictText.{verdict_text}
 use Rattle.batch_serving.specs.Effects.{Says}
 use Rattle.batch_serving.specs.Outcomes.{outcome_on}
 use Rattle.batch_serving.specs.Text.{TellsVerdict}

@@ -3,7 +3,7 @@ use Rattle.std.specs.List.{slice_split}
 use Rattle.std.proofs.lemmas.List.{map-append, length_push}
 use Rattle.std.proofs.lemmas.Iterator.Consumers.{YieldsList-at, YieldsList-turn, YieldsList-end}
 use Rattle.std.proofs.lemmas.Iterator.Splits.{YieldsList-from_str_split}
-use Rattle.decimal_text.specs.Decimals.{decimal_from_to}
+use Rattle.byte_strings.specs.Decimals.{decimal_from_to}
 use Rattle.batch_words.specs.Words.{is_comma, lanes}
 use Rattle.batch_words.proofs.Steps.{lanes-more, lanes-none, schedule-of, schedule-no_lane, schedule-too_long}
 use Rattle.batch_words.proofs.schedules.push_lanes.Goals as goal

@@ -4,11 +4,11 @@ use Rattle.capsule_frames.specs.declared.replies.CapsuleRefusal.{CapsuleRefusal}
 use Rattle.capsule_runs.proofs.Telling.{took_is}
 use Rattle.capsule_runs.proofs.takes.took.Goals as goal
 
-pub returns-in_ok-held_in-in-Ok : goal.returns-in_ok-held_in-in-Ok
-returns-in_ok-held_in-in-Ok c =
+pub returns-in-Ok : goal.returns-in-Ok
+returns-in-Ok c =
     let to : List ℕ → Result (List ℕ) CapsuleRefusal = λ t. Ok t in
     let became : Result (List ℕ) CapsuleFault = Ok c.in-Ok.text in
-    ap to (c.in_ok-held_in-in-Ok.ensures ∙ c.as_slice-in-Ok.ensures)
+    ap to c.held_in.ensures
     ∙ took_is c.args.plan.now.plan c.args.asks.now c.args.answers.now c.args.ask c.args.response
     c.in-Some.sent.now c.asked.result.now c.as_slice.result.now c.in-Some-response_at.response.now
     became

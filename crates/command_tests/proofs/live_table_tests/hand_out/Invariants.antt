@@ -1,5 +1,5 @@
 use Rattle.std.proofs.Common.{◌≡◌, ◌+◌, All, length, vec_len}
-use Rattle.stamped_lists.specs.Stamps.{IsNote}
+use Rattle.stamp_counter.specs.Stamps.{IsNote}
 use Rattle.command_tests.specs.Passes.{MayDraw}
 use Rattle.command_tests.proofs.live_table_tests.hand_out.Given as goal
 

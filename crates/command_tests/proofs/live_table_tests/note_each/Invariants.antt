@@ -1,5 +1,5 @@
 use Rattle.std.proofs.Common.{◌-◌}
-use Rattle.stamped_lists.specs.Stamps.{IsNote}
+use Rattle.stamp_counter.specs.Stamps.{IsNote}
 use Rattle.command_tests.specs.Passes.{MayDraw}
 use Rattle.command_tests.proofs.live_table_tests.note_each.Given as goal
 

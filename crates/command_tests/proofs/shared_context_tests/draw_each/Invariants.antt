@@ -1,5 +1,5 @@
 use Rattle.std.proofs.Common.{◌-◌}
-use Rattle.stamped_lists.specs.Stamps.{IsNote}
+use Rattle.stamp_counter.specs.Stamps.{IsNote}
 use Rattle.command_tests.specs.Passes.{MayDraw}
 use Rattle.command_tests.proofs.shared_context_tests.draw_each.Given as goal
 

@@ -1,7 +1,7 @@
 use Rattle.std.proofs.Common.{All, length, sym, ap, ◌∙◌, subst, arith}
 use Rattle.std.proofs.lemmas.List.Elements.{All-push}
 use Rattle.stamp_counter.specs.Seats.{SeatView}
-use Rattle.stamped_lists.specs.Stamps.{IsNote}
+use Rattle.stamp_counter.specs.Stamps.{IsNote}
 use Rattle.command_tests.specs.Passes.{MayDraw}
 use Rattle.command_tests.proofs.Passes.{All-removed, All-at, length-removed}
 use Rattle.command_tests.proofs.shared_context_tests.hand_out.Goals as goal

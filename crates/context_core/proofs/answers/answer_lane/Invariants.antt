@@ -1,5 +1,5 @@
 use Rattle.std.proofs.Common.{◌≡◌}
-use Rattle.core_schedules.specs.Core.{Core}
+use Rattle.context_core.specs.Core.{Core}
 use Rattle.lane_replies.specs.Answered.{KeepsUp}
 use Rattle.context_core.specs.Following.{run_of, AllDone}
 use Rattle.context_core.proofs.answers.answer_lane.Given as goal

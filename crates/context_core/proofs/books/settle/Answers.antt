@@ -2,8 +2,8 @@ use Rattle.std.proofs.Common.{◌≡◌, ◌+◌, ◌++◌, Some, length, take, 
 use Rattle.context_books.specs.Books.{BookView}
 use Rattle.std.proofs.lemmas.List.{take-append-le, take_all}
 use Rattle.hpke_context.specs.Contexts.{cipher_of}
-use Rattle.legal_journals.specs.Entries.{entries_from}
-use Rattle.legal_journals.proofs.EntryNumbers.{length-steps_from}
+use Rattle.context_books.specs.Entries.{entries_from}
+use Rattle.context_books.proofs.EntryNumbers.{length-steps_from}
 use Rattle.lane_replies.proofs.Items.{length-unseals}
 use Rattle.context_books.specs.Openings.{opening_steps, opening_misses, unseals}
 use Rattle.std.specs.Vec.{with_item}

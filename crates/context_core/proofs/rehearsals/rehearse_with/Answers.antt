@@ -1,19 +1,21 @@
-use Rattle.std.proofs.Common.{◌≡◌, ◌<◌, ℕ, List, [], length, get_or, sym, ap, ◌∙◌, subst, arith, None}
+use Rattle.std.proofs.Common.{◌≡◌, ◌<◌, ℕ, List, [], length, get_or, sym, ap, ◌∙◌, subst, arith, Some, None}
+use Rattle.std.specs.Prelude.{slice_get}
 use Rattle.std.specs.List.{All, refill}
 use Rattle.call_places.specs.declared.entries.Mark.{Mark}
 use Rattle.batch_plans.specs.declared.replies.Answers.{Answers}
 use Rattle.batch_plans.specs.declared.replies.LaneAnswers.{LaneAnswers}
 use Rattle.batch_plans.specs.Replies.{IsPrintable}
-use Rattle.reply_texts.specs.ReplyText.{lanes_lines}
-use Rattle.core_schedules.specs.Core.{core}
+use Rattle.reply_texts.specs.ReplyText.{lanes_lines, UsesUp}
+use Rattle.lane_replies.specs.LaneCalls.{lane_calls}
+use Rattle.context_core.specs.Core.{core}
 use Rattle.due_replies.specs.Standing.{export_limits}
 use Rattle.due_replies.specs.Asks.{batch_of, cipher_at}
 use Rattle.context_core.specs.declared.lanes.Lane.{Lane}
 use Rattle.context_core.specs.Books.{book_at}
-use Rattle.lane_quotas.specs.Journals.{written, HasRoom}
+use Rattle.lane_replies.specs.Journals.{written, HasRoom}
 use Rattle.context_core.specs.Following.{AreDone}
 use Rattle.context_core.specs.Preparing.{answers_of, IsEnded}
-use Rattle.context_core.proofs.Ended.{refill_is, answered_are, all_done, ended, lines_are, has_room, journals_are, lane_count, journals_count}
+use Rattle.context_core.proofs.Ended.{refill_is, answered_are, all_done, ended, lines_are, used, has_room, journals_are, lane_count, journals_count}
 use Rattle.context_core.proofs.rehearsals.rehearse_with.Goals as goal
 
 pub begun-requires-clause-room : goal.begun-requires-clause-room
@@ -126,13 +128,19 @@ returns-clause-answered g c =
     let journals_size : length journals ≡ length old =
     c.write_journals.auto.journals ∙ ap length c.as_mut_slice-4.ensures.items in
     let room = ap (λ (a : Answers). a.journals) c.requires.room in
+    let back_count = back_size ∙ count ∙ sym t.count ∙ sym size in
+    let given = subst (λ (xs : List Lane). (l : ℕ) (lane : Lane) (given : LaneAnswers) → l < length xs
+    → get_or back l given ≡ answers_of (get_or xs l lane).progress)
+    lanes_are c.take_back.ensures.answers in
     record {
       lanes = ap (lanes_lines plan.lanes) (refill_is (length mid) mid back back_size)
           ∙ lines_are plan contexts schedule c.requires.within c.requires.standing last.lanes.items
-          last.books t after size answered back (back_size ∙ count ∙ sym t.count ∙ sym size)
-          (subst (λ (xs : List Lane). (l : ℕ) (lane : Lane) (given : LaneAnswers) → l < length xs
-          → get_or back l given ≡ answers_of (get_or xs l lane).progress)
-          lanes_are c.take_back.ensures.answers);
+          last.books t after size answered back back_count given;
+      used = subst (λ (xs : List LaneAnswers). (l : ℕ) (one : LaneAnswers)
+          → slice_get xs l ≡ Some one → UsesUp (lane_calls plan l) one.replies one.batches)
+          (sym (refill_is (length mid) mid back back_size))
+          (used plan contexts schedule c.requires.within c.requires.standing last.lanes.items
+          last.books t after size answered back back_count given);
       journals = refill_is (length old) old journals journals_size
           ∙ journals_are plan contexts schedule c.requires.within c.requires.standing
           last.lanes.items last.books t old room journals

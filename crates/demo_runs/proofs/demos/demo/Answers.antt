@@ -6,14 +6,14 @@ use Rattle.demo_runs.proofs.Reported.{demo_some, sealed_count}
 use Rattle.demo_runs.proofs.demos.demo.Goals as goal
 
 pub opened_messages-requires-clause-sealed : goal.opened_messages-requires-clause-sealed
-opened_messages-requires-clause-sealed g c κs within =
+opened_messages-requires-clause-sealed g c =
     let s : IsSealed c.args.seed c.args.messages (Some c.in-Some.cts.items) = rw c.in-Some.is at c.in_ok-cts.ensures in
     let size : length c.in-Some.cts.items ≡ c.args.messages = sealed_count c.args.seed c.args.messages c.in-Some.cts.items s in
     subst (λ (xs : List (List ℕ)). IsSealed c.args.seed (length xs) (Some xs)) (sym c.deref.ensures.value)
     (subst (λ (n : ℕ). IsSealed c.args.seed n (Some c.in-Some.cts.items)) (sym size) s)
 
 pub opened_messages-requires-clause-few : goal.opened_messages-requires-clause-few
-opened_messages-requires-clause-few g c κs within =
+opened_messages-requires-clause-few g c =
     let s : IsSealed c.args.seed c.args.messages (Some c.in-Some.cts.items) = rw c.in-Some.is at c.in_ok-cts.ensures in
     let size : length c.in-Some.cts.items ≡ c.args.messages = sealed_count c.args.seed c.args.messages c.in-Some.cts.items s in
     let same = ap (λ (xs : List (List ℕ)). length xs) c.deref.ensures.value in

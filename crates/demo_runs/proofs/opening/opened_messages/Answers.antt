@@ -10,5 +10,5 @@ of_seed : (seed : ℕ) (cts : List (List ℕ)) (plan : Plan) → IsOpeningPlan s
 of_seed seed cts plan is sealed = (seed, is, sealed)
 
 pub opened_by-requires-clause-plan : goal.opened_by-requires-clause-plan
-opened_by-requires-clause-plan g c _ _ =
+opened_by-requires-clause-plan g c =
     of_seed c.args.seed c.args.cts.now c.in_ok-plan.plan c.in_ok-plan.ensures.plan c.requires.sealed

@@ -3,8 +3,7 @@ use Rattle.std.specs.List.{flat_map}
 use Rattle.std.proofs.lemmas.List.{take_all}
 use Rattle.batch_plans.specs.declared.plan.CallLine.{CallLine}
 use Rattle.demo_runs.specs.Steps.{IsSealedLane, AreLow, put_all}
-use Rattle.lane_workers.specs.Gathered.{no_answers}
-use Rattle.demo_runs.proofs.Puts.{lane_here, lane_numbers, low_of_lane, same_count, put_lane_more, answers_within}
+use Rattle.demo_runs.proofs.Puts.{lane_here, lane_numbers, low_of_lane, same_count, put_lane_more, no_answers, answers_within}
 use Rattle.demo_runs.proofs.sealing.put_lanes.Goals as goal
 
 pub lanes-init : goal.lanes-init

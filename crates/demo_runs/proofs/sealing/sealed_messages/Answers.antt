@@ -8,7 +8,7 @@ of_seed : (seed messages lanes : ℕ) (plan : Plan) → 0 < lanes → IsSealingP
 of_seed seed messages lanes plan some is = (seed, lanes, some, is)
 
 pub sealed_by-requires-clause-plan : goal.sealed_by-requires-clause-plan
-sealed_by-requires-clause-plan g c _ _ =
+sealed_by-requires-clause-plan g c =
     of_seed c.args.seed c.args.messages c.args.lanes c.in_ok-plan.plan c.requires.lanes.0 c.in_ok-plan.ensures.plan
 
 pub returns : goal.returns

@@ -1,17 +1,12 @@
 use Rattle.std.proofs.Common.{◌∙◌, ap, refl, subst, sym}
 use Rattle.batch_words.specs.Words.{command_of}
 use Rattle.hpkebatch_c.specs.Serving.{IsServed, words_in}
-use Rattle.hpkebatch_c.proofs.Served.{none_asks}
 use Rattle.hpkebatch_c.proofs.Words.{is_text, spelled_in, spells_none}
 use Rattle.hpkebatch_c.proofs.serving.hpkebatch_serve.Goals as goal
 
 pub returns-then-not-is_text-clause-usage : goal.returns-then-not-is_text-clause-usage
 returns-then-not-is_text-clause-usage c =
     λ some. ((λ two. spells_none c.args.words.now (sym c.if-not-is_text.ensures)), (λ none. refl))
-
-pub returns-then-not-is_text-clause-threads : goal.returns-then-not-is_text-clause-threads
-returns-then-not-is_text-clause-threads c =
-    λ some. ((λ e. cc), (λ asked. absurd (none_asks _ (spells_none c.args.words.now (sym c.if-not-is_text.ensures)) asked)))
 
 pub unreachable-requires : goal.unreachable-requires
 unreachable-requires c = c.in-Err.ensures.cases.0 (is_text c.args.words.now (sym c.if-not-is_text.ensures))
@@ -50,10 +45,3 @@ returns-clause-usage c =
     ∙ ap (λ l. command_of (words_in l)) (sym c.in-Ok.ensures.cases.0) in
     (subst (λ spelled. IsServed spelled c.args.input.now c.args.output.now c.serve_line.new.output c.args.written.now c.serve_line.new.written c.serve_line.result)
     (sym same) c.serve_line.ensures).usage
-
-pub returns-clause-threads : goal.returns-clause-threads
-returns-clause-threads c =
-    let same = spelled_in c.args.words.now (sym c.if-not-is_text.ensures)
-    ∙ ap (λ l. command_of (words_in l)) (sym c.in-Ok.ensures.cases.0) in
-    (subst (λ spelled. IsServed spelled c.args.input.now c.args.output.now c.serve_line.new.output c.args.written.now c.serve_line.new.written c.serve_line.result)
-    (sym same) c.serve_line.ensures).threads

@@ -2,9 +2,9 @@ use Rattle.std.proofs.Common.{◌≡◌, ◌↔◌, length, List, Option, sym, a
 use Rattle.std.proofs.lemmas.Result.{IfOk-weaker}
 use Rattle.hpke_context.specs.Contexts.{ContextView}
 use Rattle.context_table.specs.ReplyTo.{IsReply}
-use Rattle.result_verdicts.specs.declared.verdicts.Verdict.{Verdict}
-use Rattle.result_verdicts.specs.declared.verdicts.Verdict.TheVariants.{Legal, Form}
-use Rattle.result_verdicts.specs.Verdicts.{by_form, verdict_on}
+use Rattle.result_lines.specs.declared.verdicts.Verdict.{Verdict}
+use Rattle.result_lines.specs.declared.verdicts.Verdict.TheVariants.{Legal, Form}
+use Rattle.result_lines.specs.Verdicts.{by_form, verdict_on}
 use Rattle.journal_check.specs.Verdicts.{IsVerdict}
 use Rattle.journal_check.proofs.LegalVerdicts.{legal_iff_reply}
 use Rattle.journal_check.proofs.ToldSizes.{read_as, read_wrong, has_of}

@@ -1,9 +1,9 @@
 use Rattle.std.proofs.Common.{ℕ, ◌+◌, Bool, cond, Some, map, drop, get_or, sym, ap, ◌∙◌, arith}
 use Rattle.due_replies.specs.Asks.{ask_of}
 use Rattle.result_lines.specs.declared.told.GuessLine.{GuessLine}
-use Rattle.result_verdicts.specs.Guesses.{wrong_guess}
+use Rattle.result_lines.specs.Guesses.{wrong_guess}
 use Rattle.journal_check.specs.Passing.{is_right_by}
-use Rattle.told_journals.proofs.Walks.{drop_next}
+use Rattle.journal_check.proofs.Walks.{drop_next}
 use Rattle.journal_check.proofs.ServedCalls.{points_at}
 use Rattle.journal_check.proofs.GuessSteps.{no_guess, go_past, at_opening}
 use Rattle.journal_check.proofs.guesses.judge_calls.Goals.{then-is_opening+else-next-guesses+else-not-is_right, else-is_opening}
@@ -15,10 +15,10 @@ returns-then-not-is_right c = λ run contexts_are journals_are are legal lines.
     let calls = c.args.calls.now in
     let guesses = c.args.guesses.now in
     let next = c.calls.next in
-    let contexts = c.args.contexts.now in
+    let contexts = c.args.checked.now.contexts.now in
     let lt = c.calls-test.true in
     let at = drop_next calls i _ lt in
-    let points = points_at contexts c.args.journals.now c.args.lane i _ _ c.calls.cursors at c.calls.invariant.points in
+    let points = points_at contexts c.args.checked.now.journals.now c.args.lane i _ _ c.calls.cursors at c.calls.invariant.points in
     let told : GuessLine = get_or guesses next no_guess in
     let later = wrong_guess run c.args.lane (i + 1) (map (ask_of run.plan contexts) (drop (i + 1) calls)) (drop (next + 1) guesses) in
     sym (at_opening run c.args.lane i contexts calls _ at guesses next _ (c.calls.invariant.held run contexts_are journals_are are legal lines)
@@ -35,10 +35,10 @@ calls-preserved c =
     let calls = c.args.calls.now in
     let guesses = c.args.guesses.now in
     let next = c.calls.next in
-    let contexts = c.args.contexts.now in
+    let contexts = c.args.checked.now.contexts.now in
     let lt = c.calls-test.true in
     let at = drop_next calls i _ lt in
-    let points = points_at contexts c.args.journals.now c.args.lane i _ _ c.calls.cursors at c.calls.invariant.points in
+    let points = points_at contexts c.args.checked.now.journals.now c.args.lane i _ _ c.calls.cursors at c.calls.invariant.points in
     record {
       held = λ run contexts_are journals_are are legal lines.
           let later = λ (k : ℕ). wrong_guess run c.args.lane (i + 1) (map (ask_of run.plan contexts) (drop (i + 1) calls)) (drop k guesses) in
@@ -60,12 +60,7 @@ calls-preserved c =
           ];
       points = c.in_ok-passed.ensures.points i (drop (i + 1) calls) points;
       reach = c.in_ok-passed.ensures.reach c.calls.invariant.reach;
-      sized = record {
-        contexts_size = c.requires.sized.contexts_size;
-        runs_size = c.requires.sized.runs_size;
-        cursors_size = omega (arith, c.requires.sized.cursors_size, c.calls.auto, c.pass_call.auto);
-        long = c.requires.sized.long;
-      };
+      cursors = omega (arith, c.requires.cursors, c.calls.auto, c.pass_call.auto);
       few = elim c.if-is_opening.branch [
         | then-is_opening+else-next-guesses+else-not-is_right w ↦ omega (arith, w.next-is, w.if-next-guesses.false)
         | else-is_opening w ↦ omega (arith, w.next-is, c.calls.invariant.few)

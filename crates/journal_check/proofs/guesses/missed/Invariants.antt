@@ -1,5 +1,5 @@
 use Rattle.std.proofs.Common.{◌≡◌, ◌+◌, ◌≤◌, drop}
-use Rattle.legal_journals.specs.Guesses.{missed}
+use Rattle.context_books.specs.Guesses.{missed}
 use Rattle.journal_check.proofs.guesses.missed.Given as goal
 
 abbrev pub invariant-numbers : goal.invariant-numbers

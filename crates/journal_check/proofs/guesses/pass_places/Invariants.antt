@@ -1,7 +1,7 @@
 use Rattle.std.proofs.Common.{◌≡◌, ◌++◌, ℕ, List, length, map, drop}
 use Rattle.call_places.specs.declared.entries.Place.{Place}
-use Rattle.legal_journals.specs.Batches.{own_places}
-use Rattle.legal_journals.specs.Histories.{places}
+use Rattle.context_books.specs.Batches.{own_places}
+use Rattle.context_books.specs.Histories.{places}
 use Rattle.journal_check.specs.Passing.{Reaches}
 use Rattle.journal_check.proofs.guesses.pass_places.Given as goal
 

@@ -1,6 +1,6 @@
 use Rattle.std.proofs.Common.{◌≡◌, drop}
-use Rattle.legal_journals.specs.Batches.{own_places}
-use Rattle.legal_journals.specs.Histories.{places}
+use Rattle.context_books.specs.Batches.{own_places}
+use Rattle.context_books.specs.Histories.{places}
 use Rattle.journal_check.proofs.lane_walks.own_from.Given as goal
 
 abbrev pub invariant-marks : goal.invariant-marks

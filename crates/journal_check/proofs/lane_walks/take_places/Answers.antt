@@ -1,7 +1,7 @@
 use Rattle.std.proofs.Common.{◌+◌, ◌++◌, map, drop, get_or, ap, ◌∙◌}
 use Rattle.std.proofs.lemmas.Result.{err_from_is_err_and}
 use Rattle.call_places.specs.declared.entries.Place.{Place}
-use Rattle.result_verdicts.specs.Replies.{wrong_reply}
+use Rattle.result_lines.specs.Replies.{wrong_reply}
 use Rattle.journal_check.proofs.Pulling.{holds_halt, no_place, next_place, next_line}
 use Rattle.journal_check.proofs.lane_walks.take_places.Goals as goal
 

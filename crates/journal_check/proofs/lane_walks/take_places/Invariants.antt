@@ -1,8 +1,8 @@
 use Rattle.std.proofs.Common.{◌≡◌, ◌++◌, ℕ, List, length, map, drop}
 use Rattle.call_places.specs.declared.entries.Place.{Place}
-use Rattle.legal_journals.specs.Batches.{own_places}
-use Rattle.legal_journals.specs.Histories.{places}
-use Rattle.result_verdicts.specs.Replies.{wrong_reply}
+use Rattle.context_books.specs.Batches.{own_places}
+use Rattle.context_books.specs.Histories.{places}
+use Rattle.result_lines.specs.Replies.{wrong_reply}
 use Rattle.journal_check.proofs.lane_walks.take_places.Given as goal
 
 abbrev pub invariant-places : goal.invariant-places

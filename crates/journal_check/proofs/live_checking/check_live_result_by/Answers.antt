@@ -10,9 +10,9 @@ use Rattle.result_lines.specs.Places.{Tells}
 use Rattle.result_lines.specs.Tables.{table_told}
 use Rattle.result_lines.specs.Told.{ToldView}
 use Rattle.result_lines.specs.ToldLive.{told_live_by}
-use Rattle.result_verdicts.specs.declared.verdicts.Verdict.{Verdict}
-use Rattle.result_verdicts.specs.declared.verdicts.Verdict.TheVariants.{Legal, Form}
-use Rattle.result_verdicts.specs.LiveVerdicts.{live_told, live_verdict_on}
+use Rattle.result_lines.specs.declared.verdicts.Verdict.{Verdict}
+use Rattle.result_lines.specs.declared.verdicts.Verdict.TheVariants.{Legal, Form}
+use Rattle.result_lines.specs.LiveVerdicts.{live_told, live_verdict_on}
 use Rattle.journal_check.specs.Verdicts.{IsLiveVerdict}
 use Rattle.journal_check.proofs.LiveLegalVerdicts.{legal_iff_live_reply}
 use Rattle.journal_check.proofs.LiveRead.{live_has_of, told_verdict, form_verdict}

@@ -2,8 +2,8 @@ use Rattle.std.proofs.Common.{List, length, subst, sym, ap, ◌∙◌}
 use Rattle.std.proofs.lemmas.Result.{IfOk-weaker}
 use Rattle.batch_plans.specs.Limits.{IsWithinLimits}
 use Rattle.batch_plans.specs.declared.plan.CallLine.{CallLine}
-use Rattle.result_verdicts.specs.LiveVerdicts.{live_told, live_verdict_on}
-use Rattle.result_verdicts.proofs.LookedLimits.{looked_within, looked_lanes}
+use Rattle.result_lines.specs.LiveVerdicts.{live_told, live_verdict_on}
+use Rattle.result_lines.proofs.LookedLimits.{looked_within, looked_lanes}
 use Rattle.journal_check.proofs.live_checking.verdict_as_served.Goals as goal
 
 pub live_verdict_on-verdict-requires-clause-within : goal.live_verdict_on-verdict-requires-clause-within

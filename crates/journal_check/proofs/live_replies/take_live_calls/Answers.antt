@@ -1,6 +1,6 @@
 use Rattle.std.proofs.Common.{◌+◌, ◌<◌, length, drop, arith, sym}
 use Rattle.std.proofs.lemmas.Result.{err_from_is_err_and}
-use Rattle.told_journals.proofs.Walks.{drop_next}
+use Rattle.journal_check.proofs.Walks.{drop_next}
 use Rattle.journal_check.specs.LiveWalks.{served_lines, served_lane_lines}
 use Rattle.journal_check.proofs.Lanes.{go_on_lines, halt_lines}
 use Rattle.journal_check.proofs.ServedCalls.{points_at}
@@ -15,7 +15,7 @@ returns-in_err-take_live_call c = λ live served lives are.
     let low : i < length c.args.lives.now = omega (arith, c.calls-test.true, c.requires.lives) in
     let bit = sym (lives i low) in
     let here = c.in_err-take_live_call.ensures.lines live i (drop (i + 1) calls) served bit are
-    (points_at c.args.contexts.now c.args.journals.now c.args.lane i _ _ c.calls.cursors at c.calls.invariant.points) in
+    (points_at c.args.checked.now.contexts.now c.args.checked.now.journals.now c.args.lane i _ _ c.calls.cursors at c.calls.invariant.points) in
     rw (e.1, e.2)
     (halt_lines (served_lines live c.args.lane) calls i _ at c.args.replies.now c.calls.replies (served_lane_lines live c.args.lane calls)
     (λ rest. c.calls.invariant.held live rest served lives are)
@@ -26,7 +26,7 @@ calls-preserved c =
     let i = c.calls.number in
     let calls = c.args.calls.now in
     let at = drop_next calls i _ c.calls-test.true in
-    let points = points_at c.args.contexts.now c.args.journals.now c.args.lane i _ _ c.calls.cursors at c.calls.invariant.points in
+    let points = points_at c.args.checked.now.contexts.now c.args.checked.now.journals.now c.args.lane i _ _ c.calls.cursors at c.calls.invariant.points in
     let low : i < length c.args.lives.now = omega (arith, c.calls-test.true, c.requires.lives) in
     record {
       held = λ live rest served lives are.
@@ -35,10 +35,5 @@ calls-preserved c =
           (c.in_ok-take_live_call.ensures.lines live i (drop (i + 1) calls) served
           (sym (lives i low)) are points) rest;
       points = c.in_ok-take_live_call.ensures.points i (drop (i + 1) calls) points;
-      sized = record {
-        contexts_size = c.requires.sized.contexts_size;
-        runs_size = c.requires.sized.runs_size;
-        cursors_size = omega (arith, c.requires.sized.cursors_size, c.calls.auto, c.take_live_call.auto);
-        long = c.requires.sized.long;
-      };
+      cursors = omega (arith, c.requires.cursors, c.calls.auto, c.take_live_call.auto);
     }

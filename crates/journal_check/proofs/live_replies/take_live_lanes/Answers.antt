@@ -4,9 +4,9 @@ use Rattle.batch_plans.specs.declared.plan.CallLine.{CallLine}
 use Rattle.batch_plans.specs.declared.plan.Plan.{Plan}
 use Rattle.batch_plans.specs.Limits.{IsCallWithin}
 use Rattle.reply_texts.specs.ReplyText.{all_lines, numbered}
-use Rattle.told_journals.proofs.Walks.{drop_next}
-use Rattle.told_journals.specs.Asks.{places_from}
-use Rattle.result_verdicts.specs.Replies.{wrong_reply}
+use Rattle.journal_check.proofs.Walks.{drop_next}
+use Rattle.journal_check.specs.Asks.{places_from}
+use Rattle.result_lines.specs.Replies.{wrong_reply}
 use Rattle.journal_check.specs.LiveWalks.{served_lane_lines, all_served_lines}
 use Rattle.journal_check.proofs.Lanes.{go_on_lines, halt_lines}
 use Rattle.journal_check.proofs.OneContext.{lane_fits, calls_at}
@@ -19,7 +19,7 @@ lanes-init c = λ live rest served notes are.
 pub returns-in_err-take_live_lane : goal.returns-in_err-take_live_lane
 returns-in_err-take_live_lane c = λ live served notes are.
     let i = c.lanes.lane in
-    let lanes = c.args.plan.now.lanes in
+    let lanes = c.args.checked.now.plan.now.lanes in
     let e = err_from_is_err_and c.from_residual.result c.from_residual.ensures.1 in
     let d : List CallLine = c.calls-item.result in
     let here : c.as_slice.result.now ≡ get_or lanes i d =
@@ -34,12 +34,12 @@ returns-in_err-take_live_lane c = λ live served notes are.
 
 pub overflow_cast-lane : goal.overflow_cast-lane
 overflow_cast-lane c =
-    lane_fits c.lanes.lane (length c.as_slice-calls-items.result.now) (length c.args.plan.now.lanes) c.lanes-test.true
+    lane_fits c.lanes.lane (length c.as_slice-calls-items.result.now) (length c.args.checked.now.plan.now.lanes) c.lanes-test.true
     (ap length c.as_slice-calls-items.ensures.items) c.requires.within.lanes
 
 pub take_live_lane-requires-clause-within : goal.take_live_lane-requires-clause-within
 take_live_lane-requires-clause-within c =
-    let plan = c.args.plan.now in
+    let plan = c.args.checked.now.plan.now in
     let i = c.lanes.lane in
     let d : List CallLine = c.calls-item.result in
     let lt = subst (λ (ls : List (List CallLine)). i < length ls) c.as_slice-calls-items.ensures.items c.lanes-test.true in
@@ -52,13 +52,13 @@ take_live_lane-requires-clause-own c = λ context low.
     let i = c.lanes.lane in
     let given = c.as_slice-calls-items in
     let lt = subst (λ (ls : List (List CallLine)). i < length ls) given.ensures.items c.lanes-test.true in
-    let calls = calls_at c.args.plan.now.lanes given.result.now i c.calls-item.result given.ensures.items lt c.calls-item.is in
-    c.requires.own i context low ∙ ap (places_from c.args.contexts.now context i 0) (sym (c.as_slice.ensures.items ∙ calls))
+    let calls = calls_at c.args.checked.now.plan.now.lanes given.result.now i c.calls-item.result given.ensures.items lt c.calls-item.is in
+    c.requires.own i context low ∙ ap (places_from c.args.checked.now.contexts.now context i 0) (sym (c.as_slice.ensures.items ∙ calls))
 
 pub lanes-preserved : goal.lanes-preserved
 lanes-preserved c = λ live rest served notes are.
     let i = c.lanes.lane in
-    let lanes = c.args.plan.now.lanes in
+    let lanes = c.args.checked.now.plan.now.lanes in
     let d : List CallLine = c.calls-item.result in
     let here : c.as_slice.result.now ≡ get_or lanes i d =
     c.as_slice.ensures.items ∙ c.calls-item.is ∙ ap (λ (ls : List (List CallLine)). get_or ls i d) c.as_slice-calls-items.ensures.items in

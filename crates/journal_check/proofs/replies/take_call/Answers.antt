@@ -3,7 +3,7 @@ use Rattle.hpke_context.specs.Contexts.{ContextView}
 use Rattle.batch_plans.specs.declared.replies.CallRefusal.{CallRefusal}
 use Rattle.due_replies.specs.Standing.{call_refusal}
 use Rattle.due_replies.specs.Runs.{lines_unless}
-use Rattle.result_verdicts.specs.Replies.{item_lines}
+use Rattle.result_lines.specs.Replies.{item_lines}
 use Rattle.journal_check.specs.Walks.{Holds}
 use Rattle.journal_check.proofs.replies.take_call.Goals as goal
 

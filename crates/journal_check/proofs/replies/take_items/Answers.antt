@@ -1,6 +1,6 @@
 use Rattle.std.proofs.Common.{ℕ, ◌<◌, List, length, map, sym, ap, ◌∙◌, subst, get_or-set_other}
 use Rattle.call_places.specs.declared.entries.Mark.{Mark}
-use Rattle.legal_journals.specs.Histories.{places}
+use Rattle.context_books.specs.Histories.{places}
 use Rattle.journal_check.specs.declared.runs.JournalRun.{JournalRun}
 use Rattle.journal_check.proofs.OneContext.{found_at, journal_at, own_from, own_behind}
 use Rattle.journal_check.proofs.ServedCalls.{on_ok}
@@ -22,8 +22,8 @@ take_places-requires c =
     let run = c.index-runs-at in
     ap length c.deref.ensures.value
     ∙ ap (λ (done : JournalRun). length done.lines.items) (sym run.is)
-    ∙ c.requires.long run.result (found_at c.args.runs.now at run.result low run.is)
-    ∙ ap length (sym (journal_at c.args.journals.now at c.index-journals-at.result c.requires.there c.index-journals-at.is))
+    ∙ c.requires.long run.result (found_at c.args.checked.now.runs.now at run.result low run.is)
+    ∙ ap length (sym (journal_at c.args.checked.now.journals.now at c.index-journals-at.result c.requires.there c.index-journals-at.is))
 
 pub returns-clause-lines : goal.returns-clause-lines
 returns-clause-lines c = λ f ps more are size own.
@@ -31,24 +31,24 @@ returns-clause-lines c = λ f ps more are size own.
     let low = subst (λ (n : ℕ). at < n) (sym c.requires.runs_size) c.requires.there in
     let run = c.index-runs-at in
     let journal = c.index-journals-at.result in
-    let here = journal_at c.args.journals.now at journal c.requires.there c.index-journals-at.is in
+    let here = journal_at c.args.checked.now.journals.now at journal c.requires.there c.index-journals-at.is in
     c.take_places.ensures.lines f ps more
     (c.deref.ensures.value
     ∙ ap (λ (done : JournalRun). done.lines.items) (sym run.is)
-    ∙ are run.result (found_at c.args.runs.now at run.result low run.is)
+    ∙ are run.result (found_at c.args.checked.now.runs.now at run.result low run.is)
     ∙ ap (λ (marks : List Mark). map f (places marks)) (sym here))
-    size (own_from c.args.journals.now c.args.cursors.now at c.args.lane journal here _ own)
+    size (own_from c.args.checked.now.journals.now c.args.cursors.now at c.args.lane journal here _ own)
 
 pub returns-clause-cursor : goal.returns-clause-cursor
 returns-clause-cursor c =
     let at = c.args.context in
     let low = subst (λ (n : ℕ). at < n) (sym c.requires.cursors_size) c.requires.there in
     let journal = c.index-journals-at.result in
-    let here = journal_at c.args.journals.now at journal c.requires.there c.index-journals-at.is in
+    let here = journal_at c.args.checked.now.journals.now at journal c.requires.there c.index-journals-at.is in
     on_ok c.take_places.result
     (λ passed ps more size own.
-    own_behind c.args.journals.now c.args.cursors.now at c.args.lane journal here c.take_places.new.cursor low more
-    (passed ps more size (own_from c.args.journals.now c.args.cursors.now at c.args.lane journal here _ own)))
+    own_behind c.args.checked.now.journals.now c.args.cursors.now at c.args.lane journal here c.take_places.new.cursor low more
+    (passed ps more size (own_from c.args.checked.now.journals.now c.args.cursors.now at c.args.lane journal here _ own)))
     c.take_places.ensures.cursor
 
 pub returns-clause-others : goal.returns-clause-others

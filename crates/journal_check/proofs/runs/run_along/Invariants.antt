@@ -1,8 +1,8 @@
 use Rattle.std.proofs.Common.{◌≡◌, ◌≤◌, ◌+◌, ◌++◌, map, drop}
 use Rattle.hpke_context.specs.Answers.{run}
 use Rattle.hpke_context.specs.Contexts.{cipher_of}
-use Rattle.legal_journals.specs.Histories.{places}
-use Rattle.legal_journals.specs.Entries.{numbers_from}
+use Rattle.context_books.specs.Histories.{places}
+use Rattle.context_books.specs.Entries.{numbers_from}
 use Rattle.due_replies.specs.Runs.{answer_line}
 use Rattle.journal_check.specs.Runs.{items_at}
 use Rattle.journal_check.proofs.runs.run_along.Given as goal

@@ -2,7 +2,7 @@ use Rattle.std.proofs.Common.{◌≡◌, List, [], Option, subst, sym, ap, ◌�
 use Rattle.std.proofs.lemmas.List.{get_or_default}
 use Rattle.call_places.specs.declared.entries.Mark.{Mark}
 use Rattle.hpke_context.specs.Contexts.{ContextView}
-use Rattle.legal_journals.specs.Histories.{marks_at}
+use Rattle.context_books.specs.Histories.{marks_at}
 use Rattle.due_replies.specs.Standing.{standing_at}
 use Rattle.journal_check.specs.Runs.{IsRunOf, AreRuns}
 use Rattle.journal_check.proofs.Slots.{runs_push}

@@ -3,7 +3,7 @@ use Rattle.hpke_context.specs.Contexts.{cipher_of}
 use Rattle.call_places.specs.declared.spans.Item.{Item}
 use Rattle.call_places.specs.declared.entries.Step.TheVariants.{Sealed}
 use Rattle.call_places.specs.Spans.{span_bytes}
-use Rattle.legal_journals.specs.Entries.{number_after}
+use Rattle.context_books.specs.Entries.{number_after}
 use Rattle.lane_replies.proofs.Steps.{rises_below}
 use Rattle.lane_replies.proofs.Items.{step_within, step_is, one_more, some_left}
 use Rattle.lane_replies.proofs.opening.finish_opening.Goals as goal

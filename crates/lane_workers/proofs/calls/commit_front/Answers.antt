@@ -2,7 +2,7 @@ use Rattle.std.proofs.Common.{◌≡◌, ◌≤◌, ◌+◌, ◌++◌, length, t
 use Rattle.std.proofs.lemmas.List.{take-append-le, take_all, length-append, length-drop}
 use Rattle.call_places.specs.declared.entries.Step.{Step}
 use Rattle.hpke_context.specs.Contexts.{cipher_of}
-use Rattle.legal_journals.proofs.EntryNumbers.{length-steps_from}
+use Rattle.context_books.proofs.EntryNumbers.{length-steps_from}
 use Rattle.lane_replies.proofs.Items.{length-unseals}
 use Rattle.context_books.specs.Openings.{unseals}
 use Rattle.shared_context.specs.Calls.{HasCommitted}

@@ -1,7 +1,7 @@
 use Rattle.std.proofs.Common.{◌≡◌, ◌≢◌, ◌<◌, ◌≤◌, ◌+◌, ◌++◌, ◌∷◌, [], ℕ, List, length, Option, None, set, inl, inr, sym, ap, ◌∙◌, subst, arith, length-append, get_or-set_other}
 use Rattle.std.proofs.lemmas.List.{get_or-set_same}
 use Rattle.turn_lock.specs.Passes.{PassView, PassListView}
-use Rattle.legal_journals.proofs.Lists.{is_cases}
+use Rattle.context_books.proofs.Lists.{is_cases}
 use Rattle.lane_workers.specs.Turns.{pass_at}
 use Rattle.lane_workers.specs.Handing.{list_at, Takes}
 use Rattle.lane_workers.proofs.Handing.{found_here, front_same, last_same}

@@ -2,5 +2,4 @@ use Rattle.request_frames.proofs.Chains.{◌⨾◌}
 use Rattle.live_frames.proofs.printing.put_added_journal.Goals as goal
 
 pub returns : goal.returns
-returns g c =
-    c.put_text.ensures ⨾ c.put_number.ensures ⨾ c.put_text-2.ensures ⨾ c.put_marks.ensures
+returns g c = c.put_numbered.ensures ⨾ c.put_marks.ensures

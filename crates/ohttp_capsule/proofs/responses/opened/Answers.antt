@@ -16,6 +16,6 @@ returns c known =
     tag_holds-told key nonce [] ct c.check_tag.result c.check_tag.ensures.truth in
     let holds : tag_holds key nonce [] ct ≡ true = cc in
     let text : c.from_vec.result ≡ clear key nonce ct =
-    c.from_vec.ensures ∙ take_at c.decrypt_into.new.out _ c.in_ok-text.text.len (search rules)
+    c.from_vec.ensures.items ∙ take_at c.decrypt_into.new.out _ c.in_ok-text.text.len (search rules)
     ∙ c.decrypt_into.ensures in
     ap Ok text ∙ sym (cond-true (tag_holds key nonce [] ct) (Ok (clear key nonce ct)) (Err Failed) holds)

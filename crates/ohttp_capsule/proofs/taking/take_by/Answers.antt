@@ -62,7 +62,7 @@ returns c =
     let enc = c.as_slice.result.now in
     let nonce = c.split_at.result.0.now in
     let made = taken_by_parts asked response c.in_ok-key.key.key c.in_ok-key.key.nonce
-    c.as_slice.result.now c.split_at.result.0.now c.split_at.result.1.now c.as_slice.ensures
+    c.as_slice.result.now c.split_at.result.0.now c.split_at.result.1.now c.as_slice.ensures.items
     (c.split_at.ensures.front ∙ ap (λ n. take n response) size_is)
     (c.split_at.ensures.back ∙ ap (λ n. drop n response) size_is)
     (c.in_ok-key.ensures.key ∙ ap (λ v. aead_key v enc nonce) c.as_context-context.ensures)

@@ -9,10 +9,10 @@ decoded-requires-clause-count c = (length c.args.radices.now, omega arith, c.req
 
 pub returns-clause-digits : goal.returns-clause-digits
 unfolding decode
-returns-clause-digits c = c.from_vec.ensures ∙ c.in_ok-decoded.ensures (length c.args.radices.now) (omega arith)
+returns-clause-digits c = c.from_vec.ensures.items ∙ c.in_ok-decoded.ensures (length c.args.radices.now) (omega arith)
 
 pub returns-clause-below : goal.returns-clause-below
 returns-clause-below c =
     let ms = c.args.radices.now in
-    let is = c.from_vec.ensures ∙ c.in_ok-decoded.ensures (length ms) (omega arith) in
+    let is = c.from_vec.ensures.items ∙ c.in_ok-decoded.ensures (length ms) (omega arith) in
     subst (λ digits. AreBelow digits ms) (sym is) (AreBelow-decode_in (length ms) ms c.args.bytes.now (omega arith) c.requires.radices)

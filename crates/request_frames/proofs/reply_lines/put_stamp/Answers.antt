@@ -1,4 +1,4 @@
-use Rattle.key_frames.proofs.Chains.{◌⨾◌}
+use Rattle.request_frames.proofs.KeyChains.{◌⨾◌}
 use Rattle.request_frames.proofs.reply_lines.put_stamp.Goals as goal
 
 pub returns : goal.returns

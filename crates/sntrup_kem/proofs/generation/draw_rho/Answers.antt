@@ -10,7 +10,7 @@ returns-clause-count g c =
     let drawn : length c.in_ok-bytes.bytes.items ≡ 4 * c.div_ceil.result =
     ap length c.in_ok-bytes.ensures.bytes ∙ length-word_bytes word place c.div_ceil.result
     in
-    ap length c.from_vec.ensures
+    ap length c.from_vec.ensures.items
     ∙ ap length c.truncate.ensures.items
     ∙ length-front c.in_ok-bytes.bytes.items size (omega (arith, drawn, c.div_ceil.ensures))
     ∙ c.small_size-size.ensures.size

@@ -1,7 +1,7 @@
 use Rattle.std.proofs.Common.{◌+◌, ◌<◌, length, cond, sym, ap, ◌∙◌, subst}
 use Rattle.std.specs.Prelude.{slice_index}
 use Rattle.call_places.specs.Entries.{own, seq_of, StampsBelow}
-use Rattle.legal_journals.specs.Entries.{entry}
+use Rattle.context_books.specs.Entries.{entry}
 use Rattle.context_books.specs.Books.{BookView, MayStand}
 use Rattle.context_books.proofs.Adding.{grows}
 use Rattle.context_books.proofs.book.Book.add.Goals as goal

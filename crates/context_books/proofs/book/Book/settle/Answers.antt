@@ -6,10 +6,10 @@ use Rattle.call_places.specs.Entries.{own, seq_of, StampsBelow}
 use Rattle.hpke_context.specs.Answers.{Item, Cipher, Unseal, answer, next}
 use Rattle.hpke_context.specs.Contexts.{cipher_of}
 use Rattle.hpke_context.proofs.Tags.{tag_holds-told}
-use Rattle.legal_journals.specs.Batches.{place}
-use Rattle.legal_journals.specs.Entries.{entry, step_for}
-use Rattle.legal_journals.specs.Guesses.{is_in_window}
-use Rattle.legal_journals.proofs.EntryNumbers.{seq_of-push, number_next}
+use Rattle.context_books.specs.Batches.{place}
+use Rattle.context_books.specs.Entries.{entry, step_for}
+use Rattle.context_books.specs.Guesses.{is_in_window}
+use Rattle.context_books.proofs.EntryNumbers.{seq_of-push, number_next}
 use Rattle.call_places.specs.Messages.{SealedMessage, sealed_message}
 use Rattle.context_books.specs.Books.{opened_at}
 use Rattle.context_books.specs.Openings.{unseals, opening_steps, opening_misses, OpensIn}

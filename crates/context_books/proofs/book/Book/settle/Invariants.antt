@@ -2,8 +2,8 @@ use Rattle.std.proofs.Common.{◌≡◌, ◌+◌, ◌≤◌, ◌++◌, take, dro
 use Rattle.std.specs.Prelude.{slice_index}
 use Rattle.call_places.specs.Entries.{own, seq_of, StampsBelow}
 use Rattle.hpke_context.specs.Contexts.{cipher_of}
-use Rattle.legal_journals.specs.Entries.{entries_from, steps_from, numbers_from}
-use Rattle.legal_journals.specs.Guesses.{missed}
+use Rattle.context_books.specs.Entries.{entries_from, steps_from, numbers_from}
+use Rattle.context_books.specs.Guesses.{missed}
 use Rattle.context_books.specs.Books.{SameTerms}
 use Rattle.context_books.specs.Openings.{opening_steps, opening_misses, unseals}
 use Rattle.context_books.proofs.book.Book.settle.Given as goal

@@ -2,7 +2,7 @@ use Rattle.std.proofs.Common.{◌≡◌, ◌<◌, length, sym, ap, ◌∙◌, su
 use Rattle.std.specs.Prelude.{slice_get, slice_set}
 use Rattle.std.proofs.lemmas.Bool.{cases_lt}
 use Rattle.std.proofs.lemmas.Option.{slice_get_within, slice_get-get_or}
-use Rattle.core_schedules.proofs.Lists.{one_value, slice_get-set_same, slice_get-set_other}
+use Rattle.context_core.proofs.ScheduleLists.{one_value, slice_get-set_same, slice_get-set_other}
 use Rattle.context_core.specs.declared.lanes.Lane.{Lane}
 use Rattle.context_core.specs.Following.{LaneIsAnswered}
 use Rattle.context_core.proofs.answerers.ByCallerAnswerer.answer_lanes.Goals as goal

@@ -1,6 +1,6 @@
 use Rattle.std.proofs.Common.{◌≡◌, ◌<◌, ◌≤◌, ℕ, Some}
 use Rattle.std.specs.Prelude.{slice_get}
-use Rattle.core_schedules.specs.Core.{Core}
+use Rattle.context_core.specs.Core.{Core}
 use Rattle.context_core.specs.declared.lanes.Lane.{Lane}
 use Rattle.context_core.specs.Following.{AreDone, LaneIsAnswered}
 use Rattle.context_core.proofs.answerers.ByCallerAnswerer.answer_lanes.Given as goal

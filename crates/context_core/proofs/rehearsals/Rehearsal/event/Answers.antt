@@ -2,7 +2,7 @@ use Rattle.std.proofs.Common.{◌≡◌, ◌<◌, ◌≤◌, length, List, get_o
 use Rattle.std.specs.Prelude.{slice_get, slice_set}
 use Rattle.std.proofs.lemmas.List.{set-get_or}
 use Rattle.std.proofs.lemmas.Option.{slice_get_past}
-use Rattle.core_schedules.specs.Core.{Core, happens}
+use Rattle.context_core.specs.Core.{Core, happens}
 use Rattle.due_replies.specs.Asks.{batch_of, cipher_at}
 use Rattle.context_core.specs.declared.lanes.Lane.{Lane}
 use Rattle.lane_replies.specs.LaneCalls.{lane_calls}

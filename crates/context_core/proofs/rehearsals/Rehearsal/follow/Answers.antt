@@ -1,7 +1,7 @@
 use Rattle.std.proofs.Common.{ℕ, List, take, get_or, sym, subst, arith}
 use Rattle.std.proofs.lemmas.List.{take_all}
 use Rattle.std.proofs.lemmas.Option.{slice_get-get_or}
-use Rattle.core_schedules.specs.Core.{Core, all_happen}
+use Rattle.context_core.specs.Core.{Core, all_happen}
 use Rattle.due_replies.specs.Asks.{batch_of, cipher_at}
 use Rattle.context_core.specs.Following.{IsRehearsal}
 use Rattle.context_core.proofs.Events.{one_more}

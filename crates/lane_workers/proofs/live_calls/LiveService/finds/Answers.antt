@@ -1,7 +1,7 @@
 use Rattle.std.proofs.Common.{◌||◌, ◌<◌, ◌≤◌, ◌-◌, ap, sym, ◌∙◌, arith}
 use Rattle.std.proofs.lemmas.Bool.{lt-ltb, le-ltb}
 use Rattle.call_places.specs.declared.entries.Act.TheVariants as acts
-use Rattle.legal_journals.specs.Batches.{place}
+use Rattle.context_books.specs.Batches.{place}
 use Rattle.batch_plans.specs.Calls.{context_of}
 use Rattle.batch_plans.specs.Limits.{first_name}
 use Rattle.due_replies.specs.Live.{was_live}

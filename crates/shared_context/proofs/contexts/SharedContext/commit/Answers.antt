@@ -1,6 +1,6 @@
 use Rattle.std.proofs.Common.{List, ◌++◌, sym, ap, ◌∙◌, arith}
 use Rattle.call_places.specs.declared.entries.Entry.{Entry}
-use Rattle.legal_journals.specs.Entries.{entries_from}
+use Rattle.context_books.specs.Entries.{entries_from}
 use Rattle.context_books.proofs.Blocks.{IsOwn-entries, CallsWithin-entries, PlacesRise-entries}
 use Rattle.shared_context.proofs.contexts.SharedContext.commit.Goals as goal
 

@@ -1,9 +1,9 @@
 use Rattle.std.proofs.Common.{◌≡◌, ℕ, [], ◌∷◌, ◌++◌, refl, ap, subst, arith}
-use Rattle.legal_journals.specs.Entries.{entry}
+use Rattle.context_books.specs.Entries.{entry}
 use Rattle.context_books.specs.Books.{BookView, drawn_step}
 use Rattle.call_places.proofs.Stamps.{StampsBelow-weaker}
-use Rattle.stamped_lists.specs.Stamps.{ComesAfter}
-use Rattle.stamped_lists.proofs.Stamping.{stamped_more}
+use Rattle.stamp_counter.specs.Stamps.{ComesAfter}
+use Rattle.stamp_counter.proofs.Stamping.{stamped_more}
 use Rattle.shared_context.specs.Stamped.{StampedView}
 use Rattle.shared_context.proofs.stamped.StampedBook.draw.Goals as goal
 

@@ -1,11 +1,11 @@
 use Rattle.std.proofs.Common.{◌≡◌, ℕ, ◌+◌, ◌++◌, length, sym, ap, ◌∙◌, subst, arith}
 use Rattle.std.specs.List.{range_with_len}
-use Rattle.legal_journals.specs.Entries.{entries_from}
+use Rattle.context_books.specs.Entries.{entries_from}
 use Rattle.context_books.specs.Books.{BookView}
 use Rattle.call_places.proofs.Stamps.{StampsBelow-weaker}
 use Rattle.context_books.proofs.Blocks.{stamps_of-entries, StampsBelow-entries, length-entries}
-use Rattle.stamped_lists.specs.Stamps.{ComesAfter}
-use Rattle.stamped_lists.proofs.Stamping.{stamped_more}
+use Rattle.stamp_counter.specs.Stamps.{ComesAfter}
+use Rattle.stamp_counter.proofs.Stamping.{stamped_more}
 use Rattle.shared_context.specs.Stamped.{StampedView}
 use Rattle.shared_context.proofs.stamped.StampedBook.settle.Goals as goal
 

@@ -1,0 +1,12 @@
+pub mod Lines
+pub mod SetUps
+pub mod Journals
+pub mod Sealings
+pub mod Puts
+pub mod FirstBatch
+pub mod Hashes
+pub mod Opened
+pub mod Openings
+pub mod OpeningRuns
+pub mod SecondBatch
+pub mod Reported

@@ -1,0 +1,98 @@
+//! The second batch: how many of the ciphertexts are opened.
+
+ghost use Rattle.std.specs.Prelude.{◌≡◌, ◌<◌, ◌≤◌, ◌^◌, ℕ, length, IfOk, Some, true};
+ghost use Rattle.batch_plans.specs.Limits.{IsWithinLimits, IsPlain};
+ghost use Rattle.batch_plans.specs.Replies.{IsInRange};
+ghost use Rattle.reply_texts.specs.Lines.{reply_line};
+ghost use Rattle.demo_texts.specs.Plans.{IsOpeningPlan};
+ghost use Rattle.demo_workers.specs.Steps.{opened_line, IsOpenedLane, IsSealed};
+
+use crate::serving::serve;
+use batch_io::Gate;
+use batch_plans::{LaneAnswers, Plan, Reply};
+use context_table::laws::ends_match;
+use context_table::set_up;
+use demo_texts::{CIPHERTEXT_SIZE, opening_batch};
+use ring_core::Plain;
+use std::alloc::{AllocError, Global};
+use std::sync::Wait;
+use std::thread::Threads;
+
+// T: the bytes 00 to 3f.
+const SEALED_TEXT: [u8; 64] = [
+    0, 1, 2, 3, 4, 5, 6, 7, 8, 9, 10, 11, 12, 13, 14, 15, 16, 17, 18, 19, 20, 21, 22, 23, 24, 25,
+    26, 27, 28, 29, 30, 31, 32, 33, 34, 35, 36, 37, 38, 39, 40, 41, 42, 43, 44, 45, 46, 47, 48, 49,
+    50, 51, 52, 53, 54, 55, 56, 57, 58, 59, 60, 61, 62, 63,
+];
+
+// What the type of a number says.
+fn see_number(number: u64)
+    ensures { number < 2 ^ 64 }
+{}
+
+// The reply is T, opened.
+fn is_opened(pool: &[u8], reply: &Reply) -> bool
+    requires { IsInRange (length pool.now) reply.now }
+    ensures { (n : ℕ) → n < 65536 → reply_line pool.now reply.now ≡ opened_line n → result ≡ true }
+{
+    match *reply {
+        Reply::Opened { number, text } => {
+            see_number(number);
+            text.of(pool) == SEALED_TEXT.as_slice()
+        }
+        _ => false,
+    }
+}
+
+// How many of the first replies of a lane are T, opened.
+fn count_opened(lane: &LaneAnswers, messages: u32) -> u32
+    requires { IsOpenedLane messages lane.now }
+    ensures { result ≡ messages }
+{
+    let pool = lane.pool.as_slice();
+    let replies = lane.replies.as_slice();
+    let mut opened = 0;
+    'replies: for i in 0..messages as usize {
+        if is_opened(pool, &replies[i]) {
+            opened += 1;
+        }
+    }
+    opened
+}
+
+// How many messages are opened of ciphertexts that were sealed, by the plan that opens them.
+fn opened_by<R: Threads + Wait + Sync, G: Gate + Sync>(
+    rt: &R,
+    alloc: Global,
+    plan: &Plan,
+    cts: &[[u8; CIPHERTEXT_SIZE]],
+    gate: &G,
+) -> Result<u32, AllocError>
+    requires plan { (seed : ℕ) × IsOpeningPlan seed cts.now plan.now
+        × IsSealed seed (length cts.now) (Some cts.now) }
+    requires limits { IsWithinLimits plan.now }
+    requires plain { IsPlain plan.now }
+    requires few { length cts.now ≤ 65536 }
+    ensures { IfOk result (λ opened. opened ≡ length cts.now) }
+{
+    let setup = set_up(alloc, plan, &Plain)?;
+    let answers = serve(rt, alloc, plan, setup, gate)?;
+    ends_match();
+    Ok(count_opened(&answers.lanes.as_slice()[0], cts.len() as u32))
+}
+
+/// How many messages are opened of the ciphertexts that the first batch gave.
+pub(crate) fn opened_messages<R: Threads + Wait + Sync, G: Gate + Sync>(
+    rt: &R,
+    alloc: Global,
+    seed: u64,
+    cts: &[[u8; CIPHERTEXT_SIZE]],
+    gate: &G,
+) -> Result<u32, AllocError>
+    requires sealed { IsSealed seed (length cts.now) (Some cts.now) }
+    requires few { length cts.now ≤ 65536 }
+    ensures { IfOk result (λ opened. opened ≡ length cts.now) }
+{
+    let plan = opening_batch(alloc, seed, cts)?;
+    opened_by(rt, alloc, &plan, cts, gate)
+}

@@ -1,0 +1,7 @@
+use Rattle.std.proofs.Common.{[]}
+use Rattle.std.proofs.lemmas.List.{replicate_more}
+use Rattle.journal_check.proofs.piles.empty_piles.Goals as goal
+
+pub piles-preserved : goal.piles-preserved
+piles-preserved g c =
+    rw (c.in_ok-push.ensures.items, c.piles.invariant, c.new.ensures) (replicate_more c.piles._pile [])

@@ -1,0 +1,22 @@
+use Rattle.std.proofs.Common.{◌≡◌, ◌+◌, ◌++◌, drop, true, false, List, map, ap, sym, ◌∙◌, subst}
+use Rattle.std.specs.Option.{MatchOption}
+use Rattle.std.specs.List.{list_all}
+use Rattle.call_places.specs.declared.entries.Mark.{Mark}
+use Rattle.due_replies.specs.LiveChecks.{call_mark}
+use Rattle.journal_check.specs.Tables.{is_low}
+use Rattle.journal_check.proofs.NotedCalls.{marks_next, low_next}
+use Rattle.journal_check.proofs.tables.journal_marks.Goals as goal
+
+pub journals-preserved : goal.journals-preserved
+journals-preserved c =
+    let journals = c.args.journals.now in
+    let i = c.journals.journal-index in
+    let here = c.as_slice.ensures.items ∙ c.journal-item.is in
+    let found : (c.in-Some.own ≡ map call_mark c.as_slice.result.now) × (list_all is_low c.as_slice.result.now ≡ true) =
+    subst (λ o. MatchOption o (list_all is_low c.as_slice.result.now ≡ false) (λ marks. (marks ≡ map call_mark c.as_slice.result.now) × (list_all is_low c.as_slice.result.now ≡ true)))
+    c.in-Some.is c.in_ok-own.ensures in
+    record {
+      made = ap (λ (ms : List (List Mark)). ms ++ map (map call_mark) (drop (i + 1) journals)) c.in_ok-push.ensures.items
+          ∙ marks_next journals i _ c.in-Some.own c.journals.marks.items _ c.journals-test.true (found.0 ∙ ap (map call_mark) here) c.journals.invariant.made;
+      low = low_next journals i _ _ c.journals-test.true (sym (ap (list_all is_low) here) ∙ found.1) c.journals.invariant.low;
+    }

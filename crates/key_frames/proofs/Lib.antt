@@ -1,6 +1,0 @@
-pub mod SpelledFields
-pub mod SpelledKeys
-pub mod MoreLines
-pub mod Chains
-pub mod Leaves
-pub mod LinesLeft

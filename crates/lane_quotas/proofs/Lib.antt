@@ -1,4 +1,0 @@
-pub mod Sums
-pub mod Counts
-pub mod Columns
-pub mod Places

@@ -1,5 +1,0 @@
-use Rattle.legal_journals.proofs.OneHistory.{history_iff}
-use Rattle.legal_journals.proofs.histories.a_legal_history_is_one_list.Goals as goal
-
-pub returns : goal.returns
-returns c = history_iff

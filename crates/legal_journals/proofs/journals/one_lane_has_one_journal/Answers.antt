@@ -1,5 +1,0 @@
-use Rattle.legal_journals.proofs.OneLane.{one_lane_only}
-use Rattle.legal_journals.proofs.journals.one_lane_has_one_journal.Goals as goal
-
-pub returns : goal.returns
-returns c = one_lane_only

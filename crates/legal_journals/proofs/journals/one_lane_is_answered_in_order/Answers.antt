@@ -1,8 +1,0 @@
-use Rattle.legal_journals.proofs.OneLane.{sealed, opened}
-use Rattle.legal_journals.proofs.journals.one_lane_is_answered_in_order.Goals as goal
-
-pub returns-clause-sealed : goal.returns-clause-sealed
-returns-clause-sealed c = sealed
-
-pub returns-clause-opened : goal.returns-clause-opened
-returns-clause-opened c = opened

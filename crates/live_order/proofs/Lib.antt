@@ -1,0 +1,9 @@
+pub mod LaneByLane
+pub mod TableStamps
+pub mod InTurn
+pub mod OwnLines
+pub mod Rooms
+pub mod Whole
+pub mod Lives
+pub mod Putting
+pub mod Made

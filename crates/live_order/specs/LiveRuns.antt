@@ -1,0 +1,28 @@
+-- Answers that are those of a run whose lanes add and retire contexts.
+use Rattle.std.specs.Prelude.{ℕ, ◌≡◌, List, Option}
+use Rattle.hpke_context.specs.Contexts.{ContextView}
+use Rattle.batch_plans.specs.declared.plan.Plan.{Plan}
+use Rattle.batch_plans.specs.declared.replies.Answers.{Answers}
+use Rattle.reply_texts.specs.ReplyText.{numbered}
+use Rattle.reply_texts.specs.LiveText.{lanes_given}
+use Rattle.due_replies.specs.Live.{LiveRun, IsAllowedLive, live_lane_lines}
+
+-- the run of these answers, with these guesses
+abbrev pub live_run : Plan → List (Option ContextView) → Answers → List (List ℕ) → LiveRun
+live_run plan standing answers guesses =
+    record {
+      plan = plan;
+      replies = answers.contexts;
+      standing = standing;
+      journals = answers.journals;
+      guesses = guesses;
+      notes = answers.notes;
+    }
+
+-- with some guesses the answers are those of a run that is allowed
+pub record IsALiveRun (plan : Plan) (standing : List (Option ContextView)) (answers : Answers)
+    : Type 0 where
+  pub guesses : List (List ℕ)
+  pub allowed : IsAllowedLive (live_run plan standing answers guesses)
+  pub lines : lanes_given plan.lanes answers.lanes
+      ≡ numbered (live_lane_lines (live_run plan standing answers guesses)) 0 plan.lanes

@@ -1,0 +1,117 @@
+//! Lines of the reply text by themselves, each printed into memory of its own.
+
+ghost use Rattle.std.specs.Prelude.{ℕ, ◌≡◌, ◌++◌, List, [], codes, decimal, length, IfOk};
+ghost use Rattle.batch_plans.specs.Replies.{IsInRange};
+ghost use Rattle.field_text.specs.Printing.{Puts, IsFresh};
+ghost use Rattle.reply_texts.specs.Lines.{key_line, context_line, reply_line};
+ghost use Rattle.reply_texts.specs.LiveText.{note_line};
+
+use crate::replies::put_key_line;
+use crate::reply_lines::{put_context_line, put_note, put_numbered, put_reply};
+use batch_io::{Sink, Took};
+use batch_plans::{ContextReply, KeyReply, Reply};
+use call_places::Entry;
+use field_text::{Buffer, Printed};
+use std::alloc::{AllocError, Global};
+
+/// A sink that keeps all that is written, and fails only where memory runs out.
+#[derive(Drop)]
+pub struct TextSink {
+    /// What was written.
+    pub text: Vec<u8>,
+    faults: u64,
+}
+
+impl Sink for TextSink {
+    ghost use Rattle.std.specs.Prelude.{Some};
+
+    ghost written = { λ s. Some s.text.items };
+
+    ghost faults = { λ s. s.faults };
+
+    fn write(&mut self, piece: &[u8]) -> Took {
+        match self.text.extend_from_slice(piece) {
+            Ok(()) => Took::Bytes(piece.len()),
+            Err(_) => {
+                self.faults = self.faults.saturating_add(1);
+                Took::Failed
+            }
+        }
+    }
+}
+
+impl TextSink {
+    /// A sink that nothing was written to.
+    pub fn new(alloc: Global) -> TextSink
+        ensures { result.text.items ≡ [] }
+    {
+        TextSink {
+            text: Vec::new(alloc),
+            faults: 0,
+        }
+    }
+
+    // What was put, where all of it was written.
+    fn into_line(mut self, out: &mut Buffer) -> Result<Vec<u8>, AllocError>
+        ensures { (start : TextSink) (fresh : Buffer) (line : List ℕ) → IsFresh fresh
+            → start.text.items ≡ []
+            → Puts (λ s. Some s.text.items) (λ s. s.faults) start self fresh out.old line
+            → IfOk result (λ text. text.items ≡ line) }
+    {
+        match out.finish(&mut self) {
+            Printed::Whole => Ok(self.text),
+            Printed::Failed => Err(AllocError),
+        }
+    }
+}
+
+/// A line of a word and a number.
+pub fn numbered_line(alloc: Global, word: &[u8], number: u64) -> Result<Vec<u8>, AllocError>
+    ensures { IfOk result (λ line. line.items ≡ word.now ++ decimal number ++ codes "\n") }
+{
+    let mut out = Buffer::new();
+    let mut sink = TextSink::new(alloc);
+    put_numbered(&mut out, &mut sink, word, number);
+    sink.into_line(&mut out)
+}
+
+/// The reply to the key line of this number.
+pub fn key_line(alloc: Global, number: u64, reply: &KeyReply) -> Result<Vec<u8>, AllocError>
+    ensures { IfOk result (λ line. line.items ≡ key_line number reply.now) }
+{
+    let mut out = Buffer::new();
+    let mut sink = TextSink::new(alloc);
+    put_key_line(&mut out, &mut sink, number, reply);
+    sink.into_line(&mut out)
+}
+
+/// The reply to the context line of this number.
+pub fn context_line(alloc: Global, number: u64, reply: &ContextReply) -> Result<Vec<u8>, AllocError>
+    ensures { IfOk result (λ line. line.items ≡ context_line number reply.now) }
+{
+    let mut out = Buffer::new();
+    let mut sink = TextSink::new(alloc);
+    put_context_line(&mut out, &mut sink, number, reply);
+    sink.into_line(&mut out)
+}
+
+/// The line of a reply, whose span is of the pool.
+pub fn reply_line(alloc: Global, pool: &[u8], reply: &Reply) -> Result<Vec<u8>, AllocError>
+    requires { IsInRange (length pool.now) reply.now }
+    ensures { IfOk result (λ line. line.items ≡ reply_line pool.now reply.now) }
+{
+    let mut out = Buffer::new();
+    let mut sink = TextSink::new(alloc);
+    put_reply(&mut out, &mut sink, pool, reply);
+    sink.into_line(&mut out)
+}
+
+/// The line of a note of the table.
+pub fn note_line(alloc: Global, note: &Entry) -> Result<Vec<u8>, AllocError>
+    ensures { IfOk result (λ line. line.items ≡ note_line note.now) }
+{
+    let mut out = Buffer::new();
+    let mut sink = TextSink::new(alloc);
+    put_note(&mut out, &mut sink, note);
+    sink.into_line(&mut out)
+}

@@ -1,0 +1,45 @@
+-- The replies that are due along the journals of a run, without what openings guessed.
+use Rattle.std.specs.Prelude.{ℕ, List, [], ◌∷◌, map, Option, Some, None, if◌then◌else◌}
+use Rattle.std.specs.Str.{bytes_eq}
+use Rattle.call_places.specs.Spans.{span_bytes}
+use Rattle.context_books.specs.Batches.{block, place}
+use Rattle.batch_plans.specs.declared.plan.CallLine.{CallLine}
+use Rattle.batch_plans.specs.declared.plan.CallLine.TheVariants as calls
+use Rattle.reply_texts.specs.ReplyText.{all_lines, numbered}
+use Rattle.due_replies.specs.Standing.{standing_at, call_refusal}
+use Rattle.due_replies.specs.Runs.{Run, place_line, export_line, lines_unless}
+use Rattle.result_lines.specs.Places.{with_feed}
+use Rattle.result_lines.specs.Told.{ReplyView}
+
+-- those to the items of a call that is served
+abbrev pub item_lines : Run → ℕ → ℕ → CallLine → List (List ℕ)
+item_lines run lane number (calls.Seal context item) =
+    place_line run context (place lane number 0) ∷ []
+item_lines run lane number (calls.Unseal context item) =
+    place_line run context (place lane number 0) ∷ []
+item_lines run lane number (calls.UnsealAll context first count) =
+    map (place_line run context) (block lane number 0 count)
+item_lines run lane number (calls.Export context exporter size) =
+    export_line (standing_at run.contexts context) (span_bytes run.plan.pool exporter) size ∷ []
+item_lines run lane number (calls.Add name) = []
+item_lines run lane number (calls.Retire name) = []
+
+-- those to a call
+abbrev pub reply_lines : Run → ℕ → ℕ → CallLine → List (List ℕ)
+reply_lines run lane number call =
+    lines_unless (call_refusal run.contexts call) (item_lines run lane number call)
+
+-- those of a lane
+abbrev pub lane_replies : Run → ℕ → List CallLine → List (List ℕ)
+lane_replies run lane calls = all_lines (numbered (reply_lines run lane) 0 calls)
+
+-- those of all lanes
+abbrev pub all_replies : Run → List (List ℕ)
+all_replies run = all_lines (numbered (lane_replies run) 0 run.plan.lanes)
+
+-- the number of the first line that isn't the one that is due; one for which none is due is wrong
+abbrev pub wrong_reply : List ReplyView → List (List ℕ) → Option ℕ
+wrong_reply [] due = None
+wrong_reply (reply ∷ more) [] = Some reply.number
+wrong_reply (reply ∷ more) (line ∷ due) =
+    if bytes_eq (with_feed reply.line) line then wrong_reply more due else Some reply.number

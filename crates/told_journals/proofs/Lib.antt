@@ -1,9 +1,0 @@
-pub mod Walks
-pub mod Asking
-pub mod Alike
-pub mod Putting
-pub mod Dealt
-pub mod KeptPlaces
-pub mod OneHistory
-pub mod NotedCalls
-pub mod LiveNames

@@ -1,8 +1,0 @@
-use Rattle.std.proofs.Common.{◌≡◌, drop}
-use Rattle.std.specs.List.{list_all}
-use Rattle.told_journals.specs.Histories.{is_within}
-use Rattle.told_journals.proofs.histories.are_within.Given as goal
-
-abbrev pub invariant-history : goal.invariant-history
-invariant-history l =
-    list_all (is_within l.contexts l.lanes) (drop l.spot-index l.history) ≡ list_all (is_within l.contexts l.lanes) l.history

@@ -1,9 +1,0 @@
-use Rattle.std.proofs.Common.{sym, ◌∙◌}
-use Rattle.legal_journals.specs.Histories.{places}
-use Rattle.told_journals.proofs.Dealt.{has_lanes_by}
-use Rattle.told_journals.proofs.journals.has_lanes.Goals as goal
-
-pub returns-then-are_of_lanes : goal.returns-then-are_of_lanes
-returns-then-are_of_lanes c = λ batch context many asked_is.
-    c.are_places.ensures
-    ∙ has_lanes_by batch context c.args.lanes (places c.args.marks.now) c.args.told.now c.args.asked.now many c.requires asked_is (sym c.are_of_lanes.ensures ∙ c.if-are_of_lanes.true)

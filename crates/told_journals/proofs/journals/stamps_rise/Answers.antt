@@ -1,5 +1,0 @@
-use Rattle.told_journals.proofs.Walks.{stamps_end}
-use Rattle.told_journals.proofs.journals.stamps_rise.Goals as goal
-
-pub returns : goal.returns
-returns c = stamps_end c.args.marks.now c.marks.i _ c.marks.invariant.some c.marks-test.false c.marks.invariant.rise

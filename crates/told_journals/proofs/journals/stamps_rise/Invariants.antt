@@ -1,9 +1,0 @@
-use Rattle.std.proofs.Common.{◌≡◌, ◌≤◌, ◌-◌, drop}
-use Rattle.result_verdicts.specs.Journals.{stamps_rise}
-use Rattle.told_journals.proofs.journals.stamps_rise.Given as goal
-
-abbrev pub invariant-marks : goal.invariant-marks
-invariant-marks l = record {
-  rise : stamps_rise (drop (l.i - 1) l.marks) ≡ stamps_rise l.marks;
-  some : 1 ≤ l.i;
-}

@@ -1,6 +1,0 @@
-use Rattle.std.proofs.Common.{◌≡◌, []}
-use Rattle.std.specs.Prelude.{replicate}
-use Rattle.told_journals.proofs.piles.empty_piles.Given as goal
-
-abbrev pub invariant-piles : goal.invariant-piles
-invariant-piles g l = l.piles.items ≡ replicate l._pile []

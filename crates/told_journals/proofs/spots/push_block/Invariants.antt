@@ -1,7 +1,0 @@
-use Rattle.std.proofs.Common.{◌≡◌, ◌-◌, ◌++◌}
-use Rattle.legal_journals.specs.Batches.{block, spots}
-use Rattle.told_journals.proofs.spots.push_block.Given as goal
-
-abbrev pub invariant-items : goal.invariant-items
-invariant-items l =
-    l.spots.items ++ spots l.context (block l.lane l.call l.item (l.count - l.item)) ≡ l.initial.spots.items ++ spots l.context (block l.lane l.call 0 l.count)

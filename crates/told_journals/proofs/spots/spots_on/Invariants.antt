@@ -1,7 +1,0 @@
-use Rattle.std.proofs.Common.{◌≡◌, ◌++◌, drop}
-use Rattle.told_journals.specs.Histories.{spots_from}
-use Rattle.told_journals.proofs.spots.spots_on.Given as goal
-
-abbrev pub invariant-calls : goal.invariant-calls
-invariant-calls l =
-    l.spots.items ++ spots_from l.lane l.number (drop l.number l.calls) ≡ spots_from l.lane 0 l.calls

@@ -1,5 +1,0 @@
-pub mod Asks
-pub mod Histories
-pub mod Piles
-pub mod Tables
-pub mod Lives
