@@ -11,7 +11,7 @@ use Rattle.batch_plans.specs.Limits.{most_input}
 use Rattle.batch_plans.specs.declared.plan.Plan.{Plan}
 use Rattle.reply_texts.specs.ReplyText.{bad_text}
 use Rattle.request_frames.specs.Batch.{batch, batch_lines, ended, front_batch}
-use Rattle.live_frames.specs.Live.{front_live, live, live_lines}
+use Rattle.request_frames.specs.Live.{front_live, live, live_lines}
 use Rattle.capsule_frames.specs.Capsules.{capsules, capsule_lines}
 use Rattle.capsule_runs.specs.Replies.{IsCapsuleReply}
 use Rattle.context_table.specs.ReplyTo.{IsLiveReply, IsReply}

@@ -12,7 +12,7 @@ use Rattle.batch_plans.specs.declared.plan.Plan.{Plan}
 use Rattle.field_text.specs.declared.reasons.Reason.TheVariants.{Size}
 use Rattle.field_text.specs.Lines.{bad}
 use Rattle.request_frames.specs.Batch.{batch_lines, ended, front_batch}
-use Rattle.live_frames.specs.Live.{front_live, live_lines}
+use Rattle.request_frames.specs.Live.{front_live, live_lines}
 use Rattle.batch_serving.specs.Text.{front_by}
 use Rattle.batch_serving.proofs.Ends.{large_front, large_front_live}
 

@@ -11,8 +11,8 @@ use Rattle.request_frames.specs.Batch.{batch, front_batch, BadAt, FrontBadAt}
 use Rattle.due_replies.specs.Runs.{run_text}
 use Rattle.context_table.specs.SetUp.{IsSetUp}
 use Rattle.context_table.specs.ReplyTo.{IsReply, IsLiveReply}
-use Rattle.live_frames.specs.Live.{live, front_live}
-use Rattle.live_frames.specs.Live.{BadAt as BadLiveAt, FrontBadAt as FrontBadLiveAt}
+use Rattle.request_frames.specs.Live.{live, front_live}
+use Rattle.request_frames.specs.Live.{BadAt as BadLiveAt, FrontBadAt as FrontBadLiveAt}
 use Rattle.context_core.specs.Rehearsals.{rehearsed}
 use Rattle.result_lines.specs.declared.verdicts.Verdict.{Verdict}
 use Rattle.result_lines.specs.declared.verdicts.Verdict.TheVariants.{Legal}

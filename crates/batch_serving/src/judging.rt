@@ -4,7 +4,7 @@ ghost use Rattle.std.specs.Prelude.{◌≡◌, ◌≤◌, length, drop, true, fa
 ghost use Rattle.batch_plans.specs.Limits.{IsWithinLimits, most_input};
 ghost use Rattle.request_frames.specs.Batch.{front_batch};
 ghost use Rattle.batch_serving.specs.Effects.{Writes};
-ghost use Rattle.live_frames.specs.Live.{front_live};
+ghost use Rattle.request_frames.specs.Live.{front_live};
 ghost use Rattle.batch_serving.specs.Text.{Judges, TellsVerdict};
 
 use crate::multipliers::Named;
@@ -14,8 +14,7 @@ use aes_gcm::MayCheck;
 use batch_io::Sink;
 use batch_words::Mult;
 use journal_check::{check_live_result_by, check_result_by};
-use live_frames::read_live_front;
-use request_frames::{Plan, read_front};
+use request_frames::{Plan, read_front, read_live_front};
 use std::alloc::Global;
 
 // Judges a result of `run`, and tells the verdict.

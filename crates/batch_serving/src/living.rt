@@ -4,7 +4,7 @@ ghost use Rattle.std.specs.Prelude.{◌≡◌, IfOk, Ok};
 ghost use Rattle.batch_plans.specs.Limits.{IsWithinLimits};
 ghost use Rattle.reply_texts.specs.ReplyText.{IsAnswered};
 ghost use Rattle.reply_texts.specs.LiveText.{live_text};
-ghost use Rattle.live_frames.specs.Live.{live};
+ghost use Rattle.request_frames.specs.Live.{live};
 ghost use Rattle.context_table.specs.ReplyTo.{IsLiveReply};
 ghost use Rattle.batch_serving.specs.Effects.{Writes};
 ghost use Rattle.batch_serving.specs.Text.{AnswersBy};
@@ -16,8 +16,8 @@ use batch_io::Sink;
 use batch_plans::{Answers, Plan};
 use batch_words::Mult;
 use context_table::{Setup, export_limits, set_up};
-use live_frames::read_live;
 use live_order::run_live_in_order;
+use request_frames::read_live;
 use speculative_open::Crew;
 use std::alloc::{AllocError, Global};
 

@@ -18,8 +18,8 @@ use batch_io::Sink;
 use capsule_frames::print_capsules;
 use capsule_runs::CapsuleAnswers;
 use demo_texts::{DemoReport, print_report};
-use live_frames::print_live;
-use request_frames::{Answers, BadBatch, Plan, Printed, ReadBatchFault, print_answers, print_bad};
+use reply_frames::{print_answers, print_bad, print_live};
+use request_frames::{Answers, BadBatch, Plan, Printed, ReadBatchFault};
 use result_lines::{Verdict, print_verdict};
 
 // How a run ends whose text was printed so.

@@ -10,8 +10,9 @@ ghost use Rattle.capsule_frames.specs.Text.{capsules_text};
 
 use crate::replies::{CapsuleRefusal, CapsuleReply};
 use batch_io::Sink;
+use batch_plans::KeyReplies;
 use field_text::{Buffer, Printed};
-use request_frames::{KeyReplies, put_keys};
+use reply_frames::put_keys;
 
 fn word_of_refusal(refusal: CapsuleRefusal) -> &'static [u8]
     ensures { result.now ≡ refusal_word refusal }

@@ -6,7 +6,7 @@ use Rattle.field_text.specs.declared.reasons.Reason.{Reason}
 use Rattle.field_text.specs.declared.faults.BadBatch.{BadBatch as Bad}
 use Rattle.reply_texts.specs.ReplyText.{bad_text}
 use Rattle.request_frames.specs.Batch.{batch}
-use Rattle.live_frames.specs.Live.{live}
+use Rattle.request_frames.specs.Live.{live}
 use Rattle.capsule_frames.specs.Capsules.{capsules}
 use Rattle.capsule_runs.specs.Replies.{IsCapsuleReply}
 use Rattle.context_table.specs.ReplyTo.{IsReply, IsLiveReply}

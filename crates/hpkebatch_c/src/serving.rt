@@ -12,7 +12,7 @@ use crate::outputs::put;
 use crate::statuses::{BAD_BATCH, BROKEN, NO_MEMORY, NO_ROOM, WRONG_USAGE};
 use aes_gcm::MayCheck;
 use batch_serving::{Outcome, serve_alone};
-use request_frames::TextSink;
+use reply_frames::TextSink;
 use std::alloc::{AllocError, Global};
 use std::rt::Memory;
 

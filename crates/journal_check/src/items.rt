@@ -13,7 +13,7 @@ use aes_gcm::Checks;
 use batch_plans::{CallLine, Plan, Reply, items_from};
 use call_places::{Item, Place, Span};
 use hpke_context::{CallFault, Sequential};
-use request_frames::reply_line;
+use reply_frames::reply_line;
 use std::alloc::{AllocError, Global};
 
 /// What an item asks: to be sealed, or to be opened.

@@ -26,7 +26,7 @@ use batch_plans::{CallLine, Reply};
 use call_places::Span;
 use due_replies::{refusal_of, standing};
 use hpke_context::Context;
-use request_frames::reply_line;
+use reply_frames::reply_line;
 use result_lines::{Replies, Stop};
 use std::alloc::{AllocError, Global};
 

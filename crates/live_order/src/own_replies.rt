@@ -9,7 +9,7 @@ ghost use Rattle.live_order.specs.Own.{add_reply, retire_reply, own_reply, put_a
 
 use batch_plans::{CallLine, CallRefusal, ContextRefusal, ContextReply, LaneAnswers, Plan, Reply};
 use call_places::Entry;
-use request_frames::reply_count;
+use reply_frames::reply_count;
 use result_lines::live_calls;
 use std::alloc::{AllocError, Global};
 

@@ -4,9 +4,8 @@
 //! and reasons, `specs/Lines.antt` the lines of keys, contexts, replies and guesses.
 //! `specs/ReplyText.antt` has the whole text, for version 1 and version 2 of the batch text, and
 //! says which of a lane's replies belong to which call. `answers_text` is the text of given answers
-//! to a plan, which request_frames prints, and `live_text` of `specs/LiveText.antt` that of a plan
-//! whose lanes add and retire contexts, which live_frames prints. Which answers a plan may have is
-//! not known here.
+//! to a plan, and `live_text` of `specs/LiveText.antt` that of a plan whose lanes add and retire
+//! contexts; reply_frames prints both. Which answers a plan may have is not known here.
 //!
 //! `proofs/Calls.antt` adds the lines of one call more to those of the calls before it, and
 //! `proofs/Pools.antt` says that bytes written behind the replies' spans change no line.

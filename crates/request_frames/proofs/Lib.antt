@@ -7,14 +7,9 @@ pub mod SpelledCalls
 pub mod AddedContexts
 pub mod Growth
 pub mod SpelledPlans
-pub mod Chains
-pub mod Leaves
-pub mod LinesLeft
 pub mod SpelledTexts
 pub mod Fronts
 pub mod SpelledKeyFields
 pub mod SpelledKeys
 pub mod MoreLines
-pub mod KeyChains
-pub mod KeyLeaves
-pub mod KeyLinesLeft
+pub mod SpelledLive

@@ -5,17 +5,18 @@ use Rattle.std.proofs.lemmas.Fmt.{decimal_digit}
 use Rattle.std.proofs.lemmas.List.{length-append}
 use Rattle.std.proofs.lemmas.List.Elements.{All-nil}
 use Rattle.call_places.specs.declared.spans.Item.{Item}
+use Rattle.field_text.specs.declared.reasons.Reason.{Reason}
 use Rattle.field_text.specs.declared.reasons.Reason.TheVariants as reasons
 use Rattle.field_text.specs.Cuts.{line_feed, lines_of}
 use Rattle.field_text.specs.declared.faults.BadBatch.{BadBatch}
-use Rattle.field_text.specs.Lines.{Grammar, FrontText, front, whole}
+use Rattle.field_text.specs.Lines.{Grammar, FrontText, bad, front, whole}
 use Rattle.field_text.proofs.Spellings.{joined, word_ok, IsFront-same}
 use Rattle.field_text.proofs.SpelledLines.{IsText, text_read, front_read}
 use Rattle.batch_plans.specs.declared.plan.Plan.{Plan}
 use Rattle.batch_plans.specs.declared.plan.ContextLine.{ContextLine}
 use Rattle.request_frames.specs.KeyText.{seed_text, key_text}
 use Rattle.request_frames.specs.Added.{added_contexts, IsLive}
-use Rattle.request_frames.specs.Batch.{ended, front_batch, header, batch_lines, batch, empty_plan, Spells}
+use Rattle.request_frames.specs.Batch.{ended, header, batch_lines, batch, empty_plan, Spells}
 use Rattle.batch_plans.specs.Limits.{most_input, IsWithinLimits, IsPlain}
 use Rattle.request_frames.specs.PlanText.{context_text, lane_text, text_of}
 use Rattle.request_frames.proofs.Growth as growth
@@ -135,15 +136,21 @@ ended_ok text (Ok found) plan end e =
 ended_ok text (Err fault) plan end e = absurd cc
 
 -- what stands behind a front is no longer than the text
-pub behind_front : (text after : List ℕ) (found : FrontText Plan) → front batch_lines most_input text ≡ Ok found → found.rest ≡ lines_of after → length after ≤ length text
-behind_front text after found e is =
-    let read = front_plan_read text found e in
-    let rest : join_with_byte line_feed found.rest ≡ after = ap (join_with_byte line_feed) is ∙ joined line_feed after in
-    omega (arith, ap length read.parts, length-append (text_of found.plan) (join_with_byte line_feed found.rest), ap length rest)
+pub behind_front : {names : Bool} (text after : List ℕ) (plan : Plan) → IsRead names plan text (join_with_byte line_feed (lines_of after))
+    → length after ≤ length text
+behind_front text after plan read =
+    let rest = join_with_byte line_feed (lines_of after) in
+    omega (arith, ap length read.parts, length-append (text_of plan) rest, ap length (joined line_feed after))
 
 -- where it ends
-pub front_found : (text after : List ℕ) (plan : Plan) (lines : ℕ) → front batch_lines most_input text ≡ Ok (record { plan = plan; lines = lines; rest = lines_of after })
-    → front_batch text ≡ Ok (plan, length text - length after)
-unfolding front_batch
-front_found text after plan lines e =
+pub front_ends : {W : Type 0} (g : Grammar Plan W) (text after : List ℕ) (plan : Plan) (lines : ℕ)
+    → front g most_input text ≡ Ok (record { plan = plan; lines = lines; rest = lines_of after })
+    → ended text (front g most_input text) ≡ Ok (plan, length text - length after)
+front_ends g text after plan lines e =
     ap (ended text) e ∙ ap (λ (rest : List ℕ). Ok (plan, length text - length rest)) (joined line_feed after)
+
+-- each text has a plan or a first bad line
+pub either : {P : Type 0} (read : Result P BadBatch)
+    → ((plan : P) × (read ≡ Ok plan)) ⊎ ((n : ℕ) × (reason : Reason) × (read ≡ bad n reason))
+either (Ok plan) = inl (plan, refl)
+either (Err fault) = inr (fault.line, fault.reason, refl)

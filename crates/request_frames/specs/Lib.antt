@@ -2,6 +2,7 @@ pub mod Words
 pub mod Forms
 pub mod Batch
 pub mod Added
+pub mod Live
 pub mod PlanText
 pub mod FieldFaults
 pub mod LineParts

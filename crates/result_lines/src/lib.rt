@@ -1,7 +1,7 @@
 //! Reads a result of a plan back, line by line, and defines the verdict on it.
 //!
 //! A result is a reply text, a format of this program's own. The plan, the replies to its set-up
-//! and the contexts decide which lines it must have, and request_frames prints those that are known
+//! and the contexts decide which lines it must have, and reply_frames prints those that are known
 //! whole; its replies, guesses and journals are read from it. [`read_result`] gives what a text says,
 //! or its first line that is missing or of another form, as `told_by` of `specs/Told.antt` defines it.
 //!

@@ -16,7 +16,7 @@ use crate::told::Told;
 use batch_plans::{CallLine, ContextLine, ContextReply, KeyReply, PlainList, Plan};
 use call_places::Entry;
 use hpke_context::Context;
-use request_frames::note_line;
+use reply_frames::note_line;
 use std::alloc::Global;
 
 // The journals of contexts that are added.

@@ -14,7 +14,7 @@ ghost use Rattle.due_replies.specs.Live.{was_live, looked_up as looked_up_call, 
 
 use batch_plans::{CallLine, FIRST_NAME, LaneLines, PlainList, Plan, context_of};
 use call_places::Entry;
-use request_frames::tells_live;
+use reply_frames::tells_live;
 use std::alloc::{AllocError, Global};
 
 // Puts down that a call's name was live.

@@ -10,7 +10,7 @@ use crate::verdicts::Verdict;
 use batch_io::Sink;
 use batch_plans::FIRST_NAME;
 use field_text::{Buffer, Printed};
-use request_frames::put_numbered;
+use reply_frames::put_numbered;
 
 // The line of a journal, by the number that calls name its context by.
 fn put_journal<K: Sink>(out: &mut Buffer, sink: &mut K, context: u32)

@@ -14,7 +14,7 @@ use crate::stop::Stop;
 use crate::told::Told;
 use batch_plans::{CallLine, ContextLine, ContextReply, KeyReply, PlainList, Plan};
 use hpke_context::Context;
-use request_frames::{context_line, key_line};
+use reply_frames::{context_line, key_line};
 use std::alloc::Global;
 
 // The lines of the keys.

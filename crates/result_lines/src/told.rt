@@ -16,7 +16,7 @@ use crate::stop::Stop;
 use batch_plans::{Batch, CallLine, PlainList};
 use due_replies::refusal_of;
 use hpke_context::Context;
-use request_frames::numbered_line;
+use reply_frames::numbered_line;
 use std::alloc::Global;
 use std::marker::Model;
 use std::mem;

@@ -1,5 +1,5 @@
-//! Tests of the texts: of byte_strings, call_places, batch_io, field_text, request_frames (with
-//! batch_plans), live_frames, capsule_frames and batch_words, a module a crate.
+//! Tests of the texts: of byte_strings, call_places, batch_io, field_text, reply_frames and
+//! request_frames (with batch_plans), live_frames, capsule_frames and batch_words, a module a crate.
 //!
 //! They are a crate of their own, so that each of those crates is proved without them, and use
 //! public calls alone. There is nothing here to call.

@@ -1,5 +1,5 @@
 use Rattle.std.proofs.Common.{Err, ap, subst, sym}
-use Rattle.live_frames.specs.Live.{live}
+use Rattle.request_frames.specs.Live.{live}
 use Rattle.context_table.specs.ReplyTo.{IsLiveReply}
 use Rattle.batch_serving.specs.Text.{AnswersBy}
 use Rattle.batch_serving.specs.Effects.{Writes}

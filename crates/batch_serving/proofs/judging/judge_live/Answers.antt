@@ -1,6 +1,6 @@
 use Rattle.std.proofs.Common.{◌≤◌, ℕ, List, Err, ap, length, subst, sym, true}
 use Rattle.batch_plans.specs.Limits.{most_input}
-use Rattle.live_frames.specs.Live.{front_live}
+use Rattle.request_frames.specs.Live.{front_live}
 use Rattle.batch_serving.specs.Effects.{Writes}
 use Rattle.batch_serving.specs.Text.{Judges, TellsVerdict}
 use Rattle.batch_serving.proofs.Fronts.{front_within, rest_small}

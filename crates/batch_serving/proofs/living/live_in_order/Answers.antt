@@ -1,6 +1,6 @@
 use Rattle.std.proofs.Common.{◌∙◌, Ok, Err, ap, subst, sym}
 use Rattle.batch_plans.specs.declared.plan.Plan.{Plan}
-use Rattle.live_frames.specs.Live.{live}
+use Rattle.request_frames.specs.Live.{live}
 use Rattle.context_table.specs.ReplyTo.{IsLiveReply}
 use Rattle.batch_serving.specs.Text.{AnswersBy}
 use Rattle.batch_serving.specs.Effects.{Writes}

@@ -4,7 +4,7 @@ use Rattle.field_text.proofs.Held.{Puts-same}
 use Rattle.batch_plans.specs.declared.replies.KeyReply.{KeyReply}
 use Rattle.reply_texts.specs.Lines.{key_line}
 use Rattle.reply_texts.specs.ReplyText.{numbered}
-use Rattle.request_frames.proofs.KeyChains.{◌⨾◌}
+use Rattle.reply_frames.proofs.Chains.{◌⨾◌}
 use Rattle.capsule_frames.specs.declared.replies.CapsuleReply.{CapsuleReply}
 use Rattle.capsule_frames.specs.Text.{capsule_line, capsules_text}
 use Rattle.capsule_frames.proofs.printing.put_capsules.Goals as goal

@@ -1,4 +1,4 @@
-use Rattle.request_frames.proofs.KeyChains.{◌⨾◌}
+use Rattle.reply_frames.proofs.Chains.{◌⨾◌}
 use Rattle.capsule_frames.proofs.printing.put_line.Goals as goal
 
 pub returns : goal.returns

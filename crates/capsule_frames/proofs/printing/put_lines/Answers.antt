@@ -1,5 +1,5 @@
-use Rattle.request_frames.proofs.KeyLeaves.{Leaves-whole, Leaves-next, Leaves-nothing}
-use Rattle.request_frames.proofs.KeyLinesLeft.{each-next, each-end}
+use Rattle.reply_frames.proofs.Leaves.{Leaves-whole, Leaves-next, Leaves-nothing}
+use Rattle.reply_frames.proofs.LinesLeft.{each-next, each-end}
 use Rattle.capsule_frames.specs.Text.{capsule_line}
 use Rattle.capsule_frames.proofs.printing.put_lines.Goals as goal
 

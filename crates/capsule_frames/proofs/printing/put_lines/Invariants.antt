@@ -1,5 +1,5 @@
-use Rattle.request_frames.proofs.KeyLeaves.{Leaves}
-use Rattle.request_frames.proofs.KeyLinesLeft.{each_from}
+use Rattle.reply_frames.proofs.Leaves.{Leaves}
+use Rattle.reply_frames.proofs.LinesLeft.{each_from}
 use Rattle.capsule_frames.specs.Text.{capsule_line}
 use Rattle.capsule_frames.proofs.printing.put_lines.Given as goal
 

@@ -1,7 +1,7 @@
 use Rattle.std.proofs.Common.{ap}
 use Rattle.field_text.specs.Printing.{hex_text}
 use Rattle.field_text.proofs.Held.{Puts-same}
-use Rattle.request_frames.proofs.KeyChains.{◌⨾◌}
+use Rattle.reply_frames.proofs.Chains.{◌⨾◌}
 use Rattle.capsule_frames.proofs.printing.put_words.Goals as goal
 
 pub returns-in-Asked : goal.returns-in-Asked

@@ -1,4 +1,4 @@
-use Rattle.request_frames.proofs.Chains.{◌⨾◌}
+use Rattle.reply_frames.proofs.Chains.{◌⨾◌}
 use Rattle.demo_texts.proofs.reports.put_report.Goals as goal
 
 pub returns : goal.returns

@@ -1,5 +1,0 @@
-use Rattle.request_frames.proofs.Chains.{◌⨾◌}
-use Rattle.request_frames.proofs.reply_lines.put_context_line.Goals as goal
-
-pub returns : goal.returns
-returns g c = c.put_head.ensures ⨾ c.put_context_words.ensures ⨾ c.put_text.ensures

@@ -1,5 +1,0 @@
-use Rattle.request_frames.proofs.Chains.{◌⨾◌}
-use Rattle.request_frames.proofs.reply_lines.put_head.Goals as goal
-
-pub returns : goal.returns
-returns g c = c.put_text.ensures ⨾ c.put_number.ensures ⨾ c.put_text-2.ensures

@@ -1,5 +1,0 @@
-use Rattle.request_frames.proofs.KeyChains.{◌⨾◌}
-use Rattle.request_frames.proofs.reply_lines.put_stamp.Goals as goal
-
-pub returns : goal.returns
-returns g c = rw c.if-not-stamps.false (c.put_text.ensures ⨾ c.put_number.ensures)
