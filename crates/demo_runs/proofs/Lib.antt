@@ -10,4 +10,3 @@ pub mod Openings
 pub mod OpeningRuns
 pub mod SecondBatch
 pub mod Reported
-pub mod Rehearsed
