@@ -16,6 +16,13 @@ use Rattle.batch_serving.specs.declared.outcomes.Outcome.TheVariants.{Done, Writ
 use Rattle.batch_serving.specs.Effects.{Says, SaysFault, SaysReply, Writes, end_of}
 use Rattle.batch_serving.specs.Text.{AnswersBy, IsTold}
 
+-- the text of the answers replies to what was read
+said_reply : {P A E : Type 0} (IsReplyTo : P → List ℕ → Type 0) (plan : P) (text_of : A → List ℕ)
+    (answered : Result A E) → IfOk answered (λ a. IsReplyTo plan (text_of a)) → (due : Outcome) (said : List ℕ)
+    → SaysReply text_of answered due said → AnswersBy IsReplyTo (Ok plan) due said
+said_reply IsReplyTo plan text_of (Ok answers) is due said s = (s.0, subst (IsReplyTo plan) (sym s.1) is)
+said_reply IsReplyTo plan text_of (Err fault) is due said s = absurd s
+
 module _ {K : Type 0} (written : K → Option (List ℕ)) (faults : K → ℕ) (old new : K) where
   -- a text that was printed is one that is due
   pub printed : (IsDue : Outcome → List ℕ → Type 0) (result : Printed) (due : Outcome) (text : List ℕ)
@@ -66,12 +73,8 @@ module _ {K : Type 0} (written : K → Option (List ℕ)) (faults : K → ℕ) (
       → Writes written faults old new (SaysReply text_of answered) outcome
       → Writes written faults old new (AnswersBy IsReplyTo (Ok plan)) outcome
   reply_told IsReplyTo plan text_of answered outcome is =
-      due_as (SaysReply text_of answered) (AnswersBy IsReplyTo (Ok plan)) outcome (go answered is)
-    where
-      go : (r : Result A E) → IfOk r (λ a. IsReplyTo plan (text_of a)) → (due : Outcome) (said : List ℕ)
-          → SaysReply text_of r due said → AnswersBy IsReplyTo (Ok plan) due said
-      go (Ok answers) is due said s = (s.0, subst (IsReplyTo plan) (sym s.1) is)
-      go (Err fault) is due said s = absurd s
+      due_as (SaysReply text_of answered) (AnswersBy IsReplyTo (Ok plan)) outcome
+      (said_reply IsReplyTo plan text_of answered is)
 
   -- what is told of an input that couldn't be read
   pub fault_told : (IsDue : Outcome → List ℕ → Type 0) (fault : ReadBatchFault) (outcome : Outcome)
