@@ -1,6 +1,5 @@
-use Rattle.std.proofs.Common.{◌≡◌, ◌⊎◌, ◌∙◌, ℕ, List, refl, subst, sym}
-use Rattle.batch_serving.specs.declared.outcomes.Outcome.{Outcome}
-use Rattle.batch_serving.specs.declared.outcomes.Outcome.TheVariants.{Done, BadBatch, OutOfMemory}
+use Rattle.std.proofs.Common.{◌≡◌, ◌⊎◌, ◌∙◌, ℕ, List, subst, sym}
+use Rattle.batch_serving.specs.declared.outcomes.Outcome.TheVariants.{Done, OutOfMemory}
 use Rattle.batch_serving.specs.Effects.{Writes}
 use Rattle.batch_serving.specs.Text.{MayEnd}
 use Rattle.batch_alone.proofs.Told.{bad_told, broken_told, of_no_input, told, told_whole}
