@@ -1,6 +1,6 @@
 //! A batch whose lanes add and retire contexts, answered: `live`.
 
-ghost use Rattle.std.specs.Prelude.{◌<◌, ◌≤◌, IfOk, Ok};
+ghost use Rattle.std.specs.Prelude.{◌<◌, ◌≤◌, IfOk};
 ghost use Rattle.batch_plans.specs.Limits.{IsWithinLimits};
 ghost use Rattle.reply_texts.specs.ReplyText.{IsAnswered};
 ghost use Rattle.reply_texts.specs.LiveText.{live_text};
@@ -12,7 +12,7 @@ ghost use Rattle.batch_serving.specs.Text.{AnswersBy};
 
 use batch_io::{Gate, Sink};
 use batch_plans::{Answers, Plan};
-use batch_serving::{Begun, Outcome, begin, tell_fault, tell_live};
+use batch_serving::{Begun, Outcome, begin, tell_fault, tell_live_run};
 use batch_words::Mult;
 use request_frames::read_live;
 use shared_runs::run_live;
@@ -40,32 +40,6 @@ fn served_by<R: Threads + Wait + Sync, G: Gate + Sync>(
     run_live(rt, alloc, plan, standing, answers, workers, gate)
 }
 
-// Writes the replies to a plan.
-fn reply_to<R: Threads + Wait + Sync, K: Sink, G: Gate + Sync>(
-    rt: &R,
-    alloc: Global,
-    plan: &Plan,
-    workers: u32,
-    mult: Mult,
-    sink: &mut K,
-    gate: &G,
-) -> Outcome
-    requires within { IsWithinLimits plan.now }
-    requires live { IsLive plan.now }
-    requires workers { (0 < workers) × (workers ≤ 16) }
-    ensures { Writes K.written K.faults sink.old sink.new
-        (AnswersBy IsLiveReply (Ok plan.now)) result }
-{
-    match served_by(rt, alloc, plan, workers, mult, gate) {
-        Ok(answers) => {
-            let outcome = tell_live(plan, &answers, sink);
-            drop(answers);
-            outcome
-        }
-        Err(_) => Outcome::OutOfMemory,
-    }
-}
-
 /// Answers a batch whose lanes add and retire contexts, or tells its first bad line.
 pub(crate) fn answer_live<R: Threads + Wait + Sync, K: Sink, G: Gate + Sync>(
     rt: &R,
@@ -82,7 +56,8 @@ pub(crate) fn answer_live<R: Threads + Wait + Sync, K: Sink, G: Gate + Sync>(
 {
     match read_live(alloc, input) {
         Ok(plan) => {
-            let outcome = reply_to(rt, alloc, &plan, workers, mult, sink, gate);
+            let answered = served_by(rt, alloc, &plan, workers, mult, gate);
+            let outcome = tell_live_run(&plan, answered, sink);
             drop(plan);
             outcome
         }

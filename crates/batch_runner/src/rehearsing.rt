@@ -1,6 +1,6 @@
 //! A batch, answered in the order of a schedule: `rehearse`.
 
-ghost use Rattle.std.specs.Prelude.{IfOk, Ok};
+ghost use Rattle.std.specs.Prelude.{IfOk};
 ghost use Rattle.batch_plans.specs.Limits.{IsPlain, IsWithinLimits};
 ghost use Rattle.reply_texts.specs.ReplyText.{answers_text, IsAnswered};
 ghost use Rattle.request_frames.specs.Batch.{batch};
@@ -9,7 +9,7 @@ ghost use Rattle.batch_serving.specs.Text.{AnswersBy, IsRehearsal};
 
 use batch_io::Sink;
 use batch_plans::{Answers, Plan};
-use batch_serving::{Begun, Outcome, begin, tell_answers, tell_fault};
+use batch_serving::{Begun, Outcome, begin, tell_answered, tell_fault};
 use batch_words::Mult;
 use context_core::rehearse;
 use request_frames::read_batch;
@@ -38,29 +38,6 @@ fn rehearsed_by<R: Threads + Sync>(
     Ok(answers)
 }
 
-// Writes the replies to a plan.
-fn reply_to<R: Threads + Sync, K: Sink>(
-    rt: &R,
-    alloc: Global,
-    plan: &Plan,
-    schedule: &[u8],
-    sink: &mut K,
-) -> Outcome
-    requires within { IsWithinLimits plan.now }
-    requires plain { IsPlain plan.now }
-    ensures { Writes K.written K.faults sink.old sink.new
-        (AnswersBy (IsRehearsal schedule.now) (Ok plan.now)) result }
-{
-    match rehearsed_by(rt, alloc, plan, schedule) {
-        Ok(answers) => {
-            let outcome = tell_answers(plan, &answers, sink);
-            drop(answers);
-            outcome
-        }
-        Err(_) => Outcome::OutOfMemory,
-    }
-}
-
 /// Answers a batch whose lanes take their steps by a schedule, or tells its first bad line.
 pub(crate) fn rehearse_batch<R: Threads + Sync, K: Sink>(
     rt: &R,
@@ -74,7 +51,8 @@ pub(crate) fn rehearse_batch<R: Threads + Sync, K: Sink>(
 {
     match read_batch(alloc, input) {
         Ok(plan) => {
-            let outcome = reply_to(rt, alloc, &plan, schedule, sink);
+            let answered = rehearsed_by(rt, alloc, &plan, schedule);
+            let outcome = tell_answered(&plan, answered, sink);
             drop(plan);
             outcome
         }

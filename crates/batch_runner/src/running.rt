@@ -10,7 +10,7 @@ ghost use Rattle.batch_serving.specs.Text.{AnswersBy};
 
 use batch_io::{Gate, Sink};
 use batch_plans::{Answers, Plan};
-use batch_serving::{Begun, Outcome, begin, tell_fault, tell_run};
+use batch_serving::{Begun, Outcome, begin, tell_answered, tell_fault};
 use batch_words::Mult;
 use request_frames::read_batch;
 use shared_runs::run_lanes;
@@ -55,7 +55,7 @@ pub(crate) fn run_batch<R: Threads + Wait + Sync, K: Sink, G: Gate + Sync>(
     match read_batch(alloc, input) {
         Ok(plan) => {
             let answered = served_by(rt, alloc, &plan, workers, mult, gate);
-            let outcome = tell_run(&plan, answered, sink);
+            let outcome = tell_answered(&plan, answered, sink);
             drop(plan);
             outcome
         }

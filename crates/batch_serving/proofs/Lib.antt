@@ -5,5 +5,3 @@ pub mod Rehearsed
 pub mod Rooms
 pub mod Replied
 pub mod Writing
-pub mod Told
-pub mod Lived

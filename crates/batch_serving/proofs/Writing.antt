@@ -1,6 +1,6 @@
 -- What was written, by the texts that are due.
-use Rattle.std.proofs.Common.{◌≡◌, ℕ, List, Option, Result, Ok, refl, subst, sym}
-use Rattle.std.specs.Prelude.{◌≢◌}
+use Rattle.std.proofs.Common.{◌≡◌, ℕ, List, Option, Result, Ok, Err, refl, subst, sym}
+use Rattle.std.specs.Prelude.{◌≢◌, IfOk}
 use Rattle.std.specs.Io.KnownBytes.{Appends}
 use Rattle.batch_io.specs.Outside.{Rose}
 use Rattle.field_text.specs.Lines.{bad}
@@ -13,8 +13,15 @@ use Rattle.field_text.specs.declared.printing.Printed.{Printed}
 use Rattle.field_text.specs.declared.printing.Printed.TheVariants.{Whole, Failed}
 use Rattle.batch_serving.specs.declared.outcomes.Outcome.{Outcome}
 use Rattle.batch_serving.specs.declared.outcomes.Outcome.TheVariants.{Done, WriteFault, OutOfMemory}
-use Rattle.batch_serving.specs.Effects.{Says, SaysFault, Writes, end_of}
+use Rattle.batch_serving.specs.Effects.{Says, SaysFault, SaysReply, Writes, end_of}
 use Rattle.batch_serving.specs.Text.{AnswersBy, IsTold}
+
+-- the text of the answers replies to what was read
+said_reply : {P A E : Type 0} (IsReplyTo : P → List ℕ → Type 0) (plan : P) (text_of : A → List ℕ)
+    (answered : Result A E) → IfOk answered (λ a. IsReplyTo plan (text_of a)) → (due : Outcome) (said : List ℕ)
+    → SaysReply text_of answered due said → AnswersBy IsReplyTo (Ok plan) due said
+said_reply IsReplyTo plan text_of (Ok answers) is due said s = (s.0, subst (IsReplyTo plan) (sym s.1) is)
+said_reply IsReplyTo plan text_of (Err fault) is due said s = absurd s
 
 module _ {K : Type 0} (written : K → Option (List ℕ)) (faults : K → ℕ) (old new : K) where
   -- a text that was printed is one that is due
@@ -59,6 +66,15 @@ module _ {K : Type 0} (written : K → Option (List ℕ)) (faults : K → ℕ) (
   replied IsReplyTo plan text outcome is =
       due_as (Says Done text) (AnswersBy IsReplyTo (Ok plan)) outcome
       (λ due said s. (s.0, subst (IsReplyTo plan) (sym s.1) is))
+
+  -- the reply to what was read, where it was answered
+  pub reply_told : {P A E : Type 0} (IsReplyTo : P → List ℕ → Type 0) (plan : P) (text_of : A → List ℕ)
+      (answered : Result A E) (outcome : Outcome) → IfOk answered (λ a. IsReplyTo plan (text_of a))
+      → Writes written faults old new (SaysReply text_of answered) outcome
+      → Writes written faults old new (AnswersBy IsReplyTo (Ok plan)) outcome
+  reply_told IsReplyTo plan text_of answered outcome is =
+      due_as (SaysReply text_of answered) (AnswersBy IsReplyTo (Ok plan)) outcome
+      (said_reply IsReplyTo plan text_of answered is)
 
   -- what is told of an input that couldn't be read
   pub fault_told : (IsDue : Outcome → List ℕ → Type 0) (fault : ReadBatchFault) (outcome : Outcome)

@@ -1,7 +1,7 @@
 -- What a run does with its two ends: what it takes of the source, what it writes to the sink, and why a
 -- fault comes. `left` and `misses`, `written` and `faults` are what the ends tell of themselves: their
 -- bytes, where they tell them, and how often they have failed.
-use Rattle.std.specs.Prelude.{◌≡◌, ◌≢◌, ◌⊎◌, ◌≤◌, ℕ, List, length, Option, Some}
+use Rattle.std.specs.Prelude.{◌≡◌, ◌≢◌, ◌⊎◌, ◌≤◌, ℕ, List, length, Option, Some, Result, Ok, Err}
 use Rattle.std.specs.Io.KnownBytes.{Consumes, Appends}
 use Rattle.batch_io.specs.Outside.{Rose}
 use Rattle.field_text.specs.Printing.{AppendsPrefix}
@@ -11,7 +11,7 @@ use Rattle.field_text.specs.declared.faults.ReadBatchFault.{ReadBatchFault}
 use Rattle.field_text.specs.declared.faults.ReadBatchFault.TheVariants as read_faults
 use Rattle.batch_words.specs.declared.commands.Command.{Command}
 use Rattle.batch_serving.specs.declared.outcomes.Outcome.{Outcome}
-use Rattle.batch_serving.specs.declared.outcomes.Outcome.TheVariants.{ReadFault, WriteFault, OutOfMemory}
+use Rattle.batch_serving.specs.declared.outcomes.Outcome.TheVariants.{Done, ReadFault, WriteFault, OutOfMemory}
 use Rattle.batch_serving.specs.Input.{input_limit}
 use Rattle.batch_serving.specs.Text.{IsReadBy, IsTold, MayEnd}
 
@@ -25,6 +25,11 @@ Says due said outcome text = (outcome ≡ due) × (text ≡ said)
 abbrev pub SaysFault : ReadBatchFault → Outcome → List ℕ → Type 0
 SaysFault (read_faults.Bad bad) outcome text = IsTold bad outcome text
 SaysFault read_faults.OutOfMemory outcome text = ⊥
+
+-- the text of the answers, where there are some
+abbrev pub SaysReply : {A E : Type 0} → (A → List ℕ) → Result A E → Outcome → List ℕ → Type 0
+SaysReply text_of (Ok answers) outcome text = Says Done (text_of answers) outcome text
+SaysReply text_of (Err fault) outcome text = ⊥
 
 -- how a run ends whose text was printed so
 abbrev pub end_of : Printed → Outcome → Outcome

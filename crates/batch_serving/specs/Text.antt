@@ -1,5 +1,5 @@
 -- What may come of an input by a command: how the command ends, and the text that it writes.
-use Rattle.std.specs.Prelude.{◌≡◌, ◌≢◌, ℕ, ◌↔◌, Bool, true, false, List, drop, Option, Some, Result, Ok, Err}
+use Rattle.std.specs.Prelude.{◌≡◌, ◌≢◌, ℕ, ◌↔◌, Bool, true, false, List, drop, Option, Result, Ok, Err}
 use Rattle.field_text.specs.declared.reasons.Reason.{Reason}
 use Rattle.field_text.specs.declared.faults.BadBatch.{BadBatch}
 use Rattle.hpke_context.specs.Contexts.{ContextView}
@@ -155,5 +155,3 @@ abbrev pub IsBrokenFor : Command → List ℕ → Verdict → Type 0
 IsBrokenFor (commands.Check mult) input verdict = IsBroken false input verdict
 IsBrokenFor (commands.CheckLive mult) input verdict = IsBroken true input verdict
 IsBrokenFor _ input verdict = ⊥
-
--- ---- who serves them

@@ -1,10 +1,9 @@
-//! Serves what a command asks for, up to where threads are needed.
+//! What may come of an input by a command, and the steps that all ways of serving it share.
 //!
 //! `MayEnd` of `specs/Text.antt` says how a command may end for an input, and with which text. Here
-//! are the definitions of that, the steps of all commands that need no threads (reading the input,
-//! setting up, judging, writing), and [`serve_alone`], which serves every command on the calling
-//! thread. batch_runner has the other half: lanes that threads serve, and
-//! the program's top call.
+//! are the definitions of that, and the steps that need no lanes: reading the input, setting up,
+//! judging, writing. Two crates above serve lanes: batch_runner by threads, with the program's top
+//! call, and batch_alone on the calling thread.
 //!
 //! `run` and `rehearse` work in this order: read the batch by its grammar; set up the keys and
 //! contexts (RFC 9180, 5.1); take all memory for the replies and the journals; do the calls (RFC 9180,
@@ -13,34 +12,25 @@
 //! its context's journal.
 //!
 //! A contract sees a source and a sink as the bytes that they report and as their counts of faults.
-//! Each [`Outcome`] but `OutOfMemory` has its cause there. Nothing here starts a thread or waits, but
-//! for the tests of tags of a crew that does.
+//! Each [`Outcome`] but `OutOfMemory` has its cause there. Nothing here starts a thread or waits.
 //!
 //! Tests: `command_tests`.
 #![tactic(auto)]
 
-mod alone;
-mod demonstrating;
-mod exchanging;
 mod judging;
 mod laws;
-mod living;
 mod multipliers;
 mod outcomes;
 mod reading;
-mod rehearsing;
-mod running;
+mod replying;
 mod setting_up;
 mod telling;
 
-pub use alone::serve_alone;
-pub use exchanging::tell_exchange;
 pub use judging::{judge, judge_live};
 pub use laws::written_replies_are_legal;
 pub use multipliers::Named;
 pub use outcomes::{Outcome, status};
 pub use reading::{ReadStop, read_input};
-pub use rehearsing::rehearse_batch;
-pub use running::tell_run;
+pub use replying::{tell_answered, tell_exchange, tell_live_run};
 pub use setting_up::{Begun, begin};
-pub use telling::{tell_answers, tell_fault, tell_live, tell_report};
+pub use telling::{tell_fault, tell_report};

@@ -57,7 +57,7 @@ pub fn tell_fault<K: Sink>(fault: &ReadBatchFault, sink: &mut K) -> Outcome
 
 /// Writes the replies to a plan, which were answered.
 #[inline(never)]
-pub fn tell_answers<K: Sink>(plan: &Plan, answers: &Answers, sink: &mut K) -> Outcome
+pub(crate) fn tell_answers<K: Sink>(plan: &Plan, answers: &Answers, sink: &mut K) -> Outcome
     requires { IsAnswered plan.now answers.now }
     ensures { Writes K.written K.faults sink.old sink.new
         (Says Outcome.Done (answers_text plan.now answers.now)) result }
@@ -67,7 +67,7 @@ pub fn tell_answers<K: Sink>(plan: &Plan, answers: &Answers, sink: &mut K) -> Ou
 
 /// Writes a verdict.
 #[inline(never)]
-pub fn tell_verdict<K: Sink>(verdict: Verdict, sink: &mut K) -> Outcome
+pub(crate) fn tell_verdict<K: Sink>(verdict: Verdict, sink: &mut K) -> Outcome
     ensures { Writes K.written K.faults sink.old sink.new
         (Says (outcome_on verdict) (verdict_text verdict)) result }
 {
@@ -86,7 +86,7 @@ pub fn tell_report<K: Sink>(report: &DemoReport, sink: &mut K) -> Outcome
 
 /// Writes the replies to a plan whose lanes add and retire contexts, which were answered.
 #[inline(never)]
-pub fn tell_live<K: Sink>(plan: &Plan, answers: &Answers, sink: &mut K) -> Outcome
+pub(crate) fn tell_live<K: Sink>(plan: &Plan, answers: &Answers, sink: &mut K) -> Outcome
     requires { IsAnswered plan.now answers.now }
     ensures { Writes K.written K.faults sink.old sink.new
         (Says Outcome.Done (live_text plan.now answers.now)) result }
@@ -96,7 +96,7 @@ pub fn tell_live<K: Sink>(plan: &Plan, answers: &Answers, sink: &mut K) -> Outco
 
 /// Writes the replies to capsules.
 #[inline(never)]
-pub fn tell_capsules<K: Sink>(answers: &CapsuleAnswers, sink: &mut K) -> Outcome
+pub(crate) fn tell_capsules<K: Sink>(answers: &CapsuleAnswers, sink: &mut K) -> Outcome
     ensures { Writes K.written K.faults sink.old sink.new
         (Says Outcome.Done (capsules_text answers.now.keys answers.now.replies)) result }
 {

@@ -1,4 +1,4 @@
-//! Whole runs over memory: tests of batch_runner and batch_serving.
+//! Whole runs over memory: tests of batch_runner, batch_alone and batch_serving.
 
 mod alone;
 mod faults;

@@ -1,5 +1,5 @@
-//! Tests of the command and of what its threads share: `batch_runner`, `batch_serving`, `shared_context`,
-//! `live_table`, `stamp_counter`, `stamp_counter` and `turn_lock`, by their public calls alone.
+//! Tests of the command and of what its threads share: `batch_runner`, `batch_alone`, `batch_serving`,
+//! `shared_context`, `live_table`, `stamp_counter` and `turn_lock`, by their public calls alone.
 //!
 //! They are a crate of their own, so that each of those crates is proved without them.
 #![tactic(auto)]

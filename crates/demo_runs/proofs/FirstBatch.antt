@@ -1,5 +1,5 @@
 -- What the first batch gives.
-use Rattle.std.proofs.Common.{◌≡◌, ℕ, ◌<◌, ◌≤◌, true, List, [], ◌∷◌, length, Option, Some, sym, ap, subst, ◌∙◌, arith}
+use Rattle.std.proofs.Common.{◌≡◌, ℕ, ◌<◌, ◌≤◌, true, false, List, [], ◌∷◌, length, Option, Some, None, sym, ap, subst, ◌∙◌, arith}
 use Rattle.std.specs.Prelude.{sum_by, sum}
 use Rattle.std.specs.List.{All, AllByRecursion, range_with_len, flat_map}
 use Rattle.std.proofs.lemmas.List.Sums.{sum-map}
@@ -16,13 +16,17 @@ use Rattle.reply_texts.specs.ReplyText.{IsAnswered, has_stamps}
 use Rattle.due_replies.specs.Runs.{Run, asks_of, journal_of, LegalFor}
 use Rattle.context_table.specs.SetUp.{IsSetUp}
 use Rattle.demo_texts.specs.Texts.{share_of}
-use Rattle.demo_texts.specs.Plans.{SealsText, IsSealingPlan, set_up_plan}
+use Rattle.demo_texts.specs.Plans.{SealsText, IsSealingPlan, BeginsAs, set_up_plan}
 use Rattle.demo_texts.proofs.Spelled.{share_sum}
-use Rattle.demo_runs.specs.Runners.{AnswersARun, run_along}
-use Rattle.demo_runs.specs.Steps.{SealedLanes, AreLow, AreSealedLanes, put_all, is_generated, IsSealed}
+use Rattle.demo_runs.specs.declared.batches.DemoBatch.{DemoBatch}
+use Rattle.demo_runs.specs.declared.batches.ServedBatch.{ServedBatch}
+use Rattle.demo_runs.specs.declared.sealing.Sealing.{Sealing}
+use Rattle.demo_runs.specs.Batches.{AnswersARun, run_along, is_generated, IsSealed, IsBegun, IsSealing, HasSealed}
+use Rattle.demo_runs.specs.Steps.{SealedLanes, AreLow, AreSealedLanes, put_all}
 use Rattle.demo_runs.proofs.SetUps.{SenderStands, sender_stands, sealed_size, get_standing, generated_is, set_up_of}
 use Rattle.demo_runs.proofs.Sealings.{SealingRun, all_numbers, lanes_sealed, all_low, all_there, journal_size}
 use Rattle.demo_runs.proofs.Puts.{put_whole}
+use Rattle.demo_runs.proofs.Reported.{none_found}
 
 -- the first batch was served, on a key that was generated
 pub record FirstBatch (seed messages lanes : ℕ) (plan : Plan) (contexts : List ContextReply)
@@ -127,3 +131,61 @@ first_batch seed messages lanes plan keys contexts standing answers s generated 
         some = some;
       },
     )
+
+-- ---- set up and served
+
+pub no_key : (seed messages lanes : ℕ) (plan : Plan) (batch : DemoBatch) → IsSealingPlan seed messages lanes plan
+    → IsBegun plan batch → is_generated batch.answers.keys ≡ false → IsSealed seed messages None
+no_key seed messages lanes plan batch is begun none =
+    let a = batch.answers in
+    let begins = subst (BeginsAs seed) (sym begun.plan_is) is.begins in
+    record {
+      keys = a.keys;
+      contexts = a.contexts;
+      standing = batch.standing;
+      set_up = set_up_of seed batch.plan begins a.keys a.contexts batch.standing begun.ready.set_up;
+      found_is = none_found messages a.keys batch.standing none;
+    }
+
+pub with_key : (seed messages lanes : ℕ) (plan : Plan) (first : Sealing) → 0 < lanes → messages ≤ 65536
+    → IsSealingPlan seed messages lanes plan → IsBegun plan first.batch
+    → is_generated first.batch.answers.keys ≡ true → length first.room ≡ messages → IsSealing seed messages first
+with_key seed messages lanes plan first some few is begun generated room = record {
+  ready = begun.ready;
+  lanes = lanes;
+  some = some;
+  few = few;
+  is = subst (IsSealingPlan seed messages lanes) (sym begun.plan_is) is;
+  generated = generated;
+  room = room;
+}
+
+pub first_of : (seed messages : ℕ) (served : ServedBatch) (room : List (List ℕ)) (t : HasSealed seed messages served room)
+    → (public : List ℕ) × (secret : List ℕ)
+    × FirstBatch seed messages t.is.lanes served.plan t.sealing.batch.answers.contexts t.sealing.batch.standing public secret served.answers
+first_of seed messages served room t =
+    let b = t.sealing.batch in
+    let same = sym t.served_is.plan_is in
+    first_batch seed messages t.is.lanes served.plan b.answers.keys b.answers.contexts b.standing served.answers
+    (subst (λ (p : Plan). IsSetUp p b.answers.keys b.answers.contexts b.standing) same t.is.ready.set_up) t.is.generated
+    (subst (IsSealingPlan seed messages t.is.lanes) same t.is.is) t.served_is.run t.served_is.answered t.is.few t.is.some
+
+pub may_put : (seed messages : ℕ) (served : ServedBatch) (room start : List (List ℕ)) → HasSealed seed messages served room
+    → start ≡ room → AreSealedLanes (length start) served.plan.lanes served.answers.lanes
+may_put seed messages served room start t same =
+    let f = first_of seed messages served room t in
+    let size : length start ≡ messages = ap (λ (xs : List (List ℕ)). length xs) (same ∙ t.room_is) ∙ t.is.room in
+    subst (λ (n : ℕ). AreSealedLanes n served.plan.lanes served.answers.lanes) (sym size)
+    (lanes_are seed messages t.is.lanes served.plan t.sealing.batch.answers.contexts t.sealing.batch.standing f.0 f.1 served.answers f.2)
+
+pub all_put : (seed messages : ℕ) (served : ServedBatch) (room start cts : List (List ℕ)) → HasSealed seed messages served room
+    → start ≡ room
+    → ((context : ContextView) (numbers : List (List ℕ)) → SealedLanes context served.plan.lanes served.answers.lanes numbers
+    → AreLow (length start) context (flat_map (λ (ns : List ℕ). ns) numbers)
+    → cts ≡ put_all context start (flat_map (λ (ns : List ℕ). ns) numbers))
+    → IsSealed seed messages (Some cts)
+all_put seed messages served room start cts t same put =
+    let f = first_of seed messages served room t in
+    let size : length start ≡ messages = ap (λ (xs : List (List ℕ)). length xs) (same ∙ t.room_is) ∙ t.is.room in
+    found_are seed messages t.is.lanes served.plan t.sealing.batch.answers.contexts t.sealing.batch.standing f.0 f.1 served.answers f.2
+    start cts size put

@@ -10,4 +10,4 @@ pub mod Openings
 pub mod OpeningRuns
 pub mod SecondBatch
 pub mod Reported
-pub mod Rehearsed
+pub mod Served

@@ -18,7 +18,8 @@ use Rattle.batch_plans.specs.declared.replies.Reply.TheVariants.{Blank, Sealed}
 use Rattle.batch_plans.specs.declared.replies.LaneAnswers.{LaneAnswers}
 use Rattle.reply_texts.specs.Lines.{served_line, reply_line}
 use Rattle.demo_texts.specs.Demo.{sealed_at}
-use Rattle.demo_runs.specs.Steps.{sealed_line, IsSealedReply, SealedLane, SealedLanes, AreLow, IsSealedLane, AreSealedLanes, put_all, ciphertexts}
+use Rattle.demo_runs.specs.Batches.{ciphertexts}
+use Rattle.demo_runs.specs.Steps.{sealed_line, IsSealedReply, SealedLane, SealedLanes, AreLow, IsSealedLane, AreSealedLanes, put_all}
 use Rattle.demo_runs.proofs.Lines.{lines_same}
 
 -- a reply whose line is that of a number has this number and its ciphertext

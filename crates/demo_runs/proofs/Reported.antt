@@ -13,7 +13,7 @@ use Rattle.context_table.proofs.OneSetUp.{one_set_up_lem}
 use Rattle.demo_texts.specs.Plans.{set_up_plan}
 use Rattle.demo_texts.specs.declared.reports.DemoReport.{DemoReport}
 use Rattle.demo_texts.specs.Demo.{sealed_at, all_sealed, all_opened, none_opened, IsReportOf, IsDemo}
-use Rattle.demo_runs.specs.Steps.{ciphertexts, is_generated, HasCiphertexts, IsSealed}
+use Rattle.demo_runs.specs.Batches.{ciphertexts, is_generated, HasCiphertexts, IsSealed}
 
 -- no ciphertexts without a generated key
 pub none_found : (messages : ℕ) (keys : List KeyReply) (standing : List (Option ContextView)) → is_generated keys ≡ false

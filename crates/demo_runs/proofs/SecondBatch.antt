@@ -24,9 +24,12 @@ use Rattle.context_table.proofs.OneSetUp.{one_set_up_lem}
 use Rattle.demo_texts.specs.Texts.{sealed_text}
 use Rattle.demo_texts.specs.Plans.{IsOpeningPlan, set_up_plan}
 use Rattle.demo_texts.specs.Demo.{sealed_at}
-use Rattle.demo_runs.specs.Runners.{AnswersARun, run_along}
-use Rattle.demo_runs.specs.Steps.{opened_line, ciphertexts, HasCiphertexts, IsSealed, IsOpenedLane}
+use Rattle.demo_runs.specs.declared.batches.DemoBatch.{DemoBatch}
+use Rattle.demo_runs.specs.declared.batches.ServedBatch.{ServedBatch}
+use Rattle.demo_runs.specs.Batches.{AnswersARun, run_along, ciphertexts, HasCiphertexts, IsSealed, IsBegun, IsOpening, HasOpened}
+use Rattle.demo_runs.specs.Steps.{opened_line, IsOpenedLane}
 use Rattle.demo_runs.proofs.SetUps.{SenderStands, sender_stands, set_up_of, get_standing, BothStand, both_stand}
+use Rattle.demo_runs.proofs.Reported.{sealed_count}
 use Rattle.demo_runs.proofs.OpeningRuns.{the_unseal, joined, OpeningRun, journal_is, lane_opened}
 
 -- ---- what was sealed is opened
@@ -194,3 +197,43 @@ module _ (seed : ℕ) (cts : List (List ℕ)) (plan : Plan) (keys : List KeyRepl
   pub first_lane : (lane : LaneAnswers) (held : List LaneAnswers) → held ≡ answers.lanes → lane ≡ get_or held 0 lane → IsOpenedLane (length cts) lane
   first_lane lane held same first =
       subst (IsOpenedLane (length cts)) (sym (first ∙ ap (λ (xs : List LaneAnswers). get_or xs 0 lane) same)) (lane_is lane)
+
+-- ---- set up and served
+
+pub opens : (seed : ℕ) (cts : List (List ℕ)) (plan : Plan) (batch : DemoBatch) → IsOpeningPlan seed cts plan
+    → IsBegun plan batch → IsOpening seed cts batch
+opens seed cts plan batch is begun =
+    record { ready = begun.ready; is = subst (IsOpeningPlan seed cts) (sym begun.plan_is) is }
+
+pub second_of : (seed messages : ℕ) (cts : List (List ℕ)) (served : ServedBatch) → EndsMatch
+    → (t : HasOpened seed messages cts served)
+    → SecondBatch seed cts served.plan t.batch.answers.keys t.batch.answers.contexts t.batch.standing served.answers
+second_of seed messages cts served ends t =
+    let b = t.batch in
+    let same = sym t.served_is.plan_is in
+    let size = sealed_count seed messages cts t.sealed in
+    record {
+      ends = ends;
+      sealed = subst (λ (n : ℕ). IsSealed seed n (Some cts)) (sym size) t.sealed;
+      is = subst (IsOpeningPlan seed cts) same t.is.is;
+      set_up = subst (λ (p : Plan). IsSetUp p b.answers.keys b.answers.contexts b.standing) same t.is.ready.set_up;
+      lines = subst (λ (p : Plan). AreOfLines p.contexts b.standing) same t.is.ready.lines;
+      run = t.served_is.run;
+      answered = t.served_is.answered;
+      few = subst (λ (n : ℕ). n ≤ 65536) (sym size) t.few;
+    }
+
+pub opened_lane : (seed messages : ℕ) (cts : List (List ℕ)) (served : ServedBatch) → EndsMatch → HasOpened seed messages cts served
+    → (lane : LaneAnswers) (held : List LaneAnswers) → held ≡ served.answers.lanes → lane ≡ get_or held 0 lane
+    → IsOpenedLane messages lane
+opened_lane seed messages cts served ends t lane held same first =
+    subst (λ (n : ℕ). IsOpenedLane n lane) (sealed_count seed messages cts t.sealed)
+    (first_lane seed cts served.plan t.batch.answers.keys t.batch.answers.contexts t.batch.standing served.answers
+    (second_of seed messages cts served ends t) lane held same first)
+
+pub lane_there : (seed messages : ℕ) (cts : List (List ℕ)) (served : ServedBatch) → EndsMatch → HasOpened seed messages cts served
+    → (held : List LaneAnswers) → held ≡ served.answers.lanes → 0 < length held
+lane_there seed messages cts served ends t held same =
+    subst (λ (lanes : List LaneAnswers). 0 < length lanes) (sym same)
+    (some_lane seed cts served.plan t.batch.answers.keys t.batch.answers.contexts t.batch.standing served.answers
+    (second_of seed messages cts served ends t))

@@ -24,7 +24,7 @@ use Rattle.context_table.proofs.Messages.{key_is_whole}
 use Rattle.context_books.proofs.Members.{value_at}
 use Rattle.due_replies.specs.Standing.{standing_at, AreOfLines}
 use Rattle.demo_texts.specs.Demo.{sealed_at}
-use Rattle.demo_runs.specs.Steps.{is_generated}
+use Rattle.demo_runs.specs.Batches.{is_generated}
 use Rattle.context_table.specs.Streams.{context_words}
 use Rattle.context_table.specs.Keys.{IsKeyReply, kem761}
 use Rattle.context_table.specs.Contexts.{outcome, IsOutcome, suite_of, reply_of, slot_of}

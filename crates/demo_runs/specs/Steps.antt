@@ -1,20 +1,14 @@
 -- ---- for the proofs: what the reply lines of both batches are, and where ciphertexts go
-use Rattle.std.specs.Prelude.{◌≡◌, ℕ, ◌<◌, ◌≤◌, Bool, true, false, List, [], ◌∷◌, length, map, take, codes, Option, Some, None, slice_set}
+use Rattle.std.specs.Prelude.{◌≡◌, ℕ, ◌<◌, ◌≤◌, List, [], ◌∷◌, length, map, take, codes, slice_set}
 use Rattle.std.specs.List.{range_with_len, flat_map}
 use Rattle.hpke_context.specs.Contexts.{ContextView}
 use Rattle.context_books.specs.Lists.{In}
 use Rattle.batch_plans.specs.declared.plan.CallLine.{CallLine}
-use Rattle.batch_plans.specs.declared.replies.KeyReply.{KeyReply}
-use Rattle.batch_plans.specs.declared.replies.KeyReply.TheVariants.{Generated}
-use Rattle.batch_plans.specs.declared.replies.ContextReply.{ContextReply}
 use Rattle.batch_plans.specs.declared.replies.Reply.{Reply}
 use Rattle.batch_plans.specs.declared.replies.LaneAnswers.{LaneAnswers}
 use Rattle.batch_plans.specs.Replies.{IsInRange, IsPrintable}
 use Rattle.reply_texts.specs.Lines.{served_line, reply_line}
-use Rattle.due_replies.specs.Standing.{standing_at}
-use Rattle.context_table.specs.SetUp.{IsSetUp}
 use Rattle.demo_texts.specs.Texts.{sealed_text}
-use Rattle.demo_texts.specs.Plans.{set_up_plan}
 use Rattle.demo_texts.specs.Demo.{sealed_at}
 
 -- ---- the first batch
@@ -70,30 +64,6 @@ abbrev pub put_all : ContextView → List (List ℕ) → List ℕ → List (List
 put_all context cts [] = cts
 put_all context cts (n ∷ numbers) =
     put_all context (slice_set cts n (sealed_at context n)) numbers
-
--- the ciphertexts in number order
-abbrev pub ciphertexts : ContextView → ℕ → List (List ℕ)
-ciphertexts context messages = map (sealed_at context) (range_with_len 0 messages)
-
--- what the first batch gave, by the set-up of a seed
-abbrev pub HasCiphertexts : ℕ → List KeyReply → List (Option ContextView)
-    → Option (List (List ℕ)) → Type 0
-HasCiphertexts messages (Generated public secret ∷ []) standing found =
-    (context : ContextView) × (standing_at standing 0 ≡ Some context)
-    × (found ≡ Some (ciphertexts context messages))
-HasCiphertexts messages _ standing found = found ≡ None
-
--- the one key was generated
-abbrev pub is_generated : List KeyReply → Bool
-is_generated (Generated public secret ∷ []) = true
-is_generated _ = false
-
-pub record IsSealed (seed messages : ℕ) (found : Option (List (List ℕ))) : Type 0 where
-  pub keys : List KeyReply
-  pub contexts : List ContextReply
-  pub standing : List (Option ContextView)
-  pub set_up : IsSetUp (set_up_plan seed) keys contexts standing
-  pub found_is : HasCiphertexts messages keys standing found
 
 -- ---- the second batch
 

@@ -1,19 +1,16 @@
 //! The second batch: how many of the ciphertexts are opened.
 
-ghost use Rattle.std.specs.Prelude.{◌≡◌, ◌<◌, ◌≤◌, ◌^◌, ℕ, length, IfOk, Some, true};
-ghost use Rattle.batch_plans.specs.Limits.{IsWithinLimits, IsPlain};
+ghost use Rattle.std.specs.Prelude.{◌≡◌, ◌<◌, ◌≤◌, ◌^◌, ℕ, List, length, IfOk, true};
 ghost use Rattle.batch_plans.specs.Replies.{IsInRange};
 ghost use Rattle.reply_texts.specs.Lines.{reply_line};
-ghost use Rattle.demo_texts.specs.Plans.{IsOpeningPlan};
-ghost use Rattle.demo_runs.specs.Steps.{opened_line, IsOpenedLane, IsSealed};
+ghost use Rattle.demo_runs.specs.Batches.{IsOpening, HasOpened};
+ghost use Rattle.demo_runs.specs.Steps.{opened_line, IsOpenedLane};
 
-use crate::runners::Runner;
-use crate::serving::serve;
-use batch_plans::{LaneAnswers, Plan, Reply};
+use crate::batches::{DemoBatch, ServedBatch, begin};
+use crate::sealing::Ciphertexts;
+use batch_plans::{LaneAnswers, Reply};
 use context_table::laws::ends_match;
-use context_table::set_up;
-use demo_texts::{CIPHERTEXT_SIZE, opening_batch};
-use ring_core::Plain;
+use demo_texts::opening_batch;
 use std::alloc::{AllocError, Global};
 
 // T: the bytes 00 to 3f.
@@ -58,39 +55,22 @@ fn count_opened(lane: &LaneAnswers, messages: u32) -> u32
     opened
 }
 
-// How many messages are opened of ciphertexts that were sealed, by the plan that opens them.
-fn opened_by<L: Runner>(
-    runner: &L,
-    alloc: Global,
-    plan: &Plan,
-    cts: &[[u8; CIPHERTEXT_SIZE]],
-) -> Result<u32, AllocError>
-    requires ready { L.ready runner.now }
-    requires plan { (seed : ℕ) × IsOpeningPlan seed cts.now plan.now
-        × IsSealed seed (length cts.now) (Some cts.now) }
-    requires limits { IsWithinLimits plan.now }
-    requires plain { IsPlain plan.now }
-    requires few { length cts.now ≤ 65536 }
-    ensures { IfOk result (λ opened. opened ≡ length cts.now) }
+/// Sets the second batch up, which opens the ciphertexts that the first one gave.
+///
+/// All memory is taken that its lane needs to be answered.
+pub fn begin_opening(alloc: Global, seed: u64, cts: &Ciphertexts) -> Result<DemoBatch, AllocError>
+    requires { length cts.now ≤ 65536 }
+    ensures { IfOk result (IsOpening seed cts.now) }
 {
-    let setup = set_up(alloc, plan, &Plain)?;
-    let answers = serve(runner, alloc, plan, setup)?;
-    ends_match();
-    Ok(count_opened(&answers.lanes.as_slice()[0], cts.len() as u32))
+    let plan = opening_batch(alloc, seed, cts.as_slice())?;
+    begin(alloc, plan)
 }
 
-/// How many messages are opened of the ciphertexts that the first batch gave.
-pub(crate) fn opened_messages<L: Runner>(
-    runner: &L,
-    alloc: Global,
-    seed: u64,
-    cts: &[[u8; CIPHERTEXT_SIZE]],
-) -> Result<u32, AllocError>
-    requires ready { L.ready runner.now }
-    requires sealed { IsSealed seed (length cts.now) (Some cts.now) }
-    requires few { length cts.now ≤ 65536 }
-    ensures { IfOk result (λ opened. opened ≡ length cts.now) }
+/// How many of the messages were opened.
+pub(crate) fn opened_messages(messages: u32, served: ServedBatch) -> u32
+    requires { (seed : ℕ) × (cts : List (List ℕ)) × HasOpened seed messages cts served }
+    ensures { result ≡ messages }
 {
-    let plan = opening_batch(alloc, seed, cts)?;
-    opened_by(runner, alloc, &plan, cts)
+    ends_match();
+    count_opened(&served.answers.lanes.as_slice()[0], messages)
 }

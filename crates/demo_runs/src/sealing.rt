@@ -1,22 +1,28 @@
 //! The first batch: the ciphertexts in number order.
 
-ghost use Rattle.std.specs.Prelude.{◌≡◌, ◌<◌, ◌≤◌, ℕ, List, length, map, IfOk, MatchOption, Some, None, slice_set};
+ghost use Rattle.std.specs.Prelude.{◌≡◌, ◌<◌, ◌≤◌, ℕ, List, length, IfOk, MatchOption, Some, None, slice_set};
 ghost use Rattle.std.specs.List.{flat_map};
 ghost use Rattle.hpke_context.specs.Contexts.{ContextView};
-ghost use Rattle.batch_plans.specs.Limits.{IsWithinLimits, IsPlain};
 ghost use Rattle.reply_texts.specs.Lines.{reply_line};
-ghost use Rattle.demo_texts.specs.Plans.{IsSealingPlan};
 ghost use Rattle.demo_texts.specs.Demo.{sealed_at};
 ghost use Rattle.demo_runs.specs.Steps.{sealed_line, IsSealedReply, SealedLane, SealedLanes, AreLow};
-ghost use Rattle.demo_runs.specs.Steps.{IsSealedLane, AreSealedLanes, put_all, IsSealed, is_generated};
+ghost use Rattle.demo_runs.specs.Batches.{IsSealed, is_generated, IsSealing, HasSealed};
+ghost use Rattle.demo_runs.specs.Steps.{IsSealedLane, AreSealedLanes, put_all};
 
-use crate::runners::Runner;
-use crate::serving::serve;
-use batch_plans::{Answers, CallLine, KeyReply, LaneAnswers, Plan, Reply};
-use context_table::set_up;
+use crate::batches::{DemoBatch, ServedBatch, begin};
+use batch_plans::{Answers, CallLine, KeyReply, LaneAnswers, PlainList, Plan, Reply};
 use demo_texts::{CIPHERTEXT_SIZE, sealing_batch, see_bytes};
-use ring_core::Plain;
 use std::alloc::{AllocError, Global};
+
+/// Ciphertexts of 64 bytes of text, in number order.
+pub type Ciphertexts = PlainList<[u8; CIPHERTEXT_SIZE]>;
+
+/// The first batch, and room for its ciphertexts.
+#[derive(Drop)]
+pub struct Sealing {
+    pub batch: DemoBatch,
+    pub room: Ciphertexts,
+}
 
 // The one key was generated.
 fn is_generated(keys: &[KeyReply]) -> bool
@@ -76,46 +82,41 @@ fn put_lanes(plan: &Plan, answers: &Answers, cts: &mut [[u8; CIPHERTEXT_SIZE]])
     }
 }
 
-// The ciphertexts of the messages that a plan seals; none where there is no key.
-fn sealed_by<L: Runner>(
-    runner: &L,
-    alloc: Global,
-    plan: &Plan,
-    messages: u32,
-) -> Result<Option<Vec<[u8; CIPHERTEXT_SIZE]>>, AllocError>
-    requires ready { L.ready runner.now }
-    requires messages { messages ≤ 65536 }
-    requires plan { (seed lanes : ℕ) × (0 < lanes) × IsSealingPlan seed messages lanes plan.now }
-    requires limits { IsWithinLimits plan.now }
-    requires plain { IsPlain plan.now }
-    ensures { (seed lanes : ℕ) → 0 < lanes → IsSealingPlan seed messages lanes plan.now
-        → IfOk result (λ found. MatchOption found (IsSealed seed messages None)
-        (λ cts. IsSealed seed messages (Some cts.items))) }
-{
-    let setup = set_up(alloc, plan, &Plain)?;
-    if !is_generated(setup.keys.as_slice()) {
-        return Ok(None);
-    }
-    let mut cts = vec![in alloc; [0; CIPHERTEXT_SIZE]; messages as usize]?;
-    let answers = serve(runner, alloc, plan, setup)?;
-    put_lanes(plan, &answers, &mut cts);
-    Ok(Some(cts))
-}
-
-/// The ciphertexts of so many messages, sealed in so many lanes; none where there is no key.
-pub(crate) fn sealed_messages<L: Runner>(
-    runner: &L,
+/// Sets the first batch up, which seals so many messages in so many lanes, all of them the bytes 00
+/// to 3f; none where the seed gives no key.
+///
+/// All memory is taken that its lanes need to be answered.
+pub fn begin_sealing(
     alloc: Global,
     seed: u64,
     messages: u32,
     lanes: u32,
-) -> Result<Option<Vec<[u8; CIPHERTEXT_SIZE]>>, AllocError>
-    requires ready { L.ready runner.now }
+) -> Result<Option<Sealing>, AllocError>
     requires messages { messages ≤ 65536 }
     requires lanes { (0 < lanes) × (lanes ≤ 16) }
-    ensures { IfOk result (λ found. MatchOption found (IsSealed seed messages None)
-        (λ cts. IsSealed seed messages (Some cts.items))) }
+    ensures { IfOk result (λ found.
+        MatchOption found (IsSealed seed messages None) (IsSealing seed messages)) }
 {
     let plan = sealing_batch(alloc, seed, messages, lanes)?;
-    sealed_by(runner, alloc, &plan, messages)
+    let batch = begin(alloc, plan)?;
+    if !is_generated(batch.answers.keys.as_slice()) {
+        return Ok(None);
+    }
+    let room = vec![in alloc; [0; CIPHERTEXT_SIZE]; messages as usize]?;
+    Ok(Some(Sealing {
+        batch,
+        room: PlainList::from_vec(room),
+    }))
+}
+
+/// The ciphertexts of the first batch in number order, once its lanes were served. `room` is the room
+/// that was made for them.
+pub fn ciphertexts(served: ServedBatch, mut room: Ciphertexts) -> Ciphertexts
+    requires { (seed messages : ℕ) × HasSealed seed messages served room }
+    ensures count { length result ≡ length room }
+    ensures sealed { (seed messages : ℕ) → HasSealed seed messages served room
+        → IsSealed seed messages (Some result) }
+{
+    put_lanes(&served.plan, &served.answers, room.as_mut_slice());
+    room
 }

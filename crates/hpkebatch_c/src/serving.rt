@@ -11,7 +11,8 @@ ghost use Rattle.hpkebatch_c.specs.Serving.{TellsBadFor, TellsBroken, command_in
 use crate::outputs::put;
 use crate::statuses::{BAD_BATCH, BROKEN, NO_MEMORY, NO_ROOM, WRONG_USAGE};
 use aes_gcm::MayCheck;
-use batch_serving::{Outcome, serve_alone};
+use batch_alone::serve_alone;
+use batch_serving::Outcome;
 use reply_frames::TextSink;
 use std::alloc::{AllocError, Global};
 use std::rt::Memory;

@@ -1,12 +1,10 @@
-//! Tests of what is said of results: the line of each verdict (result_lines), verdicts on the
-//! results of small batches (journal_check) and whole demonstrations (demo_runs).
+//! Tests of what is said of results: the line of each verdict (result_lines), and verdicts on the
+//! results of small batches (journal_check).
 //!
 //! They are a crate of their own, so that each of those crates is proved without them, and use
 //! public calls alone.
 #![tactic(auto)]
 
-#[cfg(test)]
-mod demo_runs_tests;
 #[cfg(test)]
 mod expected;
 #[cfg(test)]

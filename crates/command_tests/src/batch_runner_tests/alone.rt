@@ -1,4 +1,4 @@
-//! Rows that the calling thread serves alone: tests of batch_serving.
+//! Rows that the calling thread serves alone: tests of batch_alone.
 
 use crate::batch_runner_tests::live::{ADDS, RETIRES};
 use crate::batch_runner_tests::other_runs::{BAD, OTHERS};
@@ -6,8 +6,9 @@ use crate::batch_runner_tests::runs::{OPENINGS_AND_SCHEDULES, RUNS, Run};
 use crate::batch_runner_tests::words_of;
 use crate::expected::assert_same;
 use aes_gcm::MayCheck;
+use batch_alone::serve_alone;
 use batch_io::MemorySink;
-use batch_serving::{Outcome, serve_alone};
+use batch_serving::Outcome;
 use std::alloc::Global;
 use std::process::Abort;
 use std::test::Fail;

@@ -168,7 +168,7 @@ pub struct Other {
     pub text: &'static str,
 }
 
-pub const OTHERS: [Other; 14] = [
+pub const OTHERS: [Other; 15] = [
     Other {
         source: "tools/reference/demo.py; one message",
         words: &["demo", "0", "1", "1"],
@@ -182,6 +182,13 @@ pub const OTHERS: [Other; 14] = [
         input: "hpkebatch 1\n",
         outcome: Outcome::Done,
         text: "messages 257 opened 257 refused 0\nsha256 13e73f7dbcd4e67bfcf45400f9d91c90f2c14721cdef0328ff2e95094e3a5cab\n",
+    },
+    Other {
+        source: "tools/reference/demo.py; eight lines that open",
+        words: &["demo", "7", "2000", "8"],
+        input: "",
+        outcome: Outcome::Done,
+        text: "messages 2000 opened 2000 refused 0\nsha256 e097de4b275273e01e5b4e6f66c65fc29616c955834d5f4e3dc2c9334b500cb1\n",
     },
     Other {
         source: "RFC 9180, A.1.1.1; the batch and its reply",

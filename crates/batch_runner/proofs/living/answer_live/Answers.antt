@@ -8,8 +8,8 @@ use Rattle.batch_runner.proofs.living.answer_live.Goals as goal
 
 pub returns-in-Ok : goal.returns-in-Ok
 returns-in-Ok g c =
-    subst (λ read. Writes g.K.Sink.written g.K.Sink.faults c.args.sink.now c.reply_to-outcome.new.sink
-    (AnswersBy (IsLiveReply) read) c.reply_to-outcome.result) (sym c.in-Ok.ensures.plan) c.reply_to-outcome.ensures
+    subst (λ read. Writes g.K.Sink.written g.K.Sink.faults c.args.sink.now c.tell_live_run-outcome.new.sink
+    (AnswersBy (IsLiveReply) read) c.tell_live_run-outcome.result) (sym c.in-Ok.ensures.plan) c.tell_live_run-outcome.ensures
 
 pub returns-in-Err : goal.returns-in-Err
 returns-in-Err g c =

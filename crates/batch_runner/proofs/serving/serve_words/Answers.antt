@@ -1,6 +1,6 @@
-use Rattle.std.proofs.Common.{◌∙◌, Some, ap, subst, sym}
+use Rattle.std.proofs.Common.{◌∙◌, subst, sym}
 use Rattle.std.specs.Io.KnownBytes.{Appends}
-use Rattle.batch_serving.specs.Text.{IsReadBy, MayEnd}
+use Rattle.batch_serving.specs.Text.{MayEnd}
 use Rattle.batch_serving.proofs.Ends.{bad_line, broken_result, input_of_bad, input_of_broken}
 use Rattle.batch_serving.proofs.Endings.{OfInput}
 use Rattle.batch_runner.proofs.Serves.{whole_text}

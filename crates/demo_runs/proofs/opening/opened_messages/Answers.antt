@@ -1,14 +1,12 @@
-use Rattle.std.proofs.Common.{ℕ, List, length, Some}
-use Rattle.batch_plans.specs.declared.plan.Plan.{Plan}
-use Rattle.demo_texts.specs.Plans.{IsOpeningPlan}
-use Rattle.demo_runs.specs.Steps.{IsSealed}
+use Rattle.demo_runs.proofs.SecondBatch.{opened_lane, lane_there}
 use Rattle.demo_runs.proofs.opening.opened_messages.Goals as goal
 
-of_seed : (seed : ℕ) (cts : List (List ℕ)) (plan : Plan) → IsOpeningPlan seed cts plan
-    → IsSealed seed (length cts) (Some cts)
-    → (seed : ℕ) × IsOpeningPlan seed cts plan × IsSealed seed (length cts) (Some cts)
-of_seed seed cts plan is sealed = (seed, is, sealed)
+pub bounds-as_slice-0 : goal.bounds-as_slice-0
+bounds-as_slice-0 c =
+    lane_there c.requires.0 c.args.messages c.requires.1 c.args.served c.ends_match.ensures c.requires.2
+    c.as_slice.result.now c.as_slice.ensures.items
 
-pub opened_by-requires-clause-plan : goal.opened_by-requires-clause-plan
-opened_by-requires-clause-plan g c =
-    of_seed c.args.seed c.args.cts.now c.in_ok-plan.plan c.in_ok-plan.ensures.plan c.requires.sealed
+pub count_opened-requires : goal.count_opened-requires
+count_opened-requires c =
+    opened_lane c.requires.0 c.args.messages c.requires.1 c.args.served c.ends_match.ensures c.requires.2
+    c.index-as_slice-0.result c.as_slice.result.now c.as_slice.ensures.items c.index-as_slice-0.is

@@ -1,0 +1,3 @@
+pub mod Lived
+pub mod Told
+pub mod Demonstrated
