@@ -1,14 +1,14 @@
 -- The numbers that were due at a lane's places in a journal.
-use Rattle.std.proofs.Common.{◌≡◌, ℕ, zero, suc, ◌+◌, ◌<◌, ◌==◌, ◌||◌, Bool, true, false, cond, List, [], ◌∷◌, ◌++◌, length, take, map, drop, get_or, Some, None, refl, sym, ap, ◌∙◌, subst, inl, eq-eqb, append_assoc, append-nil, ◌≤◌, arith}
-use Rattle.std.specs.Prelude.{slice_get, slice_index_or}
+use Rattle.std.proofs.Common.{◌≡◌, ℕ, zero, suc, ◌+◌, ◌<◌, ◌==◌, ◌||◌, Bool, true, false, cond, List, [], ◌∷◌, ◌++◌, length, take, map, drop, get_or, set, Some, None, refl, sym, ap, ◌∙◌, subst, inl, eq-eqb, append_assoc, append-nil, ◌≤◌, arith}
+use Rattle.std.specs.Prelude.{slice_get, slice_index}
 use Rattle.std.specs.List.{list_any}
-use Rattle.std.proofs.lemmas.List.{drop_all}
+use Rattle.std.proofs.lemmas.List.{drop_all, get_or-set_same}
 use Rattle.call_places.specs.declared.entries.Place.{Place}
 use Rattle.call_places.specs.declared.entries.Mark.{Mark}
 use Rattle.context_books.specs.Batches.{own_places}
 use Rattle.context_books.specs.Guesses.{through}
-use Rattle.context_books.specs.Histories.{places}
-use Rattle.context_books.proofs.Members.{got, value_at}
+use Rattle.context_books.specs.Histories.{places, marks_at}
+use Rattle.context_books.proofs.Members.{got}
 use Rattle.context_books.specs.Lists.{In}
 use Rattle.context_books.proofs.OneLane.{taken_more}
 use Rattle.context_books.proofs.Places.{own_lane}
@@ -34,11 +34,6 @@ through_last lane (x ∷ xs) p own =
 
 -- ---- the next place of the lane
 
-pub value_in : {B : Type 0} (f : Place → B) (marks : List Mark) (at : ℕ) (m : Mark) → slice_get marks at ≡ Some m → slice_get (map f (places marks)) at ≡ Some (f m.place)
-value_in f [] at m is = absurd (let none : None ≡ Some m = is in cc)
-value_in f (x ∷ marks) zero m is = let same : x ≡ m = (let one : Some x ≡ Some m = is in cc) in ap (λ (k : Mark). Some (f k.place)) same
-value_in f (x ∷ marks) (suc at) m is = value_in f marks at m is
-
 pub place_in : (marks : List Mark) (at : ℕ) (m : Mark) → slice_get marks at ≡ Some m → slice_get (places marks) at ≡ Some m.place
 place_in [] at m is = absurd (let none : None ≡ Some m = is in cc)
 place_in (x ∷ marks) zero m is = let same : x ≡ m = (let one : Some x ≡ Some m = is in cc) in ap (λ (k : Mark). Some k.place) same
@@ -46,16 +41,6 @@ place_in (x ∷ marks) (suc at) m is = place_in marks at m is
 
 module _ (lane : ℕ) (marks : List Mark) (cursor at : ℕ) (there : at < length marks)
     (found : (m : Mark) → slice_get marks at ≡ Some m → own_places lane (places (drop cursor marks)) ≡ m.place ∷ own_places lane (places (drop (at + 1) marks))) where
-  pub number_here : (f : Place → ℕ) (numbers : List ℕ) (p : Place) (ps : List Place) → numbers ≡ map f (places marks)
-      → own_places lane (places (drop cursor marks)) ≡ p ∷ ps → slice_index_or numbers at 0 ≡ f p
-  number_here f numbers p ps are own =
-      let m = got marks at there in
-      let cons : p ∷ ps ≡ m.0.place ∷ own_places lane (places (drop (at + 1) marks)) = sym own ∙ found m.0 m.1 in
-      let place_is : m.0.place ≡ p = cc in
-      ap (λ (ns : List ℕ). slice_index_or ns at 0) are
-      ∙ value_at (map f (places marks)) at (f m.0.place) 0 (value_in f marks at m.0 m.1)
-      ∙ ap f place_is
-
   pub reach_here : Reaches lane marks (at + 1)
   reach_here =
       let m = got marks at there in
@@ -63,6 +48,19 @@ module _ (lane : ℕ) (marks : List Mark) (cursor at : ℕ) (there : at < length
       let own : p.lane ≡ lane = own_lane lane p (places (drop cursor marks)) (subst (In p) (sym (found m.0 m.1)) (inl refl)) in
       let taken : take (at + 1) (places marks) ≡ take at (places marks) ++ (p ∷ []) = taken_more (places marks) at p (place_in marks at m.0 m.1) in
       ap (through lane) taken ∙ through_last lane (take at (places marks)) p own ∙ sym taken
+
+-- ---- a step of a walk
+
+module _ (journals : List (List Mark)) (cursors : List ℕ) (c lane : ℕ) (journal : List Mark) (here : journal ≡ marks_at journals c) (low : c < length cursors) (at : ℕ) (there : at < length journal)
+    (found : (m : Mark) → slice_get journal at ≡ Some m
+    → own_places lane (places (drop (slice_index cursors c) journal)) ≡ m.place ∷ own_places lane (places (drop (at + 1) journal))) where
+  moved : slice_index (set cursors c (at + 1)) c ≡ at + 1
+  moved = get_or-set_same cursors c (at + 1) 0 low
+
+  pub step_reach : Reaches lane (marks_at journals c) (slice_index (set cursors c (at + 1)) c)
+  step_reach =
+      subst (Reaches lane (marks_at journals c)) (sym moved)
+      (subst (λ (marks : List Mark). Reaches lane marks (at + 1)) here (reach_here lane journal (slice_index cursors c) at there found))
 
 -- ---- so many of them
 

@@ -1,5 +1,5 @@
 -- Journals of which one place more is kept than are asked for on their contexts.
-use Rattle.std.proofs.Common.{◌≡◌, ◌≢◌, ℕ, zero, suc, ◌+◌, ◌<◌, ◌≤◌, ◌==◌, ◌||◌, not, Bool, true, false, cond, List, [], ◌∷◌, ◌++◌, length, take, drop, get_or, Option, Some, None, refl, sym, ap, ◌∙◌, inl, inr, eq-eqb, eqb-true, append_assoc, append-nil, arith}
+use Rattle.std.proofs.Common.{◌≡◌, ◌≢◌, ℕ, zero, suc, ◌+◌, ◌<◌, ◌≤◌, ◌==◌, ◌||◌, not, Bool, true, false, cond, List, [], ◌∷◌, ◌++◌, length, take, drop, get_or, Option, Some, None, refl, sym, ap, ◌∙◌, subst, inl, inr, eq-eqb, eqb-true, append_assoc, append-nil, arith}
 use Rattle.std.specs.Prelude.{nat_lt}
 use Rattle.std.specs.List.{list_all, flat_map, range_with_len}
 use Rattle.std.proofs.lemmas.List.{take_all, drop_all, length-take-le, length-append, length-map}
@@ -14,7 +14,7 @@ use Rattle.context_books.proofs.Truths.{and_left, and_right, lt_true}
 use Rattle.context_books.proofs.Places.{same_places}
 use Rattle.context_books.proofs.Checking.{same_list}
 use Rattle.result_lines.specs.Journals.{is_journal, broken_journal, stamps_rise}
-use Rattle.journal_check.specs.Piles.{in_lanes, asked_on, kept_from}
+use Rattle.journal_check.specs.Piles.{in_lanes, asked_on, kept_from, IsKept}
 use Rattle.journal_check.proofs.Dealt.{lanes_same}
 use Rattle.journal_check.proofs.Walks.{drop_next}
 
@@ -174,3 +174,12 @@ pub keep_end : (batch : Batch) (journals : List (List Mark)) (i : ℕ) (kept tot
     → kept ++ kept_from batch i (drop i journals) ≡ total → kept ≡ total
 keep_end batch journals i kept total le so_far =
     sym (append-nil kept) ∙ ap (λ (js : List (List Mark)). kept ++ kept_from batch i js) (sym (drop_all i journals le)) ∙ so_far
+
+-- what is kept
+pub kept_is : (batch : Batch) (journals kept : List (List Mark)) → kept ≡ kept_from batch 0 journals → IsKept batch journals kept
+kept_is batch journals kept is = subst (IsKept batch journals) (sym is) (record {
+  size = kept_size batch 0 journals;
+  few = kept_few_of_all batch journals;
+  broken = λ stamps. broken_kept stamps batch 0 journals;
+  whole = λ stamps. kept_whole stamps batch 0 journals;
+})

@@ -16,6 +16,7 @@ pub mod SoundRuns
 pub mod ToldSizes
 pub mod LegalVerdicts
 pub mod LiveSound
+pub mod Judged
 pub mod LiveLegalVerdicts
 pub mod LiveRead
 pub mod Walks
@@ -26,4 +27,5 @@ pub mod Dealt
 pub mod KeptPlaces
 pub mod OneHistory
 pub mod NotedCalls
+pub mod NotedTables
 pub mod LiveNames

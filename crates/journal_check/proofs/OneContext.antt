@@ -1,53 +1,35 @@
--- One of the contexts that a lane walks along: its journal, its run, and the cursor into its journal.
-use Rattle.std.proofs.Common.{◌≡◌, ℕ, ◌<◌, ◌≤◌, List, [], length, drop, get_or, set, Some, sym, ap, ◌∙◌, subst, arith, Fits, w32}
-use Rattle.std.specs.Prelude.{slice_get, slice_index, slice_index_or}
-use Rattle.std.proofs.lemmas.List.{get_or_default, get_or-set_same}
+-- The run of one of the contexts that a lane walks along.
+use Rattle.std.proofs.Common.{◌≡◌, ℕ, ◌<◌, List, length, map, get_or, Some, ap, ◌∙◌, arith}
+use Rattle.std.specs.Prelude.{slice_get}
+use Rattle.std.proofs.lemmas.List.{length-map}
 use Rattle.std.proofs.lemmas.Option.{slice_get-get_or}
 use Rattle.call_places.specs.declared.entries.Place.{Place}
 use Rattle.call_places.specs.declared.entries.Mark.{Mark}
-use Rattle.context_books.specs.Batches.{own_places}
-use Rattle.context_books.specs.Histories.{places, marks_at}
-use Rattle.batch_plans.specs.Limits.{most_lanes}
-use Rattle.batch_plans.specs.declared.plan.CallLine.{CallLine}
-use Rattle.journal_check.specs.Passing.{Reaches}
+use Rattle.context_books.specs.Histories.{places}
+use Rattle.due_replies.specs.Runs.{Run, place_line, journal_of}
+use Rattle.journal_check.specs.declared.lane_walks.CheckedRun.{CheckedRun}
+use Rattle.journal_check.specs.declared.runs.JournalRun.{JournalRun}
+use Rattle.journal_check.specs.Passing.{due_at}
+use Rattle.journal_check.specs.Walks.{IsRun, Stands, run_in}
+use Rattle.journal_check.proofs.SoundRuns.{stands_low}
 
--- what was found in a list stands there
-pub found_at : {X : Type 0} (xs : List X) (i : ℕ) (x : X) → i < length xs → x ≡ get_or xs i x → slice_get xs i ≡ Some x
-found_at xs i x lt is = slice_get-get_or xs i x lt ∙ ap Some (sym is)
+module _ (checked : CheckedRun) (is_run : IsRun checked) (c : ℕ) (stands : Stands checked c) (d : JournalRun) where
+  abbrev run : Run
+  run = run_in checked
 
--- its journal
-pub journal_at : (journals : List (List Mark)) (at : ℕ) (journal : List Mark) → at < length journals → journal ≡ get_or journals at journal → journal ≡ marks_at journals at
-journal_at journals at journal lt is = is ∙ get_or_default journals at journal [] lt
+  there : slice_get checked.runs.now c ≡ Some (get_or checked.runs.now c d)
+  there =
+      let low : c < length checked.contexts.now = stands_low checked.contexts.now c stands.0 stands.1 in
+      let many = is_run.runs_size in
+      let size = is_run.contexts_size in
+      slice_get-get_or checked.runs.now c d (omega arith)
 
-module _ (journals : List (List Mark)) (cursors : List ℕ) (at lane : ℕ) (journal : List Mark) (here : journal ≡ marks_at journals at) where
-  -- the lane's places from its cursor on
-  pub own_from : (ps : List Place) → own_places lane (places (drop (slice_index cursors at) (marks_at journals at))) ≡ ps
-      → own_places lane (places (drop (slice_index cursors at) journal)) ≡ ps
-  own_from ps own = ap (λ (marks : List Mark). own_places lane (places (drop (slice_index cursors at) marks))) here ∙ own
+  pub lines_on : (get_or checked.runs.now c d).lines.items ≡ map (place_line run c) (journal_of run c)
+  lines_on = is_run.lines c stands.0 (get_or checked.runs.now c d) stands.1 there
 
-  module _ (new : ℕ) (low : at < length cursors) where
-    -- and where it is moved to
-    pub own_behind : (ps : List Place) → own_places lane (places (drop new journal)) ≡ ps
-        → own_places lane (places (drop (slice_index (set cursors at new) at) (marks_at journals at))) ≡ ps
-    own_behind ps own =
-        ap (λ (k : ℕ). own_places lane (places (drop k (marks_at journals at)))) (get_or-set_same cursors at new 0 low)
-        ∙ ap (λ (marks : List Mark). own_places lane (places (drop new marks))) (sym here)
-        ∙ own
+  pub numbers_on : (get_or checked.runs.now c d).numbers.items ≡ map (due_at run c) (journal_of run c)
+  numbers_on = is_run.numbers c stands.0 (get_or checked.runs.now c d) stands.1 there
 
-    pub reaches_behind : (Reaches lane journal (slice_index cursors at) → Reaches lane journal new)
-        → Reaches lane (marks_at journals at) (slice_index cursors at) → Reaches lane (marks_at journals at) (slice_index (set cursors at new) at)
-    reaches_behind on before =
-        subst (Reaches lane (marks_at journals at)) (sym (get_or-set_same cursors at new 0 low))
-        (subst (λ (marks : List Mark). Reaches lane marks new) here
-        (on (subst (λ (marks : List Mark). Reaches lane marks (slice_index cursors at)) (sym here) before)))
-
--- ---- a lane of a plan
-
-pub lane_fits : (lane found lanes : ℕ) → lane < found → found ≡ lanes → lanes ≤ most_lanes → Fits w32 lane
-lane_fits lane found lanes low size most = omega arith
-
--- its calls
-pub calls_at : (lanes given : List (List CallLine)) (lane : ℕ) (calls : List CallLine) → given ≡ lanes → lane < length lanes → calls ≡ get_or given lane calls
-    → calls ≡ slice_index_or lanes lane []
-calls_at lanes given lane calls same low is =
-    is ∙ ap (λ (ls : List (List CallLine)). get_or ls lane calls) same ∙ get_or_default lanes lane calls [] low
+-- as many as its places
+pub size_on : {X : Type 0} (f : Place → X) (xs : List X) (marks : List Mark) → xs ≡ map f (places marks) → length xs ≡ length marks
+size_on f xs marks are = ap length are ∙ length-map (places marks) f ∙ length-map marks _

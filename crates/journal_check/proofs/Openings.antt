@@ -1,33 +1,29 @@
 -- Which guesses an opening may have made, by the numbers that were due along its lane.
-use Rattle.std.proofs.Common.{◌≡◌, ◌≢◌, ℕ, zero, suc, ◌+◌, ◌<◌, ◌==◌, ◌&&◌, Bool, true, false, cond, List, [], ◌∷◌, ◌++◌, length, take, map, drop, Option, Some, None, Result, Ok, Err, refl, sym, ap, ◌∙◌, subst, append_assoc, arith}
-use Rattle.std.specs.Prelude.{slice_get, slice_index, nat_le, IfOk}
+use Rattle.std.proofs.Common.{◌≡◌, ◌≢◌, ℕ, zero, suc, ◌+◌, ◌==◌, Bool, true, false, cond, List, [], ◌∷◌, ◌++◌, length, take, map, drop, Some, Result, Ok, Err, refl, sym, ap, ◌∙◌, subst, append_assoc}
+use Rattle.std.specs.Prelude.{slice_index, IfOk}
 use Rattle.std.specs.List.{AllPairs}
 use Rattle.std.proofs.lemmas.List.{take-append-drop, drop-map}
 use Rattle.call_places.specs.declared.entries.Place.{Place}
 use Rattle.call_places.specs.declared.entries.Mark.{Mark}
 use Rattle.hpke_context.specs.Answers.{Cipher}
-use Rattle.hpke_context.specs.Contexts.{ContextView}
 use Rattle.context_books.specs.Batches.{Batch, own_places, block, place}
-use Rattle.context_books.specs.Guesses.{through, least_guess, greatest_guess, missed_in}
+use Rattle.context_books.specs.Guesses.{through, least_guess}
 use Rattle.context_books.specs.Histories.{marks_at, places}
 use Rattle.context_books.specs.Legal.{Legal, number_of, due_after, before}
 use Rattle.context_books.proofs.Guessing.{through-append}
-use Rattle.context_books.proofs.Members.{got}
 use Rattle.context_books.proofs.Places.{before_split, not_in_front}
 use Rattle.batch_plans.specs.declared.plan.CallLine.{CallLine}
 use Rattle.batch_plans.specs.declared.plan.CallLine.TheVariants as calls
 use Rattle.batch_plans.specs.declared.replies.Batch as told_batch
-use Rattle.due_replies.specs.Standing.{standing_at, call_refusal}
 use Rattle.due_replies.specs.Asks.{cipher_at}
-use Rattle.due_replies.specs.Runs.{Run, asks_of}
-use Rattle.journal_check.specs.declared.runs.JournalRun.{JournalRun}
-use Rattle.journal_check.specs.Asks.{items_asked, places_from}
+use Rattle.due_replies.specs.Runs.{Run, asks_of, journal_of}
+use Rattle.journal_check.specs.declared.lane_walks.Walk.{Walk}
+use Rattle.journal_check.specs.Asks.{items_asked, asked_in, places_from}
 use Rattle.result_lines.specs.Guesses.{is_right}
-use Rattle.journal_check.specs.Walks.{Points}
-use Rattle.journal_check.specs.Passing.{is_right_by, Reaches, AllReach, AreNumbersOf, AreLegal}
+use Rattle.journal_check.specs.Walks.{IsRun, PointsTo, run_in, left_in}
+use Rattle.journal_check.specs.Passing.{is_right_by, due_at, Reaches, AllReach}
 use Rattle.result_lines.proofs.RunTexts.{length-block}
-use Rattle.result_lines.proofs.DueReplies.{stands_for}
-use Rattle.journal_check.proofs.ServedCalls.{some_pair, context_asked, there_for, own_here}
+use Rattle.journal_check.proofs.ServedCalls.{some_pair, stands_on, left_here, there}
 
 -- ---- the first place of a lane
 
@@ -99,52 +95,31 @@ if_ok_both (Err e) P Q R f p q = tt
 
 -- ---- a guess in a run
 
-module _ (run : Run) (contexts : List (Option ContextView)) (journals : List (List Mark)) (runs : List JournalRun) (lane number : ℕ) (call : CallLine) (more : List CallLine)
-    (cursors : List ℕ) (at n : ℕ) (contexts_are : run.contexts ≡ contexts) (journals_are : run.journals ≡ journals) (are : AreNumbersOf run runs) (legal : AreLegal run)
-    (points : Points contexts journals lane number (call ∷ more) cursors) (reach : AllReach lane journals cursors) (asks : items_asked call ≡ Some (at, n))
-    (free : call_refusal contexts call ≡ None) (size : length contexts ≡ length journals) (runs_size : length runs ≡ length journals) where
-  there : at < length journals
-  there = there_for contexts journals call at (context_asked call at n asks) free size
+module _ (walk : Walk) (is_run : IsRun walk.checked) (call : CallLine) (at n : ℕ) (asked : asked_in walk.checked.contexts.now call ≡ Some (at, n))
+    (number : ℕ) (more : List CallLine) (cursors : List ℕ) (points : PointsTo walk number (call ∷ more) cursors)
+    (reach : AllReach walk.lane walk.checked.journals.now cursors) where
+  abbrev run : Run
+  run = run_in walk.checked
 
-  stands : (context : ContextView) × (standing_at run.contexts at ≡ Some context)
-  stands =
-      let s = stands_for contexts call free in
-      (s.0, ap (λ (cs : List (Option ContextView)). standing_at cs at) contexts_are ∙ ap (standing_at contexts) (sym (context_asked call at n asks)) ∙ s.1)
-
-  abbrev pub here : List Mark
-  here = marks_at journals at
-
-  numbers_are : (done : JournalRun) → slice_get runs at ≡ Some done
-      → done.numbers.items ≡ map (number_of (asks_of run) (cipher_at run.contexts at) (places here)) (places here)
-  numbers_are done is =
-      are at stands.0 done stands.1 is
-      ∙ ap (λ (js : List (List Mark)). map (number_of (asks_of run) (cipher_at run.contexts at) (places (marks_at js at))) (places (marks_at js at))) journals_are
-
-  legal_here : Legal (asks_of run) at (places here)
-  legal_here = subst (λ (js : List (List Mark)). Legal (asks_of run) at (places (marks_at js at))) journals_are (legal at stands.0 stands.1)
+  abbrev lane : ℕ
+  lane = walk.lane
 
   pub judged : (m : ℕ) → n ≡ suc m → (told : told_batch.Batch) (least : ℕ) (numbers : List ℕ)
-      → ((done : JournalRun) → slice_get runs at ≡ Some done → least ≡ slice_index done.numbers.items (slice_index cursors at))
-      → ((f : Place → ℕ) (ps others : List Place) → ((done : JournalRun) → slice_get runs at ≡ Some done → done.numbers.items ≡ map f (places here))
-      → length ps ≡ n → own_places lane (places (drop (slice_index cursors at) here)) ≡ ps ++ others → numbers ≡ map f ps)
+      → least ≡ slice_index (map (due_at run at) (journal_of run at)) (slice_index cursors at)
+      → ((ps others : List Place) → length ps ≡ n → left_in walk cursors at ≡ ps ++ others → numbers ≡ map (due_at run at) ps)
       → is_right_by told least numbers ≡ is_right run at lane number n told
   judged m size told least numbers least_is numbers_is =
-      let f = number_of (asks_of run) (cipher_at run.contexts at) (places here) in
-      let others = places_from contexts at lane (number + 1) more in
-      let own = own_here contexts journals lane number call more cursors points at n asks free there in
-      let own_more : own_places lane (places (drop (slice_index cursors at) here)) ≡ block lane number 0 (suc m) ++ others =
+      let s = stands_on walk is_run call at n asked in
+      let others = places_from run.contexts at lane (number + 1) more in
+      let own = left_here walk is_run call at n asked cursors number more points in
+      let own_more : left_in walk cursors at ≡ block lane number 0 (suc m) ++ others =
       own ∙ ap (λ (k : ℕ). block lane number 0 k ++ others) size in
-      let done = got runs at (let size_of = runs_size in let low = there in omega arith) in
-      let low : least ≡ least_guess (asks_of run) (cipher_at run.contexts at) (places here) lane number =
-      least_is done.0 done.1
-      ∙ ap (λ (ns : List ℕ). slice_index ns (slice_index cursors at)) (numbers_are done.0 done.1)
-      ∙ least_here (asks_of run) (cipher_at run.contexts at) at here legal_here lane number m others (slice_index cursors at) own_more (reach at there) in
-      let due : numbers ≡ map f (block lane number 0 (suc m)) =
-      numbers_is f (block lane number 0 n) others numbers_are (length-block lane number 0 n) own ∙ ap (λ (k : ℕ). map f (block lane number 0 k)) size in
+      let low : least ≡ least_guess (asks_of run) (cipher_at run.contexts at) (journal_of run at) lane number =
+      least_is
+      ∙ least_here (asks_of run) (cipher_at run.contexts at) at (marks_at run.journals at) (is_run.legal at s.0 s.1) lane number m others (slice_index cursors at) own_more
+      (reach at (there walk is_run call at n asked)) in
+      let due : numbers ≡ map (due_at run at) (block lane number 0 (suc m)) =
+      numbers_is (block lane number 0 n) others (length-block lane number 0 n) own ∙ ap (λ (k : ℕ). map (due_at run at) (block lane number 0 k)) size in
       ap (λ (k : ℕ). is_right_by told k numbers) low
-      ∙ ap (is_right_by told (least_guess (asks_of run) (cipher_at run.contexts at) (places here) lane number)) due
-      ∙ ap (λ (js : List (List Mark)).
-      (nat_le (least_guess (asks_of run) (cipher_at run.contexts at) (places (marks_at js at)) lane number) told.guess
-      && nat_le told.guess (greatest_guess (asks_of run) (cipher_at run.contexts at) (places (marks_at js at)) lane number))
-      && (told.missed == missed_in (asks_of run) (cipher_at run.contexts at) (places (marks_at js at)) lane number (suc m) told.guess)) (sym journals_are)
+      ∙ ap (is_right_by told (least_guess (asks_of run) (cipher_at run.contexts at) (journal_of run at) lane number)) due
       ∙ ap (λ (k : ℕ). is_right run at lane number k told) (sym size)

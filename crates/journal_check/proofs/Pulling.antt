@@ -27,32 +27,28 @@ found_own lane marks i from d m lt own so_far at =
     ∙ ap (λ b. cond b ((get_or marks i d).place ∷ rest) rest) (eq-eqb (get_or marks i d).place.lane lane own)
     ∙ ap (λ (x : Mark). x.place ∷ rest) (get_or_from_slice_get marks i m d at)
 
--- the line of a place
-line_in : (f : Place → List ℕ) (marks : List Mark) (at : ℕ) (m : Mark) → slice_get marks at ≡ Some m → slice_get (map f (places marks)) at ≡ Some (f m.place)
-line_in f [] at m is = absurd (let none : None ≡ Some m = is in cc)
-line_in f (x ∷ marks) zero m is = let same : x ≡ m = (let one : Some x ≡ Some m = is in cc) in ap (λ (k : Mark). Some (f k.place)) same
-line_in f (x ∷ marks) (suc at) m is = line_in f marks at m is
+-- what a place has
+pub value_in : {X : Type 0} (f : Place → X) (marks : List Mark) (at : ℕ) (m : Mark) → slice_get marks at ≡ Some m → slice_get (map f (places marks)) at ≡ Some (f m.place)
+value_in f [] at m is = absurd (let none : None ≡ Some m = is in cc)
+value_in f (x ∷ marks) zero m is = let same : x ≡ m = (let one : Some x ≡ Some m = is in cc) in ap (λ (k : Mark). Some (f k.place)) same
+value_in f (x ∷ marks) (suc at) m is = value_in f marks at m is
 
-module _ (f : Place → List ℕ) (lane : ℕ) (marks : List Mark) (lines : List (List ℕ)) (lines_are : lines ≡ map f (places marks))
-    (cursor at : ℕ) (there : at < length marks)
-    (found : (m : Mark) → slice_get marks at ≡ Some m → own_places lane (places (drop cursor marks)) ≡ m.place ∷ own_places lane (places (drop (at + 1) marks)))
-    (p : Place) (ps : List Place) (own : own_places lane (places (drop cursor marks)) ≡ p ∷ ps) where
-  pub line_here : (x : List ℕ) → x ≡ get_or lines at x → x ≡ f p
-  line_here x is =
+module _ (marks : List Mark) (at : ℕ) (there : at < length marks) (left new : List Place)
+    (found : (m : Mark) → slice_get marks at ≡ Some m → left ≡ m.place ∷ new) (p : Place) (ps : List Place) (own : left ≡ p ∷ ps) where
+  pub value_here : {X : Type 0} (f : Place → X) (xs : List X) (d : X) → xs ≡ map f (places marks) → get_or xs at d ≡ f p
+  value_here {X} f xs d are =
       let m = got marks at there in
-      let cons : p ∷ ps ≡ m.0.place ∷ own_places lane (places (drop (at + 1) marks)) = sym own ∙ found m.0 m.1 in
+      let cons : p ∷ ps ≡ m.0.place ∷ new = sym own ∙ found m.0 m.1 in
       let place_is : p ≡ m.0.place = cc in
-      is ∙ ap (λ (ls : List (List ℕ)). get_or ls at x) lines_are
-      ∙ get_or_from_slice_get (map f (places marks)) at (f m.0.place) x (line_in f marks at m.0 m.1) ∙ ap f (sym place_is)
+      ap (λ (ys : List X). get_or ys at d) are
+      ∙ get_or_from_slice_get (map f (places marks)) at (f m.0.place) d (value_in f marks at m.0 m.1) ∙ ap f (sym place_is)
 
--- the places behind it
-pub behind_here : (lane : ℕ) (marks : List Mark) (cursor at : ℕ) → at < length marks
-    → ((m : Mark) → slice_get marks at ≡ Some m → own_places lane (places (drop cursor marks)) ≡ m.place ∷ own_places lane (places (drop (at + 1) marks)))
-    → (p : Place) (ps : List Place) → own_places lane (places (drop cursor marks)) ≡ p ∷ ps → own_places lane (places (drop (at + 1) marks)) ≡ ps
-behind_here lane marks cursor at there found p ps own =
-    let m = got marks at there in
-    let cons : m.0.place ∷ own_places lane (places (drop (at + 1) marks)) ≡ p ∷ ps = sym (found m.0 m.1) ∙ own in
-    cc
+  -- the places behind it
+  pub behind_here : new ≡ ps
+  behind_here =
+      let m = got marks at there in
+      let cons : m.0.place ∷ new ≡ p ∷ ps = sym (found m.0 m.1) ∙ own in
+      cc
 
 -- ---- lines one after another
 

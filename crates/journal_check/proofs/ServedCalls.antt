@@ -1,6 +1,6 @@
 -- The places of a call that is served, and its replies.
 use Rattle.std.proofs.Common.{◌≡◌, ◌≢◌, ℕ, ◌+◌, ◌<◌, cond, List, [], ◌∷◌, ◌++◌, length, map, drop, Result, Ok, Err, Option, Some, None, refl, sym, ap, ◌∙◌, subst, inl, inr, eq-eqb, ne_eqb, arith}
-use Rattle.std.specs.Prelude.{slice_get, slice_index}
+use Rattle.std.specs.Prelude.{slice_index}
 use Rattle.std.specs.Result.{OnOk}
 use Rattle.std.proofs.lemmas.Bool.{cases_eq, cases_lt}
 use Rattle.std.proofs.lemmas.List.{get_or_past}
@@ -15,12 +15,12 @@ use Rattle.batch_plans.specs.declared.plan.CallLine.TheVariants as calls
 use Rattle.batch_plans.specs.declared.replies.CallRefusal.{CallRefusal}
 use Rattle.due_replies.specs.Standing.{standing_at, call_refusal}
 use Rattle.due_replies.specs.Runs.{Run, place_line}
-use Rattle.journal_check.specs.declared.runs.JournalRun.{JournalRun}
+use Rattle.journal_check.specs.declared.lane_walks.Walk.{Walk}
 use Rattle.result_lines.specs.Replies.{item_lines}
 use Rattle.result_lines.proofs.DueReplies.{stands_for}
 use Rattle.result_lines.proofs.RunTexts.{length-block}
 use Rattle.journal_check.specs.Asks.{items_asked, asked_unless, asked_in, places_asked, places_from}
-use Rattle.journal_check.specs.Walks.{Points, AreRepliesOf, AreLong}
+use Rattle.journal_check.specs.Walks.{Points, IsRun, PointsTo, Stands, run_in, left_in}
 
 -- what a call asks, where it asks for items
 pub asked_some : (refusal : Option CallRefusal) (asks : Option (ℕ × ℕ)) (one : ℕ × ℕ) → asked_unless refusal asks ≡ Some one → (refusal ≡ None) × (asks ≡ Some one)
@@ -99,14 +99,9 @@ there_for contexts journals call c of free size = elim (cases_lt c (length conte
       let clash : None ≡ Some s.0 = sym none ∙ s.1 in cc)
 ]
 
--- the lines of a journal that was run
-pub run_lines_are : (run : Run) (contexts : List (Option ContextView)) (journals : List (List Mark)) (runs : List JournalRun) (call : CallLine) (c : ℕ) → context_of call ≡ c
-    → run.contexts ≡ contexts → run.journals ≡ journals → AreRepliesOf run runs → call_refusal contexts call ≡ None
-    → (done : JournalRun) → slice_get runs c ≡ Some done → done.lines.items ≡ map (place_line run c) (places (marks_at journals c))
-run_lines_are run contexts journals runs call c of same_contexts same_journals are free done at =
-    let s = stands_for contexts call free in
-    are c s.0 done (ap (λ (cs : List (Option ContextView)). standing_at cs c) same_contexts ∙ ap (standing_at contexts) (sym of) ∙ s.1) at
-    ∙ ap (λ (js : List (List Mark)). map (place_line run c) (places (marks_at js c))) same_journals
+-- no call
+abbrev pub no_call : CallLine
+no_call = calls.Seal 0 (record { aad = record { start = 0; len = 0 }; text = record { start = 0; len = 0 } })
 
 -- what follows where a call succeeded
 pub on_ok : {T E P Q : Type 0} (r : Result T E) → (P → Q) → OnOk r P → OnOk r Q
@@ -119,10 +114,38 @@ pub points_at : (contexts : List (Option ContextView)) (journals : List (List Ma
 points_at contexts journals lane number calls next cursors same points c low =
     points c low ∙ ap (places_from contexts c lane number) same
 
--- they are as many as its places
-pub long_for : (contexts : List (Option ContextView)) (journals : List (List Mark)) (runs : List JournalRun) (call : CallLine) (c : ℕ) → context_of call ≡ c
-    → call_refusal contexts call ≡ None → AreLong contexts journals runs
-    → (done : JournalRun) → slice_get runs c ≡ Some done → length done.lines.items ≡ length (marks_at journals c)
-long_for contexts journals runs call c of free long done at =
-    let s = stands_for contexts call free in
-    long c s.0 done (ap (standing_at contexts) (sym of) ∙ s.1) at
+-- ---- a call of a walk that asks for items
+
+module _ (walk : Walk) (run : IsRun walk.checked) (call : CallLine) (at n : ℕ) (asked : asked_in walk.checked.contexts.now call ≡ Some (at, n)) where
+  abbrev contexts : List (Option ContextView)
+  contexts = walk.checked.contexts.now
+
+  abbrev journals : List (List Mark)
+  journals = walk.checked.journals.now
+
+  both : (call_refusal contexts call ≡ None) × (items_asked call ≡ Some (at, n))
+  both = asked_some (call_refusal contexts call) (items_asked call) (at, n) asked
+
+  of : context_of call ≡ at
+  of = context_asked call at n both.1
+
+  pub stands_on : Stands walk.checked at
+  stands_on =
+      let s = stands_for contexts call both.0 in
+      (s.0, ap (standing_at contexts) (sym of) ∙ s.1)
+
+  pub there : at < length journals
+  there = there_for contexts journals call at of both.0 run.contexts_size
+
+  pub left_here : (cursors : List ℕ) (number : ℕ) (more : List CallLine) → PointsTo walk number (call ∷ more) cursors
+      → left_in walk cursors at ≡ block walk.lane number 0 n ++ places_from contexts at walk.lane (number + 1) more
+  left_here cursors number more points = own_here contexts journals walk.lane number call more cursors points at n both.1 both.0 there
+
+  pub points_behind : (cursors new : List ℕ) (number : ℕ) (more : List CallLine) → PointsTo walk number (call ∷ more) cursors
+      → ((ps later : List Place) → length ps ≡ n → left_in walk cursors at ≡ ps ++ later → left_in walk new at ≡ later)
+      → ((d : ℕ) → d ≢ at → slice_index new d ≡ slice_index cursors d) → PointsTo walk (number + 1) more new
+  points_behind cursors new number more points passed others =
+      points_passed contexts journals walk.lane number call more cursors points at n both.1 both.0 there new passed others
+
+  pub lines_here : (number : ℕ) → map (place_line (run_in walk.checked) at) (block walk.lane number 0 n) ≡ item_lines (run_in walk.checked) walk.lane number call
+  lines_here number = lines_asked (run_in walk.checked) walk.lane number call at n both.1

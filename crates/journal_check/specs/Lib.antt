@@ -1,7 +1,7 @@
 pub mod Verdicts
 pub mod Runs
 pub mod Walks
-pub mod LiveWalks
+pub mod Served
 pub mod Links
 pub mod Passing
 pub mod Asks

@@ -1,6 +1,7 @@
 -- ---- for the proofs: how the numbers that were due along a lane are found beside the journals
 use Rattle.std.specs.Prelude.{ℕ, ◌≡◌, ◌<◌, ◌==◌, ◌&&◌, nat_le, Bool, true, false, List, length, map, take, slice_get, slice_index, Option, Some, None}
 use Rattle.call_places.specs.declared.entries.Mark.{Mark}
+use Rattle.call_places.specs.declared.entries.Place.{Place}
 use Rattle.hpke_context.specs.Contexts.{ContextView}
 use Rattle.context_books.specs.Guesses.{missed, through}
 use Rattle.context_books.specs.Histories.{marks_at, places}
@@ -30,23 +31,20 @@ abbrev pub AllReach : ℕ → List (List Mark) → List ℕ → Type 0
 AllReach lane journals cursors = (c : ℕ) → c < length journals
     → Reaches lane (marks_at journals c) (slice_index cursors c)
 
+-- the number that is due at a place of a context's journal
+abbrev pub due_at : Run → ℕ → Place → ℕ
+due_at run c = number_of (asks_of run) (cipher_at run.contexts c) (journal_of run c)
+
 -- the numbers of each journal that was run are those that were due at its places
 abbrev pub AreNumbersOf : Run → List JournalRun → Type 0
 AreNumbersOf run runs = (c : ℕ) (context : ContextView) (done : JournalRun)
     → standing_at run.contexts c ≡ Some context → slice_get runs c ≡ Some done
-    → done.numbers.items
-    ≡ map (number_of (asks_of run) (cipher_at run.contexts c) (journal_of run c)) (journal_of run c)
+    → done.numbers.items ≡ map (due_at run c) (journal_of run c)
 
 -- the journal of each context that stands is legal
 abbrev pub AreLegal : Run → Type 0
 AreLegal run = (c : ℕ) (context : ContextView) → standing_at run.contexts c ≡ Some context
     → Legal (asks_of run) c (journal_of run c)
-
--- each journal that was run has a number for each of its places
-abbrev pub HaveNumbers : List (Option ContextView) → List (List Mark) → List JournalRun → Type 0
-HaveNumbers contexts journals runs = (c : ℕ) (context : ContextView) (done : JournalRun)
-    → standing_at contexts c ≡ Some context → slice_get runs c ≡ Some done
-    → length done.numbers.items ≡ length (marks_at journals c)
 
 -- an opening of several messages that is served
 abbrev pub opens_all : CallLine → Bool

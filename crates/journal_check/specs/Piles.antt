@@ -1,10 +1,11 @@
 -- ---- for the proofs: places that are dealt to piles, by the number of a context or of a lane
-use Rattle.std.specs.Prelude.{ℕ, ◌+◌, List, [], ◌∷◌, ◌++◌, length, map, take, slice_set, slice_index_or}
+use Rattle.std.specs.Prelude.{ℕ, ◌≡◌, ◌≤◌, ◌<◌, ◌+◌, Bool, List, [], ◌∷◌, ◌++◌, length, map, take, slice_set, slice_index_or, None}
 use Rattle.std.specs.List.{flat_map, range_with_len}
 use Rattle.call_places.specs.declared.entries.Place.{Place}
 use Rattle.call_places.specs.declared.entries.Mark.{Mark}
 use Rattle.context_books.specs.Batches.{Batch, Spot, spots, all_asked, lane_of, lane_places, own_places}
-use Rattle.context_books.specs.Histories.{mark, places, own_spots}
+use Rattle.context_books.specs.Histories.{mark, marks_at, places, own_spots}
+use Rattle.result_lines.specs.Journals.{broken_journal}
 use Rattle.journal_check.specs.declared.asks.Asked.{Asked}
 use Rattle.journal_check.specs.Histories.{spots_from}
 
@@ -66,3 +67,12 @@ abbrev pub kept_from : Batch → ℕ → List (List Mark) → List (List Mark)
 kept_from batch context [] = []
 kept_from batch context (marks ∷ more) =
     take (length (asked_on batch context) + 1) marks ∷ kept_from batch (context + 1) more
+
+-- what is kept of journals: no more places than may be legal, and of legal ones all
+pub record IsKept (batch : Batch) (journals kept : List (List Mark)) : Type 0 where
+  pub size : length kept ≡ length journals
+  pub few : (c : ℕ) → c < length journals
+      → length (marks_at kept c) ≤ length (asked_on batch c) + 1
+  pub broken : (stamps : Bool)
+      → broken_journal stamps batch 0 kept ≡ broken_journal stamps batch 0 journals
+  pub whole : (stamps : Bool) → broken_journal stamps batch 0 journals ≡ None → kept ≡ journals

@@ -15,7 +15,7 @@ ghost use Rattle.std.specs.Prelude.{IfOk, OnOk};
 ghost use Rattle.context_books.specs.Batches.{spots as spots_of};
 ghost use Rattle.context_books.specs.Histories.{places, marks_at, journals_of};
 ghost use Rattle.journal_check.specs.Asks.{AreFew, batch_from};
-ghost use Rattle.journal_check.specs.Piles.{by_context, by_lane, by_context_stamped, joined};
+ghost use Rattle.journal_check.specs.Piles.{by_context, joined};
 ghost use Rattle.journal_check.specs.Piles.{spots_told as spots_told_of, in_lanes};
 ghost use Rattle.journal_check.specs.Piles.{lanes_told, lanes_asked as lanes_asked_of, asked_on};
 
@@ -36,41 +36,6 @@ fn deal_places(piles: &mut [Pile<Place>], spots: &[Spot]) -> Result<(), AllocErr
     Ok(())
 }
 
-// Deals spots to the piles of their lanes.
-fn deal_spots(lanes: &mut [Pile<Spot>], spots: &[Spot]) -> Result<(), AllocError>
-    ensures { OnOk result (lanes.new ≡ by_lane lanes.old spots.now) }
-{
-    'spots: for spot in spots {
-        let place = spot.place();
-        put(lanes, place.lane as usize, Spot::new(spot.context(), place))?;
-    }
-    Ok(())
-}
-
-// Deals the places of a history to the piles of their contexts, each with its index as its stamp.
-fn deal_marks(piles: &mut [Pile<Mark>], history: &[Spot]) -> Result<(), AllocError>
-    ensures { OnOk result (piles.new ≡ by_context_stamped piles.old 0 history.now) }
-{
-    'history: for (stamp, spot) in history.iter().enumerate() {
-        let mark = Mark {
-            place: spot.place(),
-            stamp: stamp as u64,
-        };
-        put(piles, spot.context() as usize, mark)?;
-    }
-    Ok(())
-}
-
-// Deals the places of lists of spots, one list after another.
-fn deal_lists(piles: &mut [Pile<Place>], lists: &[Pile<Spot>]) -> Result<(), AllocError>
-    ensures { OnOk result (piles.new ≡ by_context piles.old (joined lists.now)) }
-{
-    'lists: for list in lists {
-        deal_places(piles, list.as_slice())?;
-    }
-    Ok(())
-}
-
 // The places of lists of spots on each of so many contexts, one list after another.
 fn on_contexts(
     alloc: Global,
@@ -81,7 +46,9 @@ fn on_contexts(
         piles.items ≡ by_context (replicate count []) (joined lists.now)) }
 {
     let mut piles = empty_piles(alloc, count)?;
-    deal_lists(&mut piles, lists)?;
+    'lists: for list in lists {
+        deal_places(&mut piles, list.as_slice())?;
+    }
     Ok(piles)
 }
 
@@ -94,11 +61,18 @@ pub(crate) fn lanes_in(
     ensures { IfOk result (λ lanes. lanes.items ≡ lanes_told count history.now) }
 {
     let mut lanes = empty_piles(alloc, count)?;
-    deal_spots(&mut lanes, history)?;
+    'history: for spot in history {
+        let place = spot.place();
+        put(
+            &mut lanes,
+            place.lane as usize,
+            Spot::new(spot.context(), place),
+        )?;
+    }
     Ok(lanes)
 }
 
-/// The journals that a history of so many contexts gives.
+/// The journals that a history of so many contexts gives: each place has its index as its stamp.
 pub(crate) fn marks_of(
     alloc: Global,
     history: &[Spot],
@@ -107,7 +81,13 @@ pub(crate) fn marks_of(
     ensures { IfOk result (λ piles. piles.items ≡ journals_of count history.now) }
 {
     let mut piles = empty_piles(alloc, count)?;
-    deal_marks(&mut piles, history)?;
+    'history: for (stamp, spot) in history.iter().enumerate() {
+        let mark = Mark {
+            place: spot.place(),
+            stamp: stamp as u64,
+        };
+        put(&mut piles, spot.context() as usize, mark)?;
+    }
     Ok(piles)
 }
 

@@ -1,33 +1,27 @@
 //! Guesses.
 
-ghost use Rattle.std.specs.Prelude.{ℕ, ◌≡◌, ◌≢◌, ◌≤◌, ◌<◌, ◌+◌, ◌∷◌, ◌++◌, List, Some, None};
-ghost use Rattle.std.specs.Prelude.{length, map, drop, slice_get, slice_index, All, IfOk, OnOk};
+ghost use Rattle.std.specs.Prelude.{ℕ, ◌≡◌, ◌≢◌, ◌≤◌, ◌<◌, ◌+◌, ◌∷◌, ◌++◌, List, None};
+ghost use Rattle.std.specs.Prelude.{length, map, slice_index, All, IfOk, OnOk};
 ghost use Rattle.call_places.specs.declared.entries.Place.{Place};
-ghost use Rattle.context_books.specs.Batches.{own_places};
-ghost use Rattle.context_books.specs.Histories.{places, marks_at};
 ghost use Rattle.context_books.specs.Guesses.{is_in_window as is_in_window_of};
 ghost use Rattle.context_books.specs.Guesses.{missed as missed_of};
+ghost use Rattle.context_books.specs.Histories.{marks_at};
 ghost use Rattle.batch_plans.specs.declared.replies.Batch.{Batch};
 ghost use Rattle.batch_plans.specs.declared.plan.CallLine.{CallLine};
 ghost use Rattle.due_replies.specs.Standing.{call_refusal};
-ghost use Rattle.due_replies.specs.Runs.{Run};
-ghost use Rattle.journal_check.specs.declared.runs.JournalRun.{JournalRun};
 ghost use Rattle.due_replies.specs.Asks.{ask_of};
+ghost use Rattle.due_replies.specs.Runs.{journal_of};
 ghost use Rattle.result_lines.specs.Guesses.{is_right as is_right_of};
 ghost use Rattle.result_lines.specs.Guesses.{wrong_guess as wrong_guess_of};
 ghost use Rattle.result_lines.specs.Guesses.{wrong_guesses as wrong_guesses_of};
-ghost use Rattle.batch_plans.specs.Limits.{IsCallWithin};
-ghost use Rattle.journal_check.specs.Asks.{places_from};
-ghost use Rattle.journal_check.specs.Passing.{is_right_by, Reaches, AllReach, AreNumbersOf};
-ghost use Rattle.journal_check.specs.Passing.{AreLegal, is_opening as is_opening_of};
-ghost use Rattle.journal_check.specs.Walks.{IsRun, PointsIn};
+ghost use Rattle.journal_check.specs.Passing.{is_right_by, due_at, Reaches, AllReach};
+ghost use Rattle.journal_check.specs.Passing.{is_opening as is_opening_of};
+ghost use Rattle.journal_check.specs.Walks.{IsRun, PointsTo, MayHave, Stands};
+ghost use Rattle.journal_check.specs.Walks.{run_in, calls_of, left_in};
 
 use crate::asks::asked_of;
-use crate::lane_walks::next_own;
-use crate::links::LinkedJournal;
-use crate::runs::CheckedRun;
-use batch_plans::{Batch, CallLine, PlainList};
-use call_places::Mark;
+use crate::lane_walks::{CheckedRun, Walk};
+use batch_plans::{Batch, CallLine};
 use due_replies::refusal_of;
 use hpke_context::Context;
 use result_lines::GuessLine;
@@ -70,53 +64,27 @@ fn is_right(told: Batch, least: u64, numbers: &[u64]) -> bool
         && told.missed as usize == missed(told.guess, numbers)
 }
 
-// The number that was due at the lane's next place in a journal, where each place has its number.
-fn pass_place(journal: &LinkedJournal, numbers: &[u64], lane: u32, cursor: &mut usize) -> u64
-    requires { length numbers.now ≡ length journal.now }
-    ensures number { (f : Place → ℕ) (p : Place) (ps : List Place)
-        → numbers.now ≡ map f (places journal.now)
-        → own_places lane (places (drop cursor.old journal.now)) ≡ p ∷ ps
-        → result ≡ f p }
-    ensures cursor { (p : Place) (ps : List Place)
-        → own_places lane (places (drop cursor.old journal.now)) ≡ p ∷ ps
-        → own_places lane (places (drop cursor.new journal.now)) ≡ ps }
-    ensures reach { Reaches lane journal.now cursor.old → Reaches lane journal.now cursor.new }
+// The number that was due at the lane's next place in the journal of a context.
+fn pass_place(walk: &Walk, cursors: &mut [usize], context: u32) -> u64
+    requires run { IsRun walk.now.checked }
+    requires cursors { length cursors.old ≡ length walk.now.checked.journals.now }
+    requires stands { Stands walk.now.checked context }
+    ensures number { (p : Place) (ps : List Place) → left_in walk.now cursors.old context ≡ p ∷ ps
+        → result ≡ due_at (run_in walk.now.checked) context p }
+    ensures left { (p : Place) (ps : List Place) → left_in walk.now cursors.old context ≡ p ∷ ps
+        → left_in walk.now cursors.new context ≡ ps }
+    ensures reach { Reaches walk.now.lane (marks_at walk.now.checked.journals.now context)
+        (slice_index cursors.old context)
+        → Reaches walk.now.lane (marks_at walk.now.checked.journals.now context)
+        (slice_index cursors.new context) }
+    ensures others { (d : ℕ) → d ≢ context
+        → slice_index cursors.new d ≡ slice_index cursors.old d }
 {
-    match next_own(journal, lane, *cursor) {
-        Some(at) => {
-            *cursor = at + 1;
-            numbers[at]
-        }
-        None => 0,
-    }
-}
-
-// The numbers that were due at the lane's next places, so many of them.
-fn pass_places(
-    alloc: Global,
-    journal: &LinkedJournal,
-    numbers: &[u64],
-    lane: u32,
-    cursor: &mut usize,
-    count: u32,
-) -> Result<Vec<u64>, AllocError>
-    requires { length numbers.now ≡ length journal.now }
-    ensures numbers { IfOk result (λ found. (f : Place → ℕ) (ps more : List Place)
-        → numbers.now ≡ map f (places journal.now) → length ps ≡ count
-        → own_places lane (places (drop cursor.old journal.now)) ≡ ps ++ more
-        → found.items ≡ map f ps) }
-    ensures cursor { OnOk result ((ps more : List Place) → length ps ≡ count
-        → own_places lane (places (drop cursor.old journal.now)) ≡ ps ++ more
-        → own_places lane (places (drop cursor.new journal.now)) ≡ more) }
-    ensures reach { OnOk result (Reaches lane journal.now cursor.old
-        → Reaches lane journal.now cursor.new) }
-{
-    let mut found = Vec::new(alloc);
-    'places: for _place in 0..count {
-        let number = pass_place(journal, numbers, lane, cursor);
-        found.push(number)?;
-    }
-    Ok(found)
+    let Some(at) = walk.step(cursors, context) else {
+        return 0;
+    };
+    let run = &walk.checked.runs[context as usize];
+    number_at(&run.numbers, at)
 }
 
 // What was due along a lane: where its last place before a call was passed, and at the places of
@@ -130,46 +98,38 @@ struct Passed {
 // Passes the lane's next places in the journal of a context.
 fn pass_items(
     alloc: Global,
-    checked: &CheckedRun,
+    walk: &Walk,
     cursors: &mut [usize],
     context: u32,
-    lane: u32,
     count: u32,
 ) -> Result<Passed, AllocError>
-    requires there { context < length checked.now.journals.now }
-    requires runs_size { length checked.now.runs.now ≡ length checked.now.journals.now }
-    requires cursors_size { length cursors.old ≡ length checked.now.journals.now }
-    requires long { (done : JournalRun) → slice_get checked.now.runs.now context ≡ Some done
-        → length done.numbers.items ≡ length (marks_at checked.now.journals.now context) }
-    ensures least { IfOk result (λ passed. (done : JournalRun)
-        → slice_get checked.now.runs.now context ≡ Some done
-        → passed.least ≡ slice_index done.numbers.items (slice_index cursors.old context)) }
-    ensures numbers { IfOk result (λ passed. (f : Place → ℕ) (ps more : List Place)
-        → ((done : JournalRun) → slice_get checked.now.runs.now context ≡ Some done
-        → done.numbers.items ≡ map f (places (marks_at checked.now.journals.now context)))
-        → length ps ≡ count
-        → own_places lane (places (drop (slice_index cursors.old context)
-        (marks_at checked.now.journals.now context))) ≡ ps ++ more
-        → passed.numbers.items ≡ map f ps) }
-    ensures cursor { OnOk result ((ps more : List Place) → length ps ≡ count
-        → own_places lane (places (drop (slice_index cursors.old context)
-        (marks_at checked.now.journals.now context))) ≡ ps ++ more
-        → own_places lane (places (drop (slice_index cursors.new context)
-        (marks_at checked.now.journals.now context))) ≡ more) }
+    requires run { IsRun walk.now.checked }
+    requires cursors { length cursors.old ≡ length walk.now.checked.journals.now }
+    requires stands { Stands walk.now.checked context }
+    ensures least { IfOk result (λ passed. passed.least
+        ≡ slice_index (map (due_at (run_in walk.now.checked) context)
+        (journal_of (run_in walk.now.checked) context)) (slice_index cursors.old context)) }
+    ensures numbers { IfOk result (λ passed. (ps more : List Place) → length ps ≡ count
+        → left_in walk.now cursors.old context ≡ ps ++ more
+        → passed.numbers.items ≡ map (due_at (run_in walk.now.checked) context) ps) }
+    ensures left { OnOk result ((ps more : List Place) → length ps ≡ count
+        → left_in walk.now cursors.old context ≡ ps ++ more
+        → left_in walk.now cursors.new context ≡ more) }
     ensures reach { OnOk result (
-        Reaches lane (marks_at checked.now.journals.now context) (slice_index cursors.old context)
-        → Reaches lane (marks_at checked.now.journals.now context)
+        Reaches walk.now.lane (marks_at walk.now.checked.journals.now context)
+        (slice_index cursors.old context)
+        → Reaches walk.now.lane (marks_at walk.now.checked.journals.now context)
         (slice_index cursors.new context)) }
     ensures others { (d : ℕ) → d ≢ context
         → slice_index cursors.new d ≡ slice_index cursors.old d }
 {
-    let at = context as usize;
-    let journals = checked.journals;
-    let runs = checked.runs;
-    let journal = &journals[at];
-    let due = &runs[at].numbers;
-    let least = number_at(due, cursors[at]);
-    let numbers = pass_places(alloc, journal, due, lane, &mut cursors[at], count)?;
+    let due = &walk.checked.runs[context as usize].numbers;
+    let least = number_at(due, cursors[context as usize]);
+    let mut numbers = Vec::new(alloc);
+    'places: for _place in 0..count {
+        let number = pass_place(walk, cursors, context);
+        numbers.push(number)?;
+    }
     Ok(Passed { least, numbers })
 }
 
@@ -193,31 +153,29 @@ fn is_opening(contexts: &[Option<Context>], call: &CallLine) -> bool
 // Passes the places of a call.
 fn pass_call(
     alloc: Global,
-    checked: &CheckedRun,
+    walk: &Walk,
     cursors: &mut [usize],
-    lane: u32,
     call: &CallLine,
 ) -> Result<Passed, AllocError>
-    requires run { IsRun checked.now }
-    requires cursors { length cursors.old ≡ length checked.now.journals.now }
+    requires run { IsRun walk.now.checked }
+    requires cursors { length cursors.old ≡ length walk.now.checked.journals.now }
     ensures points { OnOk result ((number : ℕ) (more : List CallLine)
-        → PointsIn checked.now lane number (call.now ∷ more) cursors.old
-        → PointsIn checked.now lane (number + 1) more cursors.new) }
-    ensures reach { OnOk result (AllReach lane checked.now.journals.now cursors.old
-        → AllReach lane checked.now.journals.now cursors.new) }
-    ensures right { IfOk result (λ passed. (run : Run) (number : ℕ) (more : List CallLine)
+        → PointsTo walk.now number (call.now ∷ more) cursors.old
+        → PointsTo walk.now (number + 1) more cursors.new) }
+    ensures reach { OnOk result (
+        AllReach walk.now.lane walk.now.checked.journals.now cursors.old
+        → AllReach walk.now.lane walk.now.checked.journals.now cursors.new) }
+    ensures right { IfOk result (λ passed. (number : ℕ) (more : List CallLine)
         (told : Batch) (context first count : ℕ)
         → call.now ≡ CallLine.UnsealAll context first count
-        → call_refusal checked.now.contexts.now call.now ≡ None → 1 ≤ count
-        → run.contexts ≡ checked.now.contexts.now → run.journals ≡ checked.now.journals.now
-        → AreNumbersOf run checked.now.runs.now → AreLegal run
-        → PointsIn checked.now lane number (call.now ∷ more) cursors.old
-        → AllReach lane checked.now.journals.now cursors.old
+        → call_refusal walk.now.checked.contexts.now call.now ≡ None → 1 ≤ count
+        → PointsTo walk.now number (call.now ∷ more) cursors.old
+        → AllReach walk.now.lane walk.now.checked.journals.now cursors.old
         → is_right_by told passed.least passed.numbers.items
-        ≡ is_right_of run context lane number count told) }
+        ≡ is_right_of (run_in walk.now.checked) context walk.now.lane number count told) }
 {
-    match asked_of(checked.contexts, call) {
-        Some((context, count)) => pass_items(alloc, checked, cursors, context, lane, count),
+    match asked_of(walk.checked.contexts, call) {
+        Some((context, count)) => pass_items(alloc, walk, cursors, context, count),
         None => Ok(Passed {
             least: 0,
             numbers: Vec::new(alloc),
@@ -228,28 +186,25 @@ fn pass_call(
 // The line of the first guess of these calls of a lane that isn't right.
 fn judge_calls(
     alloc: Global,
-    checked: &CheckedRun,
+    walk: &Walk,
     cursors: &mut [usize],
-    lane: u32,
     calls: &[CallLine],
     guesses: &[GuessLine],
 ) -> Result<Option<u32>, AllocError>
-    requires run { IsRun checked.now }
-    requires cursors { length cursors.old ≡ length checked.now.journals.now }
-    requires points { PointsIn checked.now lane 0 calls.now cursors.old }
-    requires reach { AllReach lane checked.now.journals.now cursors.old }
-    ensures { IfOk result (λ wrong. (run : Run) → run.contexts ≡ checked.now.contexts.now
-        → run.journals ≡ checked.now.journals.now → AreNumbersOf run checked.now.runs.now
-        → AreLegal run
-        → All (IsCallWithin (length run.plan.items) (length run.plan.pool)) calls.now
-        → wrong ≡ wrong_guess_of run lane 0 (map (ask_of run.plan
-        checked.now.contexts.now) calls.now)
+    requires within { All (MayHave walk.now.checked) calls.now }
+    requires run { IsRun walk.now.checked }
+    requires cursors { length cursors.old ≡ length walk.now.checked.journals.now }
+    requires points { PointsTo walk.now 0 calls.now cursors.old }
+    requires reach { AllReach walk.now.lane walk.now.checked.journals.now cursors.old }
+    ensures { IfOk result (λ wrong. wrong
+        ≡ wrong_guess_of (run_in walk.now.checked) walk.now.lane 0
+        (map (ask_of walk.now.checked.plan.now walk.now.checked.contexts.now) calls.now)
         guesses.now) }
 {
     let mut next = 0;
     'calls: for call in calls {
-        let passed = pass_call(alloc, checked, cursors, lane, call)?;
-        if is_opening(checked.contexts, call) {
+        let passed = pass_call(alloc, walk, cursors, call)?;
+        if is_opening(walk.checked.contexts, call) {
             if next >= guesses.len() {
                 return Ok(None);
             }
@@ -264,47 +219,30 @@ fn judge_calls(
 }
 
 // The same from the start of the journals.
-fn wrong_guess(
-    alloc: Global,
-    checked: &CheckedRun,
-    lane: u32,
-    calls: &[CallLine],
-    guesses: &[GuessLine],
-) -> Result<Option<u32>, AllocError>
-    requires run { IsRun checked.now }
-    requires own { (c : ℕ) → c < length checked.now.journals.now
-        → own_places lane (places (marks_at checked.now.journals.now c))
-        ≡ places_from checked.now.contexts.now c lane 0 calls.now }
-    ensures { IfOk result (λ wrong. (run : Run) → run.contexts ≡ checked.now.contexts.now
-        → run.journals ≡ checked.now.journals.now → AreNumbersOf run checked.now.runs.now
-        → AreLegal run
-        → All (IsCallWithin (length run.plan.items) (length run.plan.pool)) calls.now
-        → wrong ≡ wrong_guess_of run lane 0 (map (ask_of run.plan
-        checked.now.contexts.now) calls.now)
-        guesses.now) }
+fn wrong_guess(alloc: Global, walk: &Walk, guesses: &[GuessLine]) -> Result<Option<u32>, AllocError>
+    requires run { IsRun walk.now.checked }
+    requires there { walk.now.lane < length walk.now.checked.plan.now.lanes }
+    ensures { IfOk result (λ wrong. wrong
+        ≡ wrong_guess_of (run_in walk.now.checked) walk.now.lane 0
+        (map (ask_of walk.now.checked.plan.now walk.now.checked.contexts.now)
+        (calls_of walk.now)) guesses.now) }
 {
-    let mut cursors = vec![in alloc; 0usize; checked.journals.len()]?;
-    judge_calls(alloc, checked, &mut cursors, lane, calls, guesses)
+    let mut cursors = walk.start(alloc)?;
+    judge_calls(alloc, walk, &mut cursors, walk.calls(), guesses)
 }
 
 /// The line of the first guess of all lanes that isn't right.
-pub(crate) fn wrong_guesses(
-    alloc: Global,
-    checked: &CheckedRun,
-    lanes: &[PlainList<GuessLine>],
-) -> Result<Option<u32>, AllocError>
-    requires lanes_size { length lanes.now ≡ length checked.now.plan.now.lanes }
-    requires run { IsRun checked.now }
-    ensures { IfOk result (λ wrong. (run : Run) → run.plan ≡ checked.now.plan.now
-        → run.contexts ≡ checked.now.contexts.now → run.journals ≡ checked.now.journals.now
-        → AreNumbersOf run checked.now.runs.now
-        → AreLegal run → wrong ≡ wrong_guesses_of run 0 lanes.now) }
+pub(crate) fn wrong_guesses(alloc: Global, checked: &CheckedRun) -> Result<Option<u32>, AllocError>
+    requires { IsRun checked.now }
+    ensures { IfOk result (λ wrong. wrong
+        ≡ wrong_guesses_of (run_in checked.now) 0 checked.now.guesses.now) }
 {
-    'lanes: for (lane, guesses) in lanes.iter().enumerate() {
-        let calls = checked.plan.lanes.as_slice()[lane].as_slice();
-        let number = lane as u32;
-        let guesses = guesses.as_slice();
-        let wrong = wrong_guess(alloc, checked, number, calls, guesses)?;
+    'lanes: for (lane, guesses) in checked.guesses.iter().enumerate() {
+        let walk = Walk {
+            checked: *checked,
+            lane: lane as u32,
+        };
+        let wrong = wrong_guess(alloc, &walk, guesses.as_slice())?;
         if wrong.is_some() {
             return Ok(wrong);
         }

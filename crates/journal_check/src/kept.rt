@@ -1,12 +1,10 @@
 //! Journals of which no more is kept than may be legal.
 
-ghost use Rattle.std.specs.Prelude.{ℕ, ◌≡◌, ◌≤◌, ◌<◌, ◌+◌, Bool, None, length, IfOk};
+ghost use Rattle.std.specs.Prelude.{◌≡◌, IfOk};
 ghost use Rattle.batch_plans.specs.Limits.{IsWithinLimits};
 ghost use Rattle.due_replies.specs.Asks.{batch_of};
-ghost use Rattle.context_books.specs.Histories.{marks_at};
-ghost use Rattle.result_lines.specs.Journals.{broken_journal as broken_journal_of};
 ghost use Rattle.journal_check.specs.Asks.{AreFew, batch_from};
-ghost use Rattle.journal_check.specs.Piles.{asked_on, kept_from};
+ghost use Rattle.journal_check.specs.Piles.{kept_from, IsKept};
 
 use crate::asks::{Asked, asks_of};
 use crate::dealing::places_asked;
@@ -47,16 +45,8 @@ pub(crate) fn kept_journals(
     journals: &[JournalLines],
 ) -> Result<Vec<PlainList<Mark>>, AllocError>
     requires { IsWithinLimits plan.now }
-    ensures size { IfOk result (λ kept. length kept.items ≡ length journals.now) }
-    ensures few { IfOk result (λ kept. (c : ℕ) → c < length journals.now
-        → length (marks_at kept.items c)
-        ≤ length (asked_on (batch_of plan.now contexts.now) c) + 1) }
-    ensures broken { IfOk result (λ kept. (stamps : Bool)
-        → broken_journal_of stamps (batch_of plan.now contexts.now) 0 kept.items
-        ≡ broken_journal_of stamps (batch_of plan.now contexts.now) 0 journals.now) }
-    ensures whole { IfOk result (λ kept. (stamps : Bool)
-        → broken_journal_of stamps (batch_of plan.now contexts.now) 0 journals.now ≡ None
-        → kept.items ≡ journals.now) }
+    ensures { IfOk result (λ kept.
+        IsKept (batch_of plan.now contexts.now) journals.now kept.items) }
 {
     let asks = asks_of(alloc, plan, contexts)?;
     first_places(alloc, &asks, journals)

@@ -1,17 +1,42 @@
-//! A lane's places, found in the journals one after another, and their replies.
+//! A lane that is walked beside the journals: its places are found in them one after another.
 
-ghost use Rattle.std.specs.Prelude.{ℕ, ◌≡◌, ◌<◌, ◌+◌, ◌∷◌, ◌++◌, [], List, Some, length, map, drop};
-ghost use Rattle.std.specs.Prelude.{slice_get, IfSome, IfNone, OnOk};
-ghost use Rattle.call_places.specs.declared.entries.Place.{Place};
+ghost use Rattle.std.specs.Prelude.{ℕ, ◌≡◌, ◌≢◌, ◌<◌, ◌+◌, ◌^◌, ◌∷◌, [], length, drop};
+ghost use Rattle.std.specs.Prelude.{slice_get, slice_index, IfSome, IfNone, IfOk};
 ghost use Rattle.call_places.specs.declared.entries.Mark.{Mark};
 ghost use Rattle.context_books.specs.Batches.{own_places};
-ghost use Rattle.context_books.specs.Histories.{places};
-ghost use Rattle.journal_check.specs.Walks.{Holds};
+ghost use Rattle.context_books.specs.Histories.{places, marks_at};
+ghost use Rattle.journal_check.specs.Passing.{Reaches, AllReach};
+ghost use Rattle.journal_check.specs.Walks.{IsRun, PointsTo, calls_of, left_in};
 
 use crate::links::LinkedJournal;
-use batch_plans::PlainList;
+use crate::runs::JournalRun;
+use crate::tables::Table;
+use batch_plans::{CallLine, PlainList, Plan};
 use call_places::Mark;
-use result_lines::{Replies, Stop, is_line};
+use hpke_context::Context;
+use result_lines::GuessLine;
+use std::alloc::{AllocError, Global};
+
+/// A run that is checked: the plan, the contexts that stand, the guesses that the result tells, the
+/// journals, what came of running each context along its own, and the table, where lanes add and
+/// retire contexts.
+#[derive(Clone, Copy)]
+pub(crate) struct CheckedRun<'a> {
+    pub(crate) plan: &'a Plan,
+    pub(crate) contexts: &'a [Option<Context>],
+    pub(crate) guesses: &'a [PlainList<GuessLine>],
+    pub(crate) journals: &'a [LinkedJournal],
+    pub(crate) runs: &'a [JournalRun],
+    pub(crate) table: Option<Table<'a>>,
+}
+
+/// A lane of a run that is walked. There is a cursor into the journal of each context, from which on
+/// the lane's next place is looked for.
+#[derive(Clone, Copy)]
+pub(crate) struct Walk<'a> {
+    pub(crate) checked: CheckedRun<'a>,
+    pub(crate) lane: u32,
+}
 
 // The first place of a lane from this index on.
 fn own_from(marks: &[Mark], lane: u32, from: usize) -> Option<usize>
@@ -19,6 +44,7 @@ fn own_from(marks: &[Mark], lane: u32, from: usize) -> Option<usize>
         → own_places lane (places (drop from marks.now))
         ≡ m.place ∷ own_places lane (places (drop (at + 1) marks.now))) }
     ensures there { IfSome result (λ at. at < length marks.now) }
+    ensures fits { IfSome result (λ at. at + 1 < 2 ^ 64) }
     ensures none { IfNone result (own_places lane (places (drop from marks.now)) ≡ []) }
 {
     'marks: for at in from..marks.len() {
@@ -29,76 +55,63 @@ fn own_from(marks: &[Mark], lane: u32, from: usize) -> Option<usize>
     None
 }
 
-/// Where the next place of a lane stands in a journal, from this index on.
-pub(crate) fn next_own(journal: &LinkedJournal, lane: u32, from: usize) -> Option<usize>
+// Where the next place of a lane stands in a journal, from this index on.
+fn next_own(journal: &LinkedJournal, lane: u32, from: usize) -> Option<usize>
     ensures some { IfSome result (λ at. (m : Mark) → slice_get journal.now at ≡ Some m
         → own_places lane (places (drop from journal.now))
         ≡ m.place ∷ own_places lane (places (drop (at + 1) journal.now))) }
     ensures there { IfSome result (λ at. at < length journal.now) }
+    ensures fits { IfSome result (λ at. at + 1 < 2 ^ 64) }
     ensures none { IfNone result (own_places lane (places (drop from journal.now)) ≡ []) }
 {
     own_from(journal.marks(), lane, journal.start(lane, from))
 }
 
-/// Holds the next reply, where one is left, against the line that is due.
-pub(crate) fn take_line(replies: &mut Replies, due: &[u8]) -> Result<(), Stop>
-    ensures { Holds replies.old replies.new (due.now ∷ []) result }
-{
-    let Some(reply) = replies.take() else {
-        return Ok(());
-    };
-    if is_line(reply.line, due) {
-        Ok(())
-    } else {
-        Err(Stop::Wrong(reply.number))
+impl<'a> Walk<'a> {
+    /// The lane's calls.
+    pub(crate) fn calls(&self) -> &'a [CallLine]
+        requires { self.now.lane < length self.now.checked.plan.now.lanes }
+        ensures { result.now ≡ calls_of self.now }
+    {
+        let lanes = self.checked.plan.lanes.as_slice();
+        lanes[self.lane as usize].as_slice()
     }
-}
 
-// Holds the next reply against that of the lane's next place in a journal, where each place has its
-// line.
-fn take_place(
-    replies: &mut Replies,
-    journal: &LinkedJournal,
-    lines: &[PlainList<u8>],
-    lane: u32,
-    cursor: &mut usize,
-) -> Result<(), Stop>
-    requires { length lines.now ≡ length journal.now }
-    ensures line { (f : Place → List ℕ) (p : Place) (ps : List Place)
-        → lines.now ≡ map f (places journal.now)
-        → own_places lane (places (drop cursor.old journal.now)) ≡ p ∷ ps
-        → Holds replies.old replies.new (f p ∷ []) result }
-    ensures cursor { (p : Place) (ps : List Place)
-        → own_places lane (places (drop cursor.old journal.now)) ≡ p ∷ ps
-        → own_places lane (places (drop cursor.new journal.now)) ≡ ps }
-{
-    let Some(at) = next_own(journal, lane, *cursor) else {
-        return Ok(());
-    };
-    *cursor = at + 1;
-    take_line(replies, lines[at].as_slice())
-}
-
-/// Holds the next replies against those of the lane's next places in a journal, so many of them.
-pub(crate) fn take_places(
-    replies: &mut Replies,
-    journal: &LinkedJournal,
-    lines: &[PlainList<u8>],
-    lane: u32,
-    cursor: &mut usize,
-    count: u32,
-) -> Result<(), Stop>
-    requires { length lines.now ≡ length journal.now }
-    ensures lines { (f : Place → List ℕ) (ps more : List Place)
-        → lines.now ≡ map f (places journal.now) → length ps ≡ count
-        → own_places lane (places (drop cursor.old journal.now)) ≡ ps ++ more
-        → Holds replies.old replies.new (map f ps) result }
-    ensures cursor { OnOk result ((ps more : List Place) → length ps ≡ count
-        → own_places lane (places (drop cursor.old journal.now)) ≡ ps ++ more
-        → own_places lane (places (drop cursor.new journal.now)) ≡ more) }
-{
-    'places: for _place in 0..count {
-        take_place(replies, journal, lines, lane, cursor)?;
+    /// The cursors at the start of the journals.
+    pub(crate) fn start(&self, alloc: Global) -> Result<Vec<usize>, AllocError>
+        requires { IsRun self.now.checked }
+        ensures size { IfOk result (λ cursors.
+            length cursors.items ≡ length self.now.checked.journals.now) }
+        ensures points { IfOk result (λ cursors.
+            PointsTo self.now 0 (calls_of self.now) cursors.items) }
+        ensures reach { IfOk result (λ cursors.
+            AllReach self.now.lane self.now.checked.journals.now cursors.items) }
+    {
+        vec![in alloc; 0usize; self.checked.journals.len()]
     }
-    Ok(())
+
+    /// The index of the lane's next place in the journal of a context, where there is one. The cursor
+    /// goes on behind it.
+    pub(crate) fn step(&self, cursors: &mut [usize], context: u32) -> Option<usize>
+        requires there { context < length self.now.checked.journals.now }
+        requires cursors { length cursors.old ≡ length self.now.checked.journals.now }
+        ensures there { IfSome result (λ at.
+            at < length (marks_at self.now.checked.journals.now context)) }
+        ensures place { IfSome result (λ at. (m : Mark)
+            → slice_get (marks_at self.now.checked.journals.now context) at ≡ Some m
+            → left_in self.now cursors.old context
+            ≡ m.place ∷ left_in self.now cursors.new context) }
+        ensures none { IfNone result (left_in self.now cursors.old context ≡ []) }
+        ensures reach { Reaches self.now.lane (marks_at self.now.checked.journals.now context)
+            (slice_index cursors.old context)
+            → Reaches self.now.lane (marks_at self.now.checked.journals.now context)
+            (slice_index cursors.new context) }
+        ensures others { (d : ℕ) → d ≢ context
+            → slice_index cursors.new d ≡ slice_index cursors.old d }
+    {
+        let number = context as usize;
+        let at = next_own(&self.checked.journals[number], self.lane, cursors[number])?;
+        cursors[number] = at + 1;
+        Some(at)
+    }
 }

@@ -38,6 +38,7 @@ mod links;
 mod live_checking;
 mod live_replies;
 mod lives;
+mod orders;
 mod piles;
 mod replies;
 mod runs;

@@ -1,33 +1,31 @@
 //! The replies to calls.
 
-ghost use Rattle.std.specs.Prelude.{ℕ, ◌≡◌, ◌≢◌, ◌≤◌, ◌<◌, ◌+◌, ◌∷◌, ◌++◌, ◌^◌, [], List, Some, None, length, map, drop};
-ghost use Rattle.std.specs.Prelude.{slice_get, slice_index, All, IfOk, OnOk};
+ghost use Rattle.std.specs.Prelude.{ℕ, ◌≡◌, ◌≢◌, ◌≤◌, ◌<◌, ◌+◌, ◌∷◌, ◌++◌, ◌^◌, [], List, None, length, map};
+ghost use Rattle.std.specs.Prelude.{slice_index, slice_index_or, false, All, IfOk, OnOk};
 ghost use Rattle.call_places.specs.declared.entries.Place.{Place};
 ghost use Rattle.call_places.specs.Spans.{IsInPool, span_bytes};
 ghost use Rattle.hpke_context.specs.Contexts.{export_limit, exported_by};
-ghost use Rattle.context_books.specs.Batches.{own_places};
-ghost use Rattle.context_books.specs.Histories.{places, marks_at};
 ghost use Rattle.batch_plans.specs.declared.plan.CallLine.{CallLine};
 ghost use Rattle.batch_plans.specs.Replies.{IsInRange};
 ghost use Rattle.reply_texts.specs.Lines.{exported_line, reply_line};
 ghost use Rattle.due_replies.specs.Standing.{standing_at, call_refusal};
-ghost use Rattle.due_replies.specs.Runs.{Run, export_line as export_line_of};
-ghost use Rattle.journal_check.specs.declared.runs.JournalRun.{JournalRun};
-ghost use Rattle.journal_check.specs.Asks.{places_from};
-ghost use Rattle.result_lines.specs.Replies.{item_lines, reply_lines, lane_replies, all_replies};
+ghost use Rattle.due_replies.specs.Runs.{place_line, export_line as export_line_of};
+ghost use Rattle.result_lines.specs.Replies.{item_lines};
 ghost use Rattle.result_lines.specs.Replies.{wrong_reply as wrong_reply_of};
-ghost use Rattle.journal_check.specs.Walks.{Holds, AreRepliesOf, IsRun, PointsIn, MayHave};
+ghost use Rattle.journal_check.specs.Served.{due_by, lane_due, all_due, AreLives};
+ghost use Rattle.journal_check.specs.Walks.{Holds, IsRun, PointsTo, MayHave, Stands};
+ghost use Rattle.journal_check.specs.Walks.{run_in, calls_of, left_in};
 
 use crate::asks::asked_of;
 use crate::items::all_of;
-use crate::lane_walks::{take_line, take_places};
-use crate::runs::CheckedRun;
-use batch_plans::{CallLine, Reply};
+use crate::lane_walks::{CheckedRun, Walk};
+use crate::live_replies::change_reply;
+use batch_plans::{CallLine, PlainList, Reply};
 use call_places::Span;
 use due_replies::{refusal_of, standing};
 use hpke_context::Context;
 use reply_frames::reply_line;
-use result_lines::{Replies, Stop};
+use result_lines::{Replies, Stop, is_line, live_calls};
 use std::alloc::{AllocError, Global};
 
 // The line of an export.
@@ -48,8 +46,22 @@ fn export_line(
     reply_line(alloc, &out, &Reply::Exported { text })
 }
 
-/// Holds the next reply against one that names no bytes.
-pub(crate) fn take_reply(replies: &mut Replies, alloc: Global, reply: Reply) -> Result<(), Stop>
+// Holds the next reply, where one is left, against the line that is due.
+fn take_line(replies: &mut Replies, due: &[u8]) -> Result<(), Stop>
+    ensures { Holds replies.old replies.new (due.now ∷ []) result }
+{
+    let Some(reply) = replies.take() else {
+        return Ok(());
+    };
+    if is_line(reply.line, due) {
+        Ok(())
+    } else {
+        Err(Stop::Wrong(reply.number))
+    }
+}
+
+// Holds the next reply against one that names no bytes.
+fn take_reply(replies: &mut Replies, alloc: Global, reply: Reply) -> Result<(), Stop>
     requires { IsInRange 0 reply }
     ensures { Holds replies.old replies.new (reply_line [] reply ∷ []) result }
 {
@@ -81,68 +93,88 @@ fn take_export(
     take_line(replies, &line)
 }
 
-// Holds the next replies against those of a lane's next places in the journal of a context.
-fn take_items(
+// The line of this index.
+fn line_at(lines: &[PlainList<u8>], at: usize) -> &[u8]
+    requires { at < length lines.now }
+    ensures { result.now ≡ slice_index_or lines.now at [] }
+{
+    lines[at].as_slice()
+}
+
+// Holds the next reply against that of the lane's next place in the journal of a context.
+fn take_place(
     replies: &mut Replies,
-    checked: &CheckedRun,
+    walk: &Walk,
     cursors: &mut [usize],
     context: u32,
-    lane: u32,
-    count: u32,
 ) -> Result<(), Stop>
-    requires there { context < length checked.now.journals.now }
-    requires runs_size { length checked.now.runs.now ≡ length checked.now.journals.now }
-    requires cursors_size { length cursors.old ≡ length checked.now.journals.now }
-    requires long { (done : JournalRun) → slice_get checked.now.runs.now context ≡ Some done
-        → length done.lines.items ≡ length (marks_at checked.now.journals.now context) }
-    ensures lines { (f : Place → List ℕ) (ps more : List Place)
-        → ((done : JournalRun) → slice_get checked.now.runs.now context ≡ Some done
-        → done.lines.items ≡ map f (places (marks_at checked.now.journals.now context)))
-        → length ps ≡ count
-        → own_places lane (places (drop (slice_index cursors.old context)
-        (marks_at checked.now.journals.now context))) ≡ ps ++ more
-        → Holds replies.old replies.new (map f ps) result }
-    ensures cursor { OnOk result ((ps more : List Place) → length ps ≡ count
-        → own_places lane (places (drop (slice_index cursors.old context)
-        (marks_at checked.now.journals.now context))) ≡ ps ++ more
-        → own_places lane (places (drop (slice_index cursors.new context)
-        (marks_at checked.now.journals.now context))) ≡ more) }
+    requires run { IsRun walk.now.checked }
+    requires cursors { length cursors.old ≡ length walk.now.checked.journals.now }
+    requires stands { Stands walk.now.checked context }
+    ensures line { (p : Place) (ps : List Place) → left_in walk.now cursors.old context ≡ p ∷ ps
+        → Holds replies.old replies.new
+        (place_line (run_in walk.now.checked) context p ∷ []) result }
+    ensures left { (p : Place) (ps : List Place) → left_in walk.now cursors.old context ≡ p ∷ ps
+        → left_in walk.now cursors.new context ≡ ps }
     ensures others { (d : ℕ) → d ≢ context
         → slice_index cursors.new d ≡ slice_index cursors.old d }
 {
-    let at = context as usize;
-    let journals = checked.journals;
-    let runs = checked.runs;
-    let journal = &journals[at];
-    let lines = &runs[at].lines;
-    take_places(replies, journal, lines, lane, &mut cursors[at], count)
+    let Some(at) = walk.step(cursors, context) else {
+        return Ok(());
+    };
+    let run = &walk.checked.runs[context as usize];
+    take_line(replies, line_at(&run.lines, at))
+}
+
+// Holds the next replies against those of the lane's next places in the journal of a context.
+fn take_items(
+    replies: &mut Replies,
+    walk: &Walk,
+    cursors: &mut [usize],
+    context: u32,
+    count: u32,
+) -> Result<(), Stop>
+    requires run { IsRun walk.now.checked }
+    requires cursors { length cursors.old ≡ length walk.now.checked.journals.now }
+    requires stands { Stands walk.now.checked context }
+    ensures lines { (ps more : List Place) → length ps ≡ count
+        → left_in walk.now cursors.old context ≡ ps ++ more
+        → Holds replies.old replies.new
+        (map (place_line (run_in walk.now.checked) context) ps) result }
+    ensures left { OnOk result ((ps more : List Place) → length ps ≡ count
+        → left_in walk.now cursors.old context ≡ ps ++ more
+        → left_in walk.now cursors.new context ≡ more) }
+    ensures others { (d : ℕ) → d ≢ context
+        → slice_index cursors.new d ≡ slice_index cursors.old d }
+{
+    'places: for _place in 0..count {
+        take_place(replies, walk, cursors, context)?;
+    }
+    Ok(())
 }
 
 // Holds the next replies against those to a call that is served, and passes its places.
 fn take_served(
     replies: &mut Replies,
     alloc: Global,
-    checked: &CheckedRun,
+    walk: &Walk,
     cursors: &mut [usize],
-    lane: u32,
     call: &CallLine,
 ) -> Result<(), Stop>
-    requires within { MayHave checked.now call.now }
-    requires run { IsRun checked.now }
-    requires cursors { length cursors.old ≡ length checked.now.journals.now }
-    requires served { call_refusal checked.now.contexts.now call.now ≡ None }
-    ensures lines { (run : Run) (number : ℕ) (more : List CallLine)
-        → run.plan ≡ checked.now.plan.now
-        → run.contexts ≡ checked.now.contexts.now → run.journals ≡ checked.now.journals.now
-        → AreRepliesOf run checked.now.runs.now
-        → PointsIn checked.now lane number (call.now ∷ more) cursors.old
-        → Holds replies.old replies.new (item_lines run lane number call.now) result }
+    requires within { MayHave walk.now.checked call.now }
+    requires run { IsRun walk.now.checked }
+    requires cursors { length cursors.old ≡ length walk.now.checked.journals.now }
+    requires served { call_refusal walk.now.checked.contexts.now call.now ≡ None }
+    ensures lines { (number : ℕ) (more : List CallLine)
+        → PointsTo walk.now number (call.now ∷ more) cursors.old
+        → Holds replies.old replies.new
+        (item_lines (run_in walk.now.checked) walk.now.lane number call.now) result }
     ensures points { OnOk result ((number : ℕ) (more : List CallLine)
-        → PointsIn checked.now lane number (call.now ∷ more) cursors.old
-        → PointsIn checked.now lane (number + 1) more cursors.new) }
+        → PointsTo walk.now number (call.now ∷ more) cursors.old
+        → PointsTo walk.now (number + 1) more cursors.new) }
 {
-    match asked_of(checked.contexts, call) {
-        Some((context, count)) => take_items(replies, checked, cursors, context, lane, count),
+    match asked_of(walk.checked.contexts, call) {
+        Some((context, count)) => take_items(replies, walk, cursors, context, count),
         None => {
             let CallLine::Export {
                 context,
@@ -152,102 +184,114 @@ fn take_served(
             else {
                 unreachable!()
             };
-            take_export(replies, alloc, checked, context, exporter, size)
+            take_export(replies, alloc, &walk.checked, context, exporter, size)
         }
     }
 }
 
-/// Holds the next replies against those to a call, and passes its places.
-pub(crate) fn take_call(
+// Holds the next replies against those to a call, and passes its places. Where a table says that the
+// call's name was live, `live` says so.
+fn take_call(
     replies: &mut Replies,
     alloc: Global,
-    checked: &CheckedRun,
+    walk: &Walk,
     cursors: &mut [usize],
-    lane: u32,
     call: &CallLine,
+    live: bool,
 ) -> Result<(), Stop>
-    requires within { MayHave checked.now call.now }
-    requires run { IsRun checked.now }
-    requires cursors { length cursors.old ≡ length checked.now.journals.now }
-    ensures lines { (run : Run) (number : ℕ) (more : List CallLine)
-        → run.plan ≡ checked.now.plan.now
-        → run.contexts ≡ checked.now.contexts.now → run.journals ≡ checked.now.journals.now
-        → AreRepliesOf run checked.now.runs.now
-        → PointsIn checked.now lane number (call.now ∷ more) cursors.old
-        → Holds replies.old replies.new (reply_lines run lane number call.now) result }
+    requires within { MayHave walk.now.checked call.now }
+    requires run { IsRun walk.now.checked }
+    requires cursors { length cursors.old ≡ length walk.now.checked.journals.now }
+    ensures lines { (number : ℕ) (more : List CallLine)
+        → PointsTo walk.now number (call.now ∷ more) cursors.old
+        → Holds replies.old replies.new (due_by walk.now.checked.table
+        (run_in walk.now.checked) live walk.now.lane number call.now) result }
     ensures points { OnOk result ((number : ℕ) (more : List CallLine)
-        → PointsIn checked.now lane number (call.now ∷ more) cursors.old
-        → PointsIn checked.now lane (number + 1) more cursors.new) }
+        → PointsTo walk.now number (call.now ∷ more) cursors.old
+        → PointsTo walk.now (number + 1) more cursors.new) }
 {
-    match refusal_of(checked.contexts, call) {
-        Some(refusal) => take_reply(replies, alloc, Reply::Refused(refusal)),
-        None => take_served(replies, alloc, checked, cursors, lane, call),
+    if let Some(reply) = change_reply(&walk.checked, call, live) {
+        return take_reply(replies, alloc, reply);
     }
+    match refusal_of(walk.checked.contexts, call) {
+        Some(refusal) => take_reply(replies, alloc, Reply::Refused(refusal)),
+        None => take_served(replies, alloc, walk, cursors, call),
+    }
+}
+
+// Whether the name of the call of this number was live.
+fn is_live(lives: &[bool], number: usize) -> bool
+    ensures { result ≡ slice_index_or lives.now number false }
+{
+    lives.get(number).copied().unwrap_or(false)
 }
 
 // Holds the next replies against those to all calls of a lane.
 fn take_calls(
     replies: &mut Replies,
     alloc: Global,
-    checked: &CheckedRun,
+    walk: &Walk,
     cursors: &mut [usize],
-    lane: u32,
     calls: &[CallLine],
+    lives: &[bool],
 ) -> Result<(), Stop>
-    requires within { All (MayHave checked.now) calls.now }
-    requires run { IsRun checked.now }
-    requires cursors { length cursors.old ≡ length checked.now.journals.now }
-    requires points { PointsIn checked.now lane 0 calls.now cursors.old }
-    ensures { (run : Run) → run.plan ≡ checked.now.plan.now
-        → run.contexts ≡ checked.now.contexts.now
-        → run.journals ≡ checked.now.journals.now → AreRepliesOf run checked.now.runs.now
-        → Holds replies.old replies.new (lane_replies run lane calls.now) result }
+    requires within { All (MayHave walk.now.checked) calls.now }
+    requires run { IsRun walk.now.checked }
+    requires cursors { length cursors.old ≡ length walk.now.checked.journals.now }
+    requires points { PointsTo walk.now 0 calls.now cursors.old }
+    requires lives { AreLives walk.now.checked.table walk.now.lane (length calls.now) lives.now }
+    ensures { Holds replies.old replies.new (lane_due walk.now.checked.table
+        (run_in walk.now.checked) walk.now.lane calls.now) result }
 {
-    'calls: for call in calls {
-        take_call(replies, alloc, checked, cursors, lane, call)?;
+    'calls: for (number, call) in calls.iter().enumerate() {
+        let live = is_live(lives, number);
+        take_call(replies, alloc, walk, cursors, call, live)?;
     }
     Ok(())
 }
 
-// The same from the start of the journals.
-fn take_lane(
-    replies: &mut Replies,
-    alloc: Global,
-    checked: &CheckedRun,
-    lane: u32,
-    calls: &[CallLine],
-) -> Result<(), Stop>
-    requires within { All (MayHave checked.now) calls.now }
-    requires run { IsRun checked.now }
-    requires own { (c : ℕ) → c < length checked.now.journals.now
-        → own_places lane (places (marks_at checked.now.journals.now c))
-        ≡ places_from checked.now.contexts.now c lane 0 calls.now }
-    ensures { (run : Run) → run.plan ≡ checked.now.plan.now
-        → run.contexts ≡ checked.now.contexts.now
-        → run.journals ≡ checked.now.journals.now → AreRepliesOf run checked.now.runs.now
-        → Holds replies.old replies.new (lane_replies run lane calls.now) result }
+// For each of a lane's calls whether a note tells that its name was live; none without a table.
+fn lives_of(alloc: Global, walk: &Walk, count: usize) -> Result<Vec<bool>, AllocError>
+    ensures { IfOk result (λ lives.
+        AreLives walk.now.checked.table walk.now.lane count lives.items) }
 {
-    let mut cursors = vec![in alloc; 0usize; checked.journals.len()]?;
-    take_calls(replies, alloc, checked, &mut cursors, lane, calls)
+    match walk.checked.table {
+        Some(table) => live_calls(alloc, table.notes, walk.lane, count),
+        None => Ok(Vec::new(alloc)),
+    }
+}
+
+// The same from the start of the journals.
+fn take_lane(replies: &mut Replies, alloc: Global, walk: &Walk) -> Result<(), Stop>
+    requires run { IsRun walk.now.checked }
+    requires there { walk.now.lane < length walk.now.checked.plan.now.lanes }
+    ensures { Holds replies.old replies.new (lane_due walk.now.checked.table
+        (run_in walk.now.checked) walk.now.lane (calls_of walk.now)) result }
+{
+    let calls = walk.calls();
+    let mut cursors = walk.start(alloc)?;
+    let lives = lives_of(alloc, walk, calls.len())?;
+    take_calls(replies, alloc, walk, &mut cursors, calls, &lives)
 }
 
 // Holds the next replies against those of all lanes.
 fn take_lanes(replies: &mut Replies, alloc: Global, checked: &CheckedRun) -> Result<(), Stop>
     requires { IsRun checked.now }
-    ensures { (run : Run) → run.plan ≡ checked.now.plan.now
-        → run.contexts ≡ checked.now.contexts.now
-        → run.journals ≡ checked.now.journals.now → AreRepliesOf run checked.now.runs.now
-        → Holds replies.old replies.new (all_replies run) result }
+    ensures { Holds replies.old replies.new
+        (all_due checked.now.table (run_in checked.now)) result }
 {
-    'lanes: for (lane, calls) in checked.plan.lanes.as_slice().iter().enumerate() {
-        let lane = lane as u32;
-        take_lane(replies, alloc, checked, lane, calls.as_slice())?;
+    'lanes: for lane in 0..checked.plan.lanes.as_slice().len() {
+        let walk = Walk {
+            checked: *checked,
+            lane: lane as u32,
+        };
+        take_lane(replies, alloc, &walk)?;
     }
     Ok(())
 }
 
-/// The line of the next reply, if there is one: none is due.
-pub(crate) fn left_over(replies: &mut Replies) -> Option<u32>
+// The line of the next reply, if there is one: none is due.
+fn left_over(replies: &mut Replies) -> Option<u32>
     ensures { result ≡ wrong_reply_of replies.old [] }
 {
     replies.take().map(|reply| reply.number)
@@ -260,10 +304,8 @@ pub(crate) fn wrong_reply(
     checked: &CheckedRun,
 ) -> Result<Option<u32>, AllocError>
     requires { IsRun checked.now }
-    ensures { (run : Run) → run.plan ≡ checked.now.plan.now
-        → run.contexts ≡ checked.now.contexts.now
-        → run.journals ≡ checked.now.journals.now → AreRepliesOf run checked.now.runs.now
-        → IfOk result (λ wrong. wrong ≡ wrong_reply_of replies.old (all_replies run)) }
+    ensures { IfOk result (λ wrong. wrong
+        ≡ wrong_reply_of replies.old (all_due checked.now.table (run_in checked.now))) }
 {
     match take_lanes(replies, alloc, checked) {
         Ok(()) => Ok(left_over(replies)),

@@ -14,7 +14,6 @@ ghost use Rattle.journal_check.specs.Runs.{asked_at as asked_at_of, items_at, Is
 ghost use Rattle.journal_check.specs.Runs.{IsRunOf, AreRuns, AreFor};
 
 use crate::items::{Asked, answer, asked_at};
-use crate::links::LinkedJournal;
 use aes_gcm::{Checks, MayCheck};
 use batch_plans::{PlainList, Plan};
 use call_places::Mark;
@@ -27,16 +26,6 @@ use std::alloc::{AllocError, Global};
 pub(crate) struct JournalRun {
     pub(crate) lines: Vec<PlainList<u8>>,
     pub(crate) numbers: Vec<u64>,
-}
-
-/// A run that is checked: the plan, the contexts that stand, their journals, and what came of running
-/// each context along its own.
-#[derive(Clone, Copy)]
-pub(crate) struct CheckedRun<'a> {
-    pub(crate) plan: &'a Plan,
-    pub(crate) contexts: &'a [Option<Context>],
-    pub(crate) journals: &'a [LinkedJournal],
-    pub(crate) runs: &'a [JournalRun],
 }
 
 // What a place asks that is known to ask something.

@@ -9,26 +9,35 @@ ghost use Rattle.std.specs.Prelude.{ℕ, ◌≡◌, ◌≤◌, ◌<◌, ◌+◌,
 ghost use Rattle.std.specs.List.{list_all};
 ghost use Rattle.batch_plans.specs.Limits.{IsWithinLimits, most_contexts};
 ghost use Rattle.batch_plans.specs.Names.{line_count};
-ghost use Rattle.due_replies.specs.Live.{noting, looked_up_plan};
-ghost use Rattle.due_replies.specs.LiveChecks.{note_ask, note_mark, call_mark, tells_act};
+ghost use Rattle.due_replies.specs.Live.{noting};
+ghost use Rattle.due_replies.specs.LiveChecks.{note_ask, note_mark, call_mark};
 ghost use Rattle.due_replies.specs.LiveChecks.{is_live_history as is_live_history_of};
 ghost use Rattle.due_replies.specs.Standing.{standing_at};
 ghost use Rattle.result_lines.specs.Journals.{is_journal as is_journal_of};
 ghost use Rattle.result_lines.specs.LiveVerdicts.{is_table as is_table_of};
 ghost use Rattle.journal_check.specs.Asks.{size_of as size_of_ask, AreFew, batch_from};
-ghost use Rattle.journal_check.specs.Tables.{written, is_standing, is_noting, pairs_by, all_pairs_by};
+ghost use Rattle.journal_check.specs.Tables.{is_standing, is_noting, pairs_by, all_pairs_by};
 ghost use Rattle.journal_check.specs.Tables.{lane_lengths, is_low, is_low_note, are_low, with_marks};
-ghost use Rattle.journal_check.specs.Tables.{live_along};
+ghost use Rattle.journal_check.specs.Served.{IsServedBy, table_along};
 
 use crate::asks::{Asked, size_of};
 use crate::dealing::{places_asked, places_told};
 use crate::histories::is_history_by;
 use crate::journals::is_journal;
 use crate::lives::tell_lives;
-use batch_plans::{CallLine, FIRST_NAME, PlainList, Plan};
+use batch_plans::{CallLine, ContextReply, FIRST_NAME, PlainList, Plan};
 use call_places::{Entry, Mark, Place};
 use hpke_context::Context;
 use std::alloc::{AllocError, Global};
+
+/// What a result says of a plan whose lanes add and retire contexts, and what the plan had before it
+/// was read: the calls of its lanes as they were written, the replies to its contexts, and the notes.
+#[derive(Clone, Copy)]
+pub(crate) struct Table<'a> {
+    pub(crate) calls: &'a [PlainList<CallLine>],
+    pub(crate) adds: &'a [ContextReply],
+    pub(crate) notes: &'a [Entry],
+}
 
 // No lane has so many calls.
 const MOST_CALLS: u32 = 65_536;
@@ -273,26 +282,23 @@ pub(crate) fn is_table(
     alloc: Global,
     plan: &Plan,
     contexts: &[Option<Context>],
-    calls: &[PlainList<CallLine>],
+    table: &Table,
     journals: &[PlainList<Mark>],
-    notes: &[Entry],
 ) -> Result<bool, AllocError>
     requires within { IsWithinLimits plan.now }
     requires few { length journals.now < 2 ^ 32 }
-    requires served { plan.now.lanes
-        ≡ (looked_up_plan (written plan.now calls.now) notes.now).lanes }
-    requires acts { list_all (tells_act (written plan.now calls.now) contexts.now) notes.now ≡ true }
+    requires served { IsServedBy plan.now contexts.now table.now }
     ensures { IfOk result (λ good. good
-        ≡ is_table_of (live_along plan.now contexts.now calls.now journals.now notes.now)) }
+        ≡ is_table_of (table_along plan.now contexts.now table.now journals.now)) }
 {
-    let Some(marks) = note_marks(alloc, notes)? else {
+    let Some(marks) = note_marks(alloc, table.notes)? else {
         return Ok(false);
     };
-    let asks = asks_with_table(alloc, plan, contexts, calls, journals.len() as u32)?;
+    let asks = asks_with_table(alloc, plan, contexts, table.calls, journals.len() as u32)?;
     if !is_one_journal(alloc, &asks, journals.len(), marks)? {
         return Ok(false);
     }
-    tell_lives(alloc, notes)
+    tell_lives(alloc, table.notes)
 }
 
 /// Whether the stamps make one history of all journals and a legal table, over the plan whose calls are
@@ -301,22 +307,20 @@ pub(crate) fn is_live_history(
     alloc: Global,
     plan: &Plan,
     contexts: &[Option<Context>],
-    calls: &[PlainList<CallLine>],
+    table: &Table,
     journals: &[PlainList<Mark>],
-    notes: &[Entry],
 ) -> Result<bool, AllocError>
     requires within { IsWithinLimits plan.now }
     requires few { length journals.now + 1 < 2 ^ 32 }
-    requires served { plan.now.lanes
-        ≡ (looked_up_plan (written plan.now calls.now) notes.now).lanes }
-    requires table { is_table_of
-        (live_along plan.now contexts.now calls.now journals.now notes.now) ≡ true }
+    requires served { IsServedBy plan.now contexts.now table.now }
+    requires table { is_table_of (table_along plan.now contexts.now table.now journals.now)
+        ≡ true }
     ensures { IfOk result (λ good. good
-        ≡ is_live_history_of (live_along plan.now contexts.now calls.now journals.now notes.now)) }
+        ≡ is_live_history_of (table_along plan.now contexts.now table.now journals.now)) }
 {
-    let Some(marks) = table_marks(alloc, journals, notes)? else {
+    let Some(marks) = table_marks(alloc, journals, table.notes)? else {
         return Ok(false);
     };
-    let asks = asks_with_table(alloc, plan, contexts, calls, journals.len() as u32)?;
+    let asks = asks_with_table(alloc, plan, contexts, table.calls, journals.len() as u32)?;
     is_history_by(alloc, &asks, &marks)
 }

@@ -2,7 +2,6 @@ use Rattle.std.proofs.Common.{◌≡◌, ◌↔◌, length, List, Option, sym, a
 use Rattle.std.proofs.lemmas.Result.{IfOk-weaker}
 use Rattle.hpke_context.specs.Contexts.{ContextView}
 use Rattle.context_table.specs.ReplyTo.{IsReply}
-use Rattle.result_lines.specs.declared.verdicts.Verdict.{Verdict}
 use Rattle.result_lines.specs.declared.verdicts.Verdict.TheVariants.{Legal, Form}
 use Rattle.result_lines.specs.Verdicts.{by_form, verdict_on}
 use Rattle.journal_check.specs.Verdicts.{IsVerdict}
@@ -10,37 +9,28 @@ use Rattle.journal_check.proofs.LegalVerdicts.{legal_iff_reply}
 use Rattle.journal_check.proofs.ToldSizes.{read_as, read_wrong, has_of}
 use Rattle.journal_check.proofs.checking.check_result_by.Goals as goal
 
-pub verdict_on-requires-clause-few : goal.verdict_on-requires-clause-few
-verdict_on-requires-clause-few g c =
+pub verdict_on-requires : goal.verdict_on-requires
+verdict_on-requires g c =
     let setup = c.in_ok-setup.setup in
     let is = read_as c.args.plan.now setup.keys c.as_slice-keys.result.now setup.contexts c.as_slice-replies.result.now setup.standing c.deref.result.now c.args.text.now c.in-Ok.told
     c.as_slice-keys.ensures.items c.as_slice-replies.ensures.items (c.deref.ensures.value ∙ c.into_vec-contexts.ensures.items) c.in-Ok.ensures in
     let has = has_of c.args.plan.now setup.keys setup.contexts setup.standing c.args.text.now c.in-Ok.told is in
-    omega (arith, has.1, c.requires.within.contexts)
+    record {
+      within = c.requires.within;
+      few = omega (arith, has.1, c.requires.within.contexts);
+      lanes_size = has.0;
+      contexts_size = ap length (c.deref_mut.ensures.value ∙ c.into_vec-contexts.ensures.items) ∙ c.in_ok-setup.ensures.set_up.standing_count ∙ sym has.1;
+      served = tt;
+    }
 
-pub verdict_on-requires-clause-lanes_size : goal.verdict_on-requires-clause-lanes_size
-verdict_on-requires-clause-lanes_size g c =
-    let setup = c.in_ok-setup.setup in
-    let is = read_as c.args.plan.now setup.keys c.as_slice-keys.result.now setup.contexts c.as_slice-replies.result.now setup.standing c.deref.result.now c.args.text.now c.in-Ok.told
-    c.as_slice-keys.ensures.items c.as_slice-replies.ensures.items (c.deref.ensures.value ∙ c.into_vec-contexts.ensures.items) c.in-Ok.ensures in
-    (has_of c.args.plan.now setup.keys setup.contexts setup.standing c.args.text.now c.in-Ok.told is).0
-
-pub verdict_on-requires-clause-contexts_size : goal.verdict_on-requires-clause-contexts_size
-verdict_on-requires-clause-contexts_size g c =
-    let setup = c.in_ok-setup.setup in
-    let is = read_as c.args.plan.now setup.keys c.as_slice-keys.result.now setup.contexts c.as_slice-replies.result.now setup.standing c.deref.result.now c.args.text.now c.in-Ok.told
-    c.as_slice-keys.ensures.items c.as_slice-replies.ensures.items (c.deref.ensures.value ∙ c.into_vec-contexts.ensures.items) c.in-Ok.ensures in
-    let has = has_of c.args.plan.now setup.keys setup.contexts setup.standing c.args.text.now c.in-Ok.told is in
-    ap length (c.deref_mut.ensures.value ∙ c.into_vec-contexts.ensures.items) ∙ c.in_ok-setup.ensures.set_up.standing_count ∙ sym has.1
-
-pub returns-in-Ok-clause-verdict : goal.returns-in-Ok-clause-verdict
-returns-in-Ok-clause-verdict g c =
+pub returns-in-Ok : goal.returns-in-Ok
+returns-in-Ok g c =
     let plan = c.args.plan.now in
     let text = c.args.text.now in
     let setup = c.in_ok-setup.setup in
     let is = read_as plan setup.keys c.as_slice-keys.result.now setup.contexts c.as_slice-replies.result.now setup.standing c.deref.result.now text c.in-Ok.told
     c.as_slice-keys.ensures.items c.as_slice-replies.ensures.items (c.deref.ensures.value ∙ c.into_vec-contexts.ensures.items) c.in-Ok.ensures in
-    IfOk-weaker c.verdict_on.result _ (IsVerdict plan text)
+    let judged = IfOk-weaker c.verdict_on.result _ (IsVerdict plan text)
     (λ verdict judged. record {
       keys = setup.keys;
       contexts = setup.contexts;
@@ -50,26 +40,11 @@ returns-in-Ok-clause-verdict g c =
           ∙ ap (λ (cs : List (Option ContextView)). verdict_on plan cs c.in-Ok.told) (c.deref_mut.ensures.value ∙ c.into_vec-contexts.ensures.items)
           ∙ ap (by_form plan setup.standing) (sym is);
     })
-    c.verdict_on.ensures
-
-pub returns-in-Ok-clause-legal : goal.returns-in-Ok-clause-legal
-returns-in-Ok-clause-legal g c =
-    let plan = c.args.plan.now in
-    let text = c.args.text.now in
-    let setup = c.in_ok-setup.setup in
-    let is = read_as plan setup.keys c.as_slice-keys.result.now setup.contexts c.as_slice-replies.result.now setup.standing c.deref.result.now text c.in-Ok.told
-    c.as_slice-keys.ensures.items c.as_slice-replies.ensures.items (c.deref.ensures.value ∙ c.into_vec-contexts.ensures.items) c.in-Ok.ensures in
-    IfOk-weaker c.verdict_on.result _ (λ (verdict : Verdict). (verdict ≡ Legal) ↔ IsReply plan text)
-    (λ verdict judged. legal_iff_reply plan text verdict c.requires.within (record {
-      keys = setup.keys;
-      contexts = setup.contexts;
-      standing = setup.standing;
-      set_up = c.in_ok-setup.ensures.set_up;
-      is = judged
-          ∙ ap (λ (cs : List (Option ContextView)). verdict_on plan cs c.in-Ok.told) (c.deref_mut.ensures.value ∙ c.into_vec-contexts.ensures.items)
-          ∙ ap (by_form plan setup.standing) (sym is);
-    }))
-    c.verdict_on.ensures
+    c.verdict_on.ensures in
+    record {
+      verdict = judged;
+      legal = IfOk-weaker c.verdict_on.result (IsVerdict plan text) _ (λ verdict v. legal_iff_reply plan text verdict c.requires.within v) judged;
+    }
 
 pub returns-in-Err-Wrong-clause-legal : goal.returns-in-Err-Wrong-clause-legal
 returns-in-Err-Wrong-clause-legal g c =

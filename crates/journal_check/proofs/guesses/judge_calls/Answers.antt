@@ -3,6 +3,7 @@ use Rattle.due_replies.specs.Asks.{ask_of}
 use Rattle.result_lines.specs.declared.told.GuessLine.{GuessLine}
 use Rattle.result_lines.specs.Guesses.{wrong_guess}
 use Rattle.journal_check.specs.Passing.{is_right_by}
+use Rattle.journal_check.specs.Walks.{run_in}
 use Rattle.journal_check.proofs.Walks.{drop_next}
 use Rattle.journal_check.proofs.ServedCalls.{points_at}
 use Rattle.journal_check.proofs.GuessSteps.{no_guess, go_past, at_opening}
@@ -10,54 +11,55 @@ use Rattle.journal_check.proofs.guesses.judge_calls.Goals.{then-is_opening+else-
 use Rattle.journal_check.proofs.guesses.judge_calls.Goals as goal
 
 pub returns-then-not-is_right : goal.returns-then-not-is_right
-returns-then-not-is_right c = λ run contexts_are journals_are are legal lines.
+returns-then-not-is_right c =
+    let walk = c.args.walk.now in
+    let run = run_in walk.checked in
     let i = c.calls.call-index in
     let calls = c.args.calls.now in
     let guesses = c.args.guesses.now in
     let next = c.calls.next in
-    let contexts = c.args.checked.now.contexts.now in
+    let contexts = walk.checked.contexts.now in
     let lt = c.calls-test.true in
     let at = drop_next calls i _ lt in
-    let points = points_at contexts c.args.checked.now.journals.now c.args.lane i _ _ c.calls.cursors at c.calls.invariant.points in
+    let points = points_at contexts walk.checked.journals.now walk.lane i _ _ c.calls.cursors at c.calls.invariant.points in
     let told : GuessLine = get_or guesses next no_guess in
-    let later = wrong_guess run c.args.lane (i + 1) (map (ask_of run.plan contexts) (drop (i + 1) calls)) (drop (next + 1) guesses) in
-    sym (at_opening run c.args.lane i contexts calls _ at guesses next _ (c.calls.invariant.held run contexts_are journals_are are legal lines)
-    (sym c.is_opening.ensures ∙ c.if-is_opening.true) (lines i _ lt) told (drop_next guesses next no_guess c.if-next-guesses.false) c.is_right.result
+    let later = wrong_guess run walk.lane (i + 1) (map (ask_of run.plan contexts) (drop (i + 1) calls)) (drop (next + 1) guesses) in
+    sym (at_opening run walk.lane i contexts calls _ at guesses next _ c.calls.invariant.held
+    (sym c.is_opening.ensures ∙ c.if-is_opening.true) (c.requires.within i _ lt) told (drop_next guesses next no_guess c.if-next-guesses.false) c.is_right.result
     (λ context first count names free some.
     c.is_right.ensures
     ∙ ap (is_right_by told.guess c.in_ok-passed.passed.least) c.deref.ensures.value
-    ∙ c.in_ok-passed.ensures.right run i (drop (i + 1) calls) told.guess context first count names free some contexts_are journals_are are legal points c.calls.invariant.reach)
+    ∙ c.in_ok-passed.ensures.right i (drop (i + 1) calls) told.guess context first count names free some points c.calls.invariant.reach)
     ∙ ap (λ (b : Bool). cond b later (Some told.number)) c.if-not-is_right.true)
 
 pub calls-preserved : goal.calls-preserved
 calls-preserved c =
+    let walk = c.args.walk.now in
+    let run = run_in walk.checked in
     let i = c.calls.call-index in
     let calls = c.args.calls.now in
     let guesses = c.args.guesses.now in
     let next = c.calls.next in
-    let contexts = c.args.checked.now.contexts.now in
+    let contexts = walk.checked.contexts.now in
     let lt = c.calls-test.true in
     let at = drop_next calls i _ lt in
-    let points = points_at contexts c.args.checked.now.journals.now c.args.lane i _ _ c.calls.cursors at c.calls.invariant.points in
+    let points = points_at contexts walk.checked.journals.now walk.lane i _ _ c.calls.cursors at c.calls.invariant.points in
+    let later = λ (k : ℕ). wrong_guess run walk.lane (i + 1) (map (ask_of run.plan contexts) (drop (i + 1) calls)) (drop k guesses) in
     record {
-      held = λ run contexts_are journals_are are legal lines.
-          let later = λ (k : ℕ). wrong_guess run c.args.lane (i + 1) (map (ask_of run.plan contexts) (drop (i + 1) calls)) (drop k guesses) in
-          let so_far = c.calls.invariant.held run contexts_are journals_are are legal lines in
-          elim c.if-is_opening.branch [
-            | then-is_opening+else-next-guesses+else-not-is_right w ↦
-                let told : GuessLine = get_or guesses next no_guess in
-                at_opening run c.args.lane i contexts calls _ at guesses next _ so_far
-                (sym c.is_opening.ensures ∙ w.if-is_opening.true) (lines i _ lt) told (drop_next guesses next no_guess w.if-next-guesses.false) w.is_right.result
-                (λ context first count names free some.
-                w.is_right.ensures
-                ∙ ap (is_right_by told.guess c.in_ok-passed.passed.least) w.deref.ensures.value
-                ∙ c.in_ok-passed.ensures.right run i (drop (i + 1) calls) told.guess context first count names free some contexts_are journals_are are legal points
-                c.calls.invariant.reach)
-                ∙ ap (λ (b : Bool). cond b (later (next + 1)) (Some told.number)) w.if-not-is_right.false
-                ∙ ap later (sym w.next-is)
-            | else-is_opening w ↦
-                go_past run c.args.lane i contexts calls _ at guesses next _ so_far (sym c.is_opening.ensures ∙ w.if-is_opening.false) ∙ ap later (sym w.next-is)
-          ];
+      held = elim c.if-is_opening.branch [
+        | then-is_opening+else-next-guesses+else-not-is_right w ↦
+            let told : GuessLine = get_or guesses next no_guess in
+            at_opening run walk.lane i contexts calls _ at guesses next _ c.calls.invariant.held
+            (sym c.is_opening.ensures ∙ w.if-is_opening.true) (c.requires.within i _ lt) told (drop_next guesses next no_guess w.if-next-guesses.false) w.is_right.result
+            (λ context first count names free some.
+            w.is_right.ensures
+            ∙ ap (is_right_by told.guess c.in_ok-passed.passed.least) w.deref.ensures.value
+            ∙ c.in_ok-passed.ensures.right i (drop (i + 1) calls) told.guess context first count names free some points c.calls.invariant.reach)
+            ∙ ap (λ (b : Bool). cond b (later (next + 1)) (Some told.number)) w.if-not-is_right.false
+            ∙ ap later (sym w.next-is)
+        | else-is_opening w ↦
+            go_past run walk.lane i contexts calls _ at guesses next _ c.calls.invariant.held (sym c.is_opening.ensures ∙ w.if-is_opening.false) ∙ ap later (sym w.next-is)
+      ];
       points = c.in_ok-passed.ensures.points i (drop (i + 1) calls) points;
       reach = c.in_ok-passed.ensures.reach c.calls.invariant.reach;
       cursors = omega (arith, c.requires.cursors, c.calls.auto, c.pass_call.auto);

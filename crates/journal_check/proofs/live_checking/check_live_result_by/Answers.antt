@@ -10,7 +10,6 @@ use Rattle.result_lines.specs.Places.{Tells}
 use Rattle.result_lines.specs.Tables.{table_told}
 use Rattle.result_lines.specs.Told.{ToldView}
 use Rattle.result_lines.specs.ToldLive.{told_live_by}
-use Rattle.result_lines.specs.declared.verdicts.Verdict.{Verdict}
 use Rattle.result_lines.specs.declared.verdicts.Verdict.TheVariants.{Legal, Form}
 use Rattle.result_lines.specs.LiveVerdicts.{live_told, live_verdict_on}
 use Rattle.journal_check.specs.Verdicts.{IsLiveVerdict}
@@ -21,41 +20,22 @@ use Rattle.journal_check.proofs.live_checking.check_live_result_by.Goals as goal
 
 pub verdict_as_served-requires-clause-lanes_size : goal.verdict_as_served-requires-clause-lanes_size
 verdict_as_served-requires-clause-lanes_size g c =
-    let plan = c.args.plan in
-    let text = c.args.text.now in
-    let setup = c.in_ok-setup.setup in
-    let notes = c.as_slice-notes.ensures.items ∙ c.in_ok-table.ensures
-    ∙ ap (λ (cs : List (Option ContextView)). table_told plan cs text) (c.deref.ensures.value ∙ c.into_vec-contexts.ensures.items) in
-    let read_by = c.deref-2.ensures.value ∙ c.into_vec-contexts.ensures.items in
-    let tells : told_live_by plan c.as_slice-keys.result.now c.as_slice-adds.result.now c.deref-2.result.now c.as_slice-notes.result.now text ≡ Ok c.in-Ok.told = c.in-Ok.ensures in
-    let judged_by = c.deref_mut.ensures.value ∙ c.into_vec-contexts.ensures.items in
-    (live_has_of plan c.as_slice-keys.result.now c.as_slice-adds.result.now c.deref-2.result.now c.as_slice-notes.result.now text c.in-Ok.told c.requires.within tells).0
+    (live_has_of c.args.plan c.as_slice-keys.result.now c.as_slice-adds.result.now c.deref-2.result.now c.as_slice-notes.result.now c.args.text.now c.in-Ok.told c.requires.within c.in-Ok.ensures).0
 
 pub verdict_as_served-requires-clause-journals_size : goal.verdict_as_served-requires-clause-journals_size
 verdict_as_served-requires-clause-journals_size g c =
-    let plan = c.args.plan in
-    let text = c.args.text.now in
-    let setup = c.in_ok-setup.setup in
-    let notes = c.as_slice-notes.ensures.items ∙ c.in_ok-table.ensures
-    ∙ ap (λ (cs : List (Option ContextView)). table_told plan cs text) (c.deref.ensures.value ∙ c.into_vec-contexts.ensures.items) in
-    let read_by = c.deref-2.ensures.value ∙ c.into_vec-contexts.ensures.items in
-    let tells : told_live_by plan c.as_slice-keys.result.now c.as_slice-adds.result.now c.deref-2.result.now c.as_slice-notes.result.now text ≡ Ok c.in-Ok.told = c.in-Ok.ensures in
-    let judged_by = c.deref_mut.ensures.value ∙ c.into_vec-contexts.ensures.items in
-    (live_has_of plan c.as_slice-keys.result.now c.as_slice-adds.result.now c.deref-2.result.now c.as_slice-notes.result.now text c.in-Ok.told c.requires.within tells).1
+    (live_has_of c.args.plan c.as_slice-keys.result.now c.as_slice-adds.result.now c.deref-2.result.now c.as_slice-notes.result.now c.args.text.now c.in-Ok.told c.requires.within c.in-Ok.ensures).1
 
 pub verdict_as_served-requires-clause-acts : goal.verdict_as_served-requires-clause-acts
 verdict_as_served-requires-clause-acts g c =
-    let plan = c.args.plan in
     let text = c.args.text.now in
-    let setup = c.in_ok-setup.setup in
     let notes = c.as_slice-notes.ensures.items ∙ c.in_ok-table.ensures
-    ∙ ap (λ (cs : List (Option ContextView)). table_told plan cs text) (c.deref.ensures.value ∙ c.into_vec-contexts.ensures.items) in
-    let read_by = c.deref-2.ensures.value ∙ c.into_vec-contexts.ensures.items in
+    ∙ ap (λ (cs : List (Option ContextView)). table_told c.args.plan cs text) (c.deref.ensures.value ∙ c.into_vec-contexts.ensures.items) in
     let judged_by = c.deref_mut.ensures.value ∙ c.into_vec-contexts.ensures.items in
-    (λ i. list_all (tells_act plan (judged_by i)) (notes i)) ∙ table_acts plan setup.standing text
+    (λ i. list_all (tells_act c.args.plan (judged_by i)) (notes i)) ∙ table_acts c.args.plan c.in_ok-setup.setup.standing text
 
-pub returns-in-Ok-clause-verdict : goal.returns-in-Ok-clause-verdict
-returns-in-Ok-clause-verdict g c =
+pub returns-in-Ok : goal.returns-in-Ok
+returns-in-Ok g c =
     let plan = c.args.plan in
     let text = c.args.text.now in
     let setup = c.in_ok-setup.setup in
@@ -64,28 +44,15 @@ returns-in-Ok-clause-verdict g c =
     let read_by = c.deref-2.ensures.value ∙ c.into_vec-contexts.ensures.items in
     let tells : told_live_by plan c.as_slice-keys.result.now c.as_slice-adds.result.now c.deref-2.result.now c.as_slice-notes.result.now text ≡ Ok c.in-Ok.told = c.in-Ok.ensures in
     let judged_by = c.deref_mut.ensures.value ∙ c.into_vec-contexts.ensures.items in
-    IfOk-weaker c.verdict_as_served.result _ (IsLiveVerdict plan text)
+    let judged = IfOk-weaker c.verdict_as_served.result _ (IsLiveVerdict plan text)
     (λ verdict judged. told_verdict plan text setup.keys c.as_slice-keys.result.now setup.contexts c.as_slice-adds.result.now setup.standing c.deref-2.result.now c.as_slice-notes.result.now
     c.in_ok-setup.ensures.set_up c.as_slice-keys.ensures.items c.as_slice-adds.ensures.items read_by notes c.in-Ok.told verdict tells
     (judged ∙ ap (λ (cs : List (Option ContextView)). live_verdict_on (live_told plan c.as_slice-adds.result.now cs c.as_slice-notes.result.now c.in-Ok.told) c.in-Ok.told) (judged_by ∙ sym read_by)))
-    c.verdict_as_served.ensures
-
-pub returns-in-Ok-clause-legal : goal.returns-in-Ok-clause-legal
-returns-in-Ok-clause-legal g c =
-    let plan = c.args.plan in
-    let text = c.args.text.now in
-    let setup = c.in_ok-setup.setup in
-    let notes = c.as_slice-notes.ensures.items ∙ c.in_ok-table.ensures
-    ∙ ap (λ (cs : List (Option ContextView)). table_told plan cs text) (c.deref.ensures.value ∙ c.into_vec-contexts.ensures.items) in
-    let read_by = c.deref-2.ensures.value ∙ c.into_vec-contexts.ensures.items in
-    let tells : told_live_by plan c.as_slice-keys.result.now c.as_slice-adds.result.now c.deref-2.result.now c.as_slice-notes.result.now text ≡ Ok c.in-Ok.told = c.in-Ok.ensures in
-    let judged_by = c.deref_mut.ensures.value ∙ c.into_vec-contexts.ensures.items in
-    IfOk-weaker c.verdict_as_served.result _ (λ (verdict : Verdict). (verdict ≡ Legal) ↔ IsLiveReply plan text)
-    (λ verdict judged. legal_iff_live_reply plan text verdict c.requires.within (
-    told_verdict plan text setup.keys c.as_slice-keys.result.now setup.contexts c.as_slice-adds.result.now setup.standing c.deref-2.result.now c.as_slice-notes.result.now
-    c.in_ok-setup.ensures.set_up c.as_slice-keys.ensures.items c.as_slice-adds.ensures.items read_by notes c.in-Ok.told verdict tells
-    (judged ∙ ap (λ (cs : List (Option ContextView)). live_verdict_on (live_told plan c.as_slice-adds.result.now cs c.as_slice-notes.result.now c.in-Ok.told) c.in-Ok.told) (judged_by ∙ sym read_by))))
-    c.verdict_as_served.ensures
+    c.verdict_as_served.ensures in
+    record {
+      verdict = judged;
+      legal = IfOk-weaker c.verdict_as_served.result (IsLiveVerdict plan text) _ (λ verdict v. legal_iff_live_reply plan text verdict c.requires.within v) judged;
+    }
 
 pub returns-in-Err-Wrong-clause-legal : goal.returns-in-Err-Wrong-clause-legal
 returns-in-Err-Wrong-clause-legal g c =

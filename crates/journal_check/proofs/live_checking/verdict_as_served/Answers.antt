@@ -6,23 +6,23 @@ use Rattle.result_lines.specs.LiveVerdicts.{live_told, live_verdict_on}
 use Rattle.result_lines.proofs.LookedLimits.{looked_within, looked_lanes}
 use Rattle.journal_check.proofs.live_checking.verdict_as_served.Goals as goal
 
-pub live_verdict_on-verdict-requires-clause-within : goal.live_verdict_on-verdict-requires-clause-within
-live_verdict_on-verdict-requires-clause-within c =
+pub verdict_on-verdict-requires-clause-within : goal.verdict_on-verdict-requires-clause-within
+verdict_on-verdict-requires-clause-within c =
     let plan = c.args.plan in
     let notes = c.args.notes.now in
     subst (λ (lanes : List (List CallLine)). IsWithinLimits (record plan { lanes = lanes })) (sym (c.replace-calls.ensures.after ∙ c.requires.served))
     (looked_within plan notes c.requires.within)
 
-pub live_verdict_on-verdict-requires-clause-lanes_size : goal.live_verdict_on-verdict-requires-clause-lanes_size
-live_verdict_on-verdict-requires-clause-lanes_size c =
+pub verdict_on-verdict-requires-clause-lanes_size : goal.verdict_on-verdict-requires-clause-lanes_size
+verdict_on-verdict-requires-clause-lanes_size c =
     c.requires.lanes_size ∙ sym (ap length (c.replace-calls.ensures.after ∙ c.requires.served) ∙ looked_lanes c.args.plan c.args.notes.now c.requires.within)
 
 pub returns : goal.returns
 returns c =
     let plan = c.args.plan in
     let told = c.args.told.now in
-    IfOk-weaker c.live_verdict_on-verdict.result _ _
+    IfOk-weaker c.verdict_on-verdict.result _ _
     (λ verdict is. is
     ∙ ap (λ (lanes : List (List CallLine)). live_verdict_on (live_told (record plan { lanes = lanes }) c.args.adds.now c.args.contexts.now c.args.notes.now told) told)
     (c.as_slice.ensures.items ∙ c.replace-calls.ensures.value))
-    c.live_verdict_on-verdict.ensures
+    c.verdict_on-verdict.ensures

@@ -1,55 +1,49 @@
-use Rattle.std.proofs.Common.{ℕ, ◌<◌, List, length, map, sym, ap, ◌∙◌, subst, get_or-set_other}
-use Rattle.call_places.specs.declared.entries.Mark.{Mark}
-use Rattle.context_books.specs.Histories.{places}
-use Rattle.journal_check.specs.declared.runs.JournalRun.{JournalRun}
-use Rattle.journal_check.proofs.OneContext.{found_at, journal_at, own_from, own_behind}
-use Rattle.journal_check.proofs.ServedCalls.{on_ok}
+use Rattle.std.proofs.Common.{◌+◌, ◌++◌, List, map, drop, get_or, ap, ◌∙◌, arith}
+use Rattle.std.proofs.lemmas.Result.{err_from_is_err_and}
+use Rattle.std.proofs.lemmas.List.{drop_all}
+use Rattle.call_places.specs.declared.entries.Place.{Place}
+use Rattle.due_replies.specs.Runs.{place_line}
+use Rattle.result_lines.specs.Replies.{wrong_reply}
+use Rattle.journal_check.specs.Walks.{run_in}
+use Rattle.journal_check.proofs.Pulling.{holds_halt, no_place, next_place, next_line}
 use Rattle.journal_check.proofs.replies.take_items.Goals as goal
 
-pub bounds-journals-at : goal.bounds-journals-at
-bounds-journals-at c = c.requires.there
+pub returns-in_err-take_place-clause-lines : goal.returns-in_err-take_place-clause-lines
+returns-in_err-take_place-clause-lines c = λ ps more size own.
+    let i = c.places._place in
+    let f = place_line (run_in c.args.walk.now.checked) c.args.context in
+    let e = err_from_is_err_and c.from_residual.result c.from_residual.ensures.1 in
+    let p : Place = get_or ps i no_place in
+    let here = c.in_err-take_place.ensures.line p (drop (i + 1) ps ++ more)
+    (c.places.invariant.left ps more size own ∙ next_place ps more i c.args.count size c.places-test.true) in
+    rw (e.1, e.2)
+    (holds_halt c.in_err-take_place.field-0.0 c.args.replies.now c.places.replies c.take_place.new.replies c.take_place.new.replies (map f ps) (f p) (map f (drop (i + 1) ps))
+    (λ rest. c.places.invariant.held ps more rest size own
+    ∙ ap (wrong_reply c.places.replies) (next_line f ps rest i c.args.count size c.places-test.true)) here)
 
-pub bounds-runs-at : goal.bounds-runs-at
-bounds-runs-at c = subst (λ (n : ℕ). c.args.context < n) (sym c.requires.runs_size) c.requires.there
-
-pub bounds-cursors-at : goal.bounds-cursors-at
-bounds-cursors-at c = subst (λ (n : ℕ). c.args.context < n) (sym c.requires.cursors_size) c.requires.there
-
-pub take_places-requires : goal.take_places-requires
-take_places-requires c =
-    let at = c.args.context in
-    let low = subst (λ (n : ℕ). at < n) (sym c.requires.runs_size) c.requires.there in
-    let run = c.index-runs-at in
-    ap length c.deref.ensures.value
-    ∙ ap (λ (done : JournalRun). length done.lines.items) (sym run.is)
-    ∙ c.requires.long run.result (found_at c.args.checked.now.runs.now at run.result low run.is)
-    ∙ ap length (sym (journal_at c.args.checked.now.journals.now at c.index-journals-at.result c.requires.there c.index-journals-at.is))
+pub places-preserved : goal.places-preserved
+places-preserved c =
+    let i = c.places._place in
+    let f = place_line (run_in c.args.walk.now.checked) c.args.context in
+    let lt = c.places-test.true in
+    record {
+      left = λ ps more size own.
+          c.in_ok-take_place.ensures.left (get_or ps i no_place) (drop (i + 1) ps ++ more)
+          (c.places.invariant.left ps more size own ∙ next_place ps more i c.args.count size lt);
+      held = λ ps more rest size own.
+          let p : Place = get_or ps i no_place in
+          let here = c.in_ok-take_place.ensures.line p (drop (i + 1) ps ++ more)
+          (c.places.invariant.left ps more size own ∙ next_place ps more i c.args.count size lt) in
+          c.places.invariant.held ps more rest size own
+          ∙ ap (wrong_reply c.places.replies) (next_line f ps rest i c.args.count size lt)
+          ∙ here (map f (drop (i + 1) ps) ++ rest);
+      others = λ d other. c.in_ok-take_place.ensures.others d other ∙ c.places.invariant.others d other;
+      cursors = omega (arith, c.requires.cursors, c.places.auto, c.take_place.auto);
+    }
 
 pub returns-clause-lines : goal.returns-clause-lines
-returns-clause-lines c = λ f ps more are size own.
-    let at = c.args.context in
-    let low = subst (λ (n : ℕ). at < n) (sym c.requires.runs_size) c.requires.there in
-    let run = c.index-runs-at in
-    let journal = c.index-journals-at.result in
-    let here = journal_at c.args.checked.now.journals.now at journal c.requires.there c.index-journals-at.is in
-    c.take_places.ensures.lines f ps more
-    (c.deref.ensures.value
-    ∙ ap (λ (done : JournalRun). done.lines.items) (sym run.is)
-    ∙ are run.result (found_at c.args.checked.now.runs.now at run.result low run.is)
-    ∙ ap (λ (marks : List Mark). map f (places marks)) (sym here))
-    size (own_from c.args.checked.now.journals.now c.args.cursors.now at c.args.lane journal here _ own)
-
-pub returns-clause-cursor : goal.returns-clause-cursor
-returns-clause-cursor c =
-    let at = c.args.context in
-    let low = subst (λ (n : ℕ). at < n) (sym c.requires.cursors_size) c.requires.there in
-    let journal = c.index-journals-at.result in
-    let here = journal_at c.args.checked.now.journals.now at journal c.requires.there c.index-journals-at.is in
-    on_ok c.take_places.result
-    (λ passed ps more size own.
-    own_behind c.args.checked.now.journals.now c.args.cursors.now at c.args.lane journal here c.take_places.new.cursor low more
-    (passed ps more size (own_from c.args.checked.now.journals.now c.args.cursors.now at c.args.lane journal here _ own)))
-    c.take_places.ensures.cursor
-
-pub returns-clause-others : goal.returns-clause-others
-returns-clause-others c = λ d other. get_or-set_other c.args.cursors.now c.args.context d c.take_places.new.cursor 0 other
+returns-clause-lines c = λ ps more size own rest.
+    let f = place_line (run_in c.args.walk.now.checked) c.args.context in
+    let end = c.places-test.false in
+    c.places.invariant.held ps more rest size own
+    ∙ ap (λ (qs : List Place). wrong_reply c.places.replies (map f qs ++ rest)) (drop_all c.places._place ps (omega arith))
