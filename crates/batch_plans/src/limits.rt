@@ -1,5 +1,7 @@
 //! How large a batch may be. Sizes are in bytes.
 
+pub use hkdf_labelled::TAG_SIZE;
+
 /// The whole input.
 pub const MOST_INPUT: usize = 67_108_864;
 
@@ -29,6 +31,3 @@ pub const MOST_PLAINTEXT: usize = 1_048_576;
 
 /// CT: a plaintext and its tag.
 pub const MOST_CIPHERTEXT: usize = 1_048_592;
-
-/// Nt of both AES-GCM suites (RFC 9180, 7.3): what a ciphertext has more than its plaintext.
-pub const TAG_SIZE: usize = 16;

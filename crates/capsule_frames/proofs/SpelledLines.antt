@@ -1,10 +1,12 @@
 -- The pieces of a capsule line are those of what it spells.
-use Rattle.std.proofs.Common.{◌≡◌, ◌≢◌, ℕ, ◌≤◌, ◌==◌, cond, Bool, true, false, List, [], ◌∷◌, length, codes, decimal, Option, Ok, refl, sym, ap, subst, ◌∙◌, lit<, arith}
+use Rattle.std.proofs.Common.{◌≡◌, ◌≢◌, ℕ, ◌≤◌, ◌==◌, cond, Bool, true, false, List, [], ◌∷◌, length, codes, decimal, Option, None, Some, ok_or, Ok, absurd, ⊥, refl, sym, ap, subst, ◌∙◌, lit<, arith}
 use Rattle.std.specs.Prelude.{IsSome}
 use Rattle.std.proofs.lemmas.Bool.Decides.{nat_tests}
-use Rattle.hkdf_labelled.specs.Suites.{aead_id}
+use Rattle.hkdf_labelled.specs.Suites.{aead_id, aead_named}
+use Rattle.hkdf_labelled.proofs.Numbers.{named_back}
 use Rattle.hkdf_labelled.specs.declared.suites.Aead.{Aead}
 use Rattle.hkdf_labelled.specs.declared.suites.Aead.TheVariants.{Aes128, Aes256, ExportOnly}
+use Rattle.field_text.specs.declared.reasons.Reason.TheVariants.{Range}
 use Rattle.field_text.specs.Fields.{number, bytes}
 use Rattle.field_text.proofs.Spellings.{ok_same, step_ok, word_ok, next_ok, exactly_ok, number_ok, bytes_ok, IsFront, IsFront-then}
 use Rattle.field_text.proofs.SpelledLines.{no_piece}
@@ -32,12 +34,13 @@ among_ok (first ∷ more) piece word e =
 
 -- ---- capsules
 
-cipher_back : (id : ℕ) → 1 ≤ id → id ≤ 2 → aead_id (cond (id == 1) Aes128 Aes256) ≡ id
-cipher_back id least most = grind (arith, nat_tests)
+some_named : (found : Option Aead) (value : Aead) → ok_or found Range ≡ Ok value → found ≡ Some value
+some_named None value e = absurd cc
+some_named (Some x) value e = cc
 
-encrypts : (b : Bool) → cond b Aes128 Aes256 ≢ ExportOnly
-encrypts true e = cc
-encrypts false e = cc
+-- the number of an export-only suite is none of 1 and 2
+encrypts : (id : ℕ) → 65535 ≡ id → id ≤ 2 → ⊥
+encrypts id e most = absurd (omega arith)
 
 record IsCipher (piece : List ℕ) (value : Aead) : Type 0 where
   spelled : decimal (aead_id value) ≡ piece
@@ -47,10 +50,10 @@ cipher_ok : (piece : List ℕ) (value : Aead) → cipher piece ≡ Ok value → 
 cipher_ok piece value e =
     let found = step_ok (number 1 2 piece) _ value e in
     let id = number_ok 1 2 piece found.0 (lit< tt) found.1 in
-    let same : cond (found.0 == 1) Aes128 Aes256 ≡ value = ok_same _ _ found.2 in
+    let back : aead_id value ≡ found.0 = named_back found.0 value (some_named (aead_named found.0) value found.2) in
     record {
-      spelled = ap decimal (ap aead_id (sym same) ∙ cipher_back found.0 id.least id.most) ∙ id.spelled;
-      can = λ e. encrypts (found.0 == 1) (same ∙ e);
+      spelled = ap decimal back ∙ id.spelled;
+      can = λ e. encrypts found.0 (sym (ap aead_id e) ∙ back) id.most;
     }
 
 -- a capsule line that was read: its kind, its pieces, and its limits

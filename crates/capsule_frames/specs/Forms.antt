@@ -1,9 +1,10 @@
 -- The capsule lines of a batch without their first word: what each one spells. The bytes of each
 -- bytes field go to the end of the pool in turn.
-use Rattle.std.specs.Prelude.{ℕ, ◌==◌, List, Result, Ok, if◌then◌else◌}
+use Rattle.std.specs.Prelude.{ℕ, List, Result, Ok, ok_or}
 use Rattle.hkdf_labelled.specs.declared.suites.Aead.{Aead}
-use Rattle.hkdf_labelled.specs.declared.suites.Aead.TheVariants.{Aes128, Aes256}
+use Rattle.hkdf_labelled.specs.Suites.{aead_named}
 use Rattle.field_text.specs.declared.reasons.Reason.{Reason}
+use Rattle.field_text.specs.declared.reasons.Reason.TheVariants.{Range}
 use Rattle.field_text.specs.Fields.{◌>>=◌, next, exactly, number, bytes}
 use Rattle.batch_plans.specs.Limits.{most_field}
 use Rattle.request_frames.specs.KeyWords.{kdf}
@@ -29,7 +30,7 @@ most_response = 1048624
 abbrev pub cipher : List ℕ → Result Aead Reason
 cipher piece = do
   id ← number 1 2 piece
-  Ok (if id == 1 then Aes128 else Aes256)
+  ok_or (aead_named id) Range
 
 -- `ask KEY ID KDF AEAD TEXT`
 unfoldable pub ask : List ℕ → List (List ℕ) → Result (CapsuleLine × List ℕ) Reason

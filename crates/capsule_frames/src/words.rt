@@ -77,10 +77,8 @@ pub fn line_word(piece: &[u8]) -> Result<LineWord, Reason>
 fn cipher_of(piece: &[u8]) -> Result<Aead, Reason>
     ensures { Reads (λ aead. aead) result (cipher_field piece.now) }
 {
-    match read_number(piece, 1, 2)? {
-        1 => Ok(Aead::Aes128),
-        _ => Ok(Aead::Aes256),
-    }
+    let id = read_number(piece, 1, 2)?;
+    Aead::named(id as u16).ok_or(Reason::Range)
 }
 
 /// The next piece as AEAD: the id in RFC 9180, 7.3, of one that encrypts.

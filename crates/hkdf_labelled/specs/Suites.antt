@@ -1,11 +1,12 @@
 -- The algorithms of a suite (RFC 9180, 7): hash functions, sizes in bytes, numbers.
-use Rattle.std.specs.Prelude.{ℕ, List}
+use Rattle.std.specs.Prelude.{ℕ, ◌==◌, List, Option, Some, None, if◌then◌else◌}
 use Rattle.sha2.specs.Sha256.{sha256}
 use Rattle.sha2.specs.Sha512.{sha384, sha512}
 use Rattle.hkdf_labelled.specs.declared.suites.Kdf.{Kdf}
 use Rattle.hkdf_labelled.specs.declared.suites.Kdf.TheVariants.{Sha256, Sha384, Sha512}
 use Rattle.hkdf_labelled.specs.declared.suites.Aead.{Aead}
 use Rattle.hkdf_labelled.specs.declared.suites.Aead.TheVariants.{Aes128, Aes256, ExportOnly}
+use Rattle.hkdf_labelled.specs.declared.suites.AeadParameters.{AeadParameters}
 
 -- H, the hash function of a KDF (FIPS 180-4)
 abbrev pub hash : Kdf → List ℕ → List ℕ
@@ -31,8 +32,21 @@ kdf_id Sha256 = 1
 kdf_id Sha384 = 2
 kdf_id Sha512 = 3
 
--- aead_id (RFC 9180, 7.3)
+-- what an AEAD is: its number, and Nk, Nn and Nt in bytes (RFC 9180, 7.3). An export-only suite has no
+-- key, no nonces and no tags.
+abbrev pub parameters : Aead → AeadParameters
+parameters Aes128 = record { id = 1; key_size = 16; nonce_size = 12; tag_size = 16 }
+parameters Aes256 = record { id = 2; key_size = 32; nonce_size = 12; tag_size = 16 }
+parameters ExportOnly = record { id = 65535; key_size = 0; nonce_size = 0; tag_size = 0 }
+
+-- aead_id
 abbrev pub aead_id : Aead → ℕ
-aead_id Aes128 = 1
-aead_id Aes256 = 2
-aead_id ExportOnly = 65535
+aead_id aead = (parameters aead).id
+
+-- the AEAD of a number, without ChaCha20Poly1305
+abbrev pub aead_named : ℕ → Option Aead
+aead_named id =
+    if id == 1 then Some Aes128
+    else if id == 2 then Some Aes256
+    else if id == 65535 then Some ExportOnly
+    else None

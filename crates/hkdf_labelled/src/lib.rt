@@ -28,4 +28,4 @@ pub use hkdf::{expand_into, extract};
 pub use labels::{labeled_expand_into, labeled_extract, suite_id};
 pub use macs::{Mac, hmac};
 pub use prks::Prk;
-pub use suites::{Aead, Kdf, Suite};
+pub use suites::{Aead, AeadParameters, Kdf, Suite, TAG_SIZE};

@@ -1,7 +1,7 @@
 //! The algorithms that a suite names (RFC 9180, 7).
 
 ghost use Rattle.std.specs.Prelude.{◌≡◌};
-ghost use Rattle.hkdf_labelled.specs.Suites.{hash_size, block_size, kdf_id, aead_id};
+ghost use Rattle.hkdf_labelled.specs.Suites.{hash_size, block_size, kdf_id, parameters, aead_id, aead_named};
 
 /// A KDF of HPKE: HKDF over one of the SHA-2 hashes (RFC 9180, 7.2).
 #[derive(Clone, Copy, Debug, PartialEq, Eq)]
@@ -48,6 +48,9 @@ impl Kdf {
     }
 }
 
+/// Nt of both AES-GCM suites (RFC 9180, 7.3), in bytes.
+pub const TAG_SIZE: usize = 16;
+
 /// An AEAD of HPKE, or none where secrets are only exported (RFC 9180, 7.3).
 #[derive(Clone, Copy, Debug, PartialEq, Eq)]
 pub enum Aead {
@@ -59,15 +62,62 @@ pub enum Aead {
     ExportOnly,
 }
 
+/// What an AEAD is (RFC 9180, 7.3). Sizes are in bytes.
+#[derive(Clone, Copy, Debug, PartialEq, Eq)]
+pub struct AeadParameters {
+    /// aead_id: the number in the registry of RFC 9180, 7.3
+    pub id: u16,
+    /// Nk: the size of a key
+    pub key_size: usize,
+    /// Nn: the size of a nonce
+    pub nonce_size: usize,
+    /// Nt: the size of a tag, which a ciphertext has more than its plaintext
+    pub tag_size: usize,
+}
+
 impl Aead {
+    /// The AEAD's number and sizes. The sizes of an export-only suite are 0.
+    pub fn parameters(self) -> AeadParameters
+        ensures { result ≡ parameters self }
+    {
+        match self {
+            Aead::Aes128 => AeadParameters {
+                id: 1,
+                key_size: 16,
+                nonce_size: 12,
+                tag_size: TAG_SIZE,
+            },
+            Aead::Aes256 => AeadParameters {
+                id: 2,
+                key_size: 32,
+                nonce_size: 12,
+                tag_size: TAG_SIZE,
+            },
+            Aead::ExportOnly => AeadParameters {
+                id: 65535,
+                key_size: 0,
+                nonce_size: 0,
+                tag_size: 0,
+            },
+        }
+    }
+
     /// aead_id: the number in the registry of RFC 9180, 7.3.
     pub fn id(self) -> u16
         ensures { result ≡ aead_id self }
     {
-        match self {
-            Aead::Aes128 => 1,
-            Aead::Aes256 => 2,
-            Aead::ExportOnly => 65535,
+        self.parameters().id
+    }
+
+    /// The AEAD of a number in that registry. ChaCha20Poly1305 is none of these.
+    pub fn named(id: u16) -> Option<Aead>
+        ensures { result ≡ aead_named id }
+    {
+        match id {
+            1 => Some(Aead::Aes128),
+            2 => Some(Aead::Aes256),
+            65535 => Some(Aead::ExportOnly),
+            _ => None,
         }
     }
 }

@@ -2,7 +2,7 @@
 use Rattle.std.specs.Prelude.{ℕ, List, [], ◌++◌, Result, Ok, codes}
 use Rattle.std.specs.Result.{result_and}
 use Rattle.byte_strings.specs.Bytes.{i2osp}
-use Rattle.hkdf_labelled.specs.Suites.{hash_size}
+use Rattle.hkdf_labelled.specs.Suites.{hash_size, parameters}
 use Rattle.hkdf_labelled.specs.Labels.{labeled_extract, labeled_expand}
 use Rattle.hkdf_labelled.specs.declared.suites.Suite.{Suite}
 use Rattle.hkdf_labelled.specs.declared.suites.Aead.{Aead}
@@ -42,12 +42,14 @@ abbrev pub exporter_secret : Suite → List ℕ → List ℕ → List ℕ
 exporter_secret suite secret context =
     labeled_expand suite secret (codes "exp") context (hash_size suite.kdf)
 
--- key and base_nonce for an AEAD. Nk is 16 or 32 (RFC 9180, 7.3). An export-only suite has neither.
+-- key and base_nonce for an AEAD. An export-only suite has neither.
 abbrev pub cipher_secrets_for : Aead → Suite → List ℕ → List ℕ → CipherSecrets
 cipher_secrets_for aead.Aes128 suite secret context =
-    Aes128 (key_of suite secret context 16) (base_nonce_of suite secret context)
+    Aes128 (key_of suite secret context (parameters aead.Aes128).key_size)
+    (base_nonce_of suite secret context)
 cipher_secrets_for aead.Aes256 suite secret context =
-    Aes256 (key_of suite secret context 32) (base_nonce_of suite secret context)
+    Aes256 (key_of suite secret context (parameters aead.Aes256).key_size)
+    (base_nonce_of suite secret context)
 cipher_secrets_for aead.ExportOnly suite secret context = NoCipher
 
 -- key and base_nonce for the suite's AEAD

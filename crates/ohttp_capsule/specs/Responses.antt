@@ -2,7 +2,7 @@
 -- context, its enc and a nonce. A byte string is a list of numbers below 256; sizes are in bytes.
 use Rattle.std.specs.Prelude.{ℕ, List, [], ◌++◌, max, codes}
 use Rattle.hkdf_labelled.specs.declared.suites.Aead.{Aead}
-use Rattle.hkdf_labelled.specs.declared.suites.Aead.TheVariants.{Aes128, Aes256, ExportOnly}
+use Rattle.hkdf_labelled.specs.Suites.{parameters}
 use Rattle.hkdf_labelled.specs.Hkdf.{extract, expand}
 use Rattle.key_schedule.specs.Nonces.{nonce_size}
 use Rattle.aes_gcm.specs.Gcm.{seal}
@@ -10,9 +10,7 @@ use Rattle.hpke_context.specs.Contexts.{ContextView, exported_by}
 
 -- Nk (RFC 9180, 7.3). An export-only suite has no key
 abbrev pub key_size : Aead → ℕ
-key_size Aes128 = 16
-key_size Aes256 = 32
-key_size ExportOnly = 0
+key_size aead = (parameters aead).key_size
 
 -- entropy_len, the size of response_nonce: the greater of Nn and Nk
 abbrev pub entropy_size : Aead → ℕ

@@ -11,12 +11,9 @@ ghost use Rattle.ohttp_capsule.specs.Replies.{opened_with};
 use crate::faults::CapsuleFault;
 use aes_gcm::{Checks, GcmKey};
 use byte_strings::{ByteList, PlainList, joined};
-use hkdf_labelled::{Aead, Kdf, Prk, Suite, expand_into, extract};
+use hkdf_labelled::{Aead, Kdf, Prk, Suite, TAG_SIZE, expand_into, extract};
 use hpke_context::Context;
 use std::alloc::{AllocError as OutOfMemory, Global};
-
-/// Nt, the size of a tag, in bytes.
-pub(crate) const TAG_SIZE: usize = 16;
 
 /// entropy_len: how many bytes the nonce of a response has.
 pub(crate) fn entropy_size(aead: Aead) -> usize

@@ -7,9 +7,10 @@ ghost use Rattle.ohttp_capsule.specs.Refusals.{IsShortResponse, IsOfNoExchange};
 
 use crate::asking::Asked;
 use crate::faults::CapsuleFault;
-use crate::responses::{TAG_SIZE, entropy_size, opened, response_key};
+use crate::responses::{entropy_size, opened, response_key};
 use aes_gcm::{Checks, MayCheck};
 use byte_strings::ByteList;
+use hkdf_labelled::TAG_SIZE;
 use std::alloc::Global;
 use std::thread::Threads;
 

@@ -1,10 +1,10 @@
 -- The piece that was read as a word or a number is that of its value.
-use Rattle.std.proofs.Common.{◌≡◌, ℕ, ◌+◌, ◌-◌, ◌<◌, ◌==◌, ◌&&◌, nat_lt, cond, Bool, false, true, List, [], ◌∷◌, ◌++◌, drop, codes, decimal, Ok, Err, refl, sym, ap, subst, ◌∙◌, lit<, arith}
+use Rattle.std.proofs.Common.{◌≡◌, ℕ, ◌+◌, ◌-◌, ◌<◌, ◌==◌, ◌&&◌, nat_lt, cond, Bool, false, true, List, [], ◌∷◌, ◌++◌, drop, codes, decimal, Option, None, Some, ok_or, Ok, Err, refl, sym, ap, subst, ◌∙◌, lit<, arith}
 use Rattle.std.proofs.lemmas.Bool.{eqb-true, and_parts, lt-ltb}
 use Rattle.std.proofs.lemmas.Bool.Decides.{nat_tests}
-use Rattle.hkdf_labelled.specs.Suites.{aead_id}
+use Rattle.hkdf_labelled.specs.Suites.{aead_id, aead_named}
+use Rattle.hkdf_labelled.proofs.Numbers.{named_back}
 use Rattle.hkdf_labelled.specs.declared.suites.Aead.{Aead}
-use Rattle.hkdf_labelled.specs.declared.suites.Aead.TheVariants.{Aes128, Aes256, ExportOnly}
 use Rattle.key_schedule.specs.declared.modes.Role.{Role}
 use Rattle.key_schedule.specs.declared.modes.Role.TheVariants.{Sender, Recipient}
 use Rattle.key_schedule.specs.declared.modes.Mode.{Mode}
@@ -39,21 +39,14 @@ mode_ok piece value e =
     word_ok (codes "psk") piece Psk value (Err Word) _ (λ is same. ap mode_word (sym same) ∙ sym is) (λ err. absurd cc) rest)
     e
 
-aead_back : (id : ℕ) (value : Aead)
-    → cond (id == 1) (Ok Aes128) (cond (id == 2) (Ok Aes256) (cond (id == 65535) (Ok ExportOnly) (Err Range))) ≡ Ok value → aead_id value ≡ id
-aead_back id value e =
-    choice_ok (id == 1) (Ok Aes128) _ value _ (λ is ok. let same : Aes128 ≡ value = cc in ap aead_id (sym same) ∙ sym (eqb-true id 1 is))
-    (λ _ rest.
-    choice_ok (id == 2) (Ok Aes256) _ value _ (λ is ok. let same : Aes256 ≡ value = cc in ap aead_id (sym same) ∙ sym (eqb-true id 2 is))
-    (λ _ rest.
-    choice_ok (id == 65535) (Ok ExportOnly) (Err Range) value _ (λ is ok. let same : ExportOnly ≡ value = cc in ap aead_id (sym same) ∙ sym (eqb-true id 65535 is)) (λ _ err. absurd cc) rest)
-    rest)
-    e
+some_named : (found : Option Aead) (value : Aead) → ok_or found Range ≡ Ok value → found ≡ Some value
+some_named None value e = absurd cc
+some_named (Some x) value e = cc
 
 pub aead_ok : (piece : List ℕ) (value : Aead) → aead piece ≡ Ok value → decimal (aead_id value) ≡ piece
 aead_ok piece value e =
     let found = step_ok (number 1 65535 piece) _ value e in
-    ap decimal (aead_back found.0 value found.2) ∙ (number_ok 1 65535 piece found.0 (lit< tt) found.1).spelled
+    ap decimal (named_back found.0 value (some_named (aead_named found.0) value found.2)) ∙ (number_ok 1 65535 piece found.0 (lit< tt) found.1).spelled
 
 -- ---- the context of a call
 

@@ -1,8 +1,8 @@
 -- The pieces of a line that are one of a few words or numbers.
-use Rattle.std.specs.Prelude.{ℕ, ◌==◌, Bool, true, false, List, [], ◌∷◌, ◌++◌, map, codes, Result, Ok, Err, if◌then◌else◌}
+use Rattle.std.specs.Prelude.{ℕ, ◌==◌, Bool, true, false, List, [], ◌∷◌, ◌++◌, map, codes, Result, Ok, Err, ok_or, if◌then◌else◌}
 use Rattle.std.specs.Str.{bytes_eq}
 use Rattle.hkdf_labelled.specs.declared.suites.Aead.{Aead}
-use Rattle.hkdf_labelled.specs.declared.suites.Aead.TheVariants.{Aes128, Aes256, ExportOnly}
+use Rattle.hkdf_labelled.specs.Suites.{aead_named}
 use Rattle.key_schedule.specs.declared.modes.Role.{Role}
 use Rattle.key_schedule.specs.declared.modes.Role.TheVariants.{Sender, Recipient}
 use Rattle.key_schedule.specs.declared.modes.Mode.{Mode}
@@ -86,7 +86,4 @@ mode piece =
 abbrev pub aead : List ℕ → Result Aead Reason
 aead piece = do
   id ← number 1 65535 piece
-  if id == 1 then Ok Aes128
-      else if id == 2 then Ok Aes256
-      else if id == 65535 then Ok ExportOnly
-      else Err Range
+  ok_or (aead_named id) Range

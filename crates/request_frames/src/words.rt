@@ -150,12 +150,8 @@ pub fn mode(fields: &mut Pieces) -> Result<Mode, Reason>
 fn aead_of(piece: &[u8]) -> Result<Aead, Reason>
     ensures { Reads (λ aead. aead) result (aead_field piece.now) }
 {
-    match read_number(piece, 1, 65_535)? {
-        1 => Ok(Aead::Aes128),
-        2 => Ok(Aead::Aes256),
-        65_535 => Ok(Aead::ExportOnly),
-        _ => Err(Reason::Range),
-    }
+    let id = read_number(piece, 1, 65_535)?;
+    Aead::named(id as u16).ok_or(Reason::Range)
 }
 
 /// The next piece as AEAD: its id in RFC 9180, 7.3, but not that of ChaCha20Poly1305.
