@@ -9,7 +9,7 @@
 //! Nothing of the program `hpkebatch` stands on it: its lanes are served by threads, in batch_runner.
 //! The library for C does.
 //!
-//! Tests: `command_tests`.
+//! Tests: `serving_tests`.
 #![tactic(auto)]
 
 mod alone;

@@ -15,7 +15,7 @@
 //! A contract sees each list as the list of its items. Not here: which text spells a plan, how
 //! answers are printed, and what a served call does.
 //!
-//! Tests: `text_tests` (through `request_frames`) and `core_tests`.
+//! Tests: `text_tests` (through `request_frames`) and `context_tests`.
 #![tactic(auto)]
 
 mod calls;

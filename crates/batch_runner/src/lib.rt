@@ -10,7 +10,7 @@
 //! faults. Each [`Outcome`] but `OutOfMemory` has its cause there. What standard input and output
 //! hold is not known here: the source and the sink that the program uses report no bytes.
 //!
-//! Tests: `command_tests`.
+//! Tests: `serving_tests`.
 #![tactic(auto)]
 
 mod demonstrating;

@@ -14,7 +14,7 @@
 //! A contract sees a source and a sink as the bytes that they report and as their counts of faults.
 //! Each [`Outcome`] but `OutOfMemory` has its cause there. Nothing here starts a thread or waits.
 //!
-//! Tests: `command_tests`.
+//! Tests: `serving_tests`.
 #![tactic(auto)]
 
 mod judging;

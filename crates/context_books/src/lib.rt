@@ -20,7 +20,7 @@
 //!
 //! Only making a book takes memory. Nothing here encrypts or decrypts, waits, or draws a stamp.
 //!
-//! Tests: `core_tests`; of the definitions the rows of `src/rows.rt`, which the prover computes.
+//! Tests: `context_tests`; of the definitions the rows of `src/rows.rt`, which the prover computes.
 #![tactic(auto)]
 
 mod book;

@@ -20,7 +20,7 @@
 //! Tags are tested by a [`Crew`](speculative_open::Crew), and lanes answered by an `Answerer`: by
 //! threads of a runtime, as [`rehearse`] has them, or by the caller alone.
 //!
-//! Tests: `core_tests`; of the core the rows of `src/schedule_rows.rt`, which the prover computes.
+//! Tests: `context_tests`; of the core the rows of `src/schedule_rows.rt`, which the prover computes.
 #![tactic(auto)]
 
 mod answerers;

@@ -11,7 +11,7 @@
 //! A contract sees the replies and the contexts as lists. Not here: reading a plan from text,
 //! printing the replies, serving calls. Nothing is wiped.
 //!
-//! Tests: `core_tests`.
+//! Tests: `context_tests`.
 #![tactic(auto)]
 
 mod contexts;

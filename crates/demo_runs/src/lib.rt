@@ -19,7 +19,7 @@
 //!
 //! Which words of a command line ask for it is not known here.
 //!
-//! Tests: `command_tests` (through `batch_runner` and `batch_alone`).
+//! Tests: `serving_tests` (through `batch_runner` and `batch_alone`).
 #![tactic(auto)]
 
 mod batches;

@@ -11,7 +11,7 @@
 //! `specs/Plans.antt`. What the calls give is `IsDemo` of `specs/Demo.antt`, which demo_runs proves.
 //! [`print_report`] writes a [`DemoReport`] as two lines.
 //!
-//! Tests: `judge_tests` (through `demo_runs`).
+//! Tests: `check_tests` (through `demo_runs`).
 #![tactic(auto)]
 
 mod batches;

@@ -10,7 +10,7 @@
 //! How keys and contexts are set up is not known here: the contexts are an argument. [`standing`]
 //! looks one up, and [`refusal_of`] says which calls they refuse.
 //!
-//! Tests: those of the runs that it defines, in `core_tests`, `judge_tests` and `command_tests`; the
+//! Tests: those of the runs that it defines, in `context_tests`, `check_tests` and `serving_tests`; the
 //! prover computes the rows of `src/rows.rt`.
 #![tactic(auto)]
 

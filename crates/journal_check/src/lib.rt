@@ -22,7 +22,7 @@
 //! times, whatever the contexts and lanes are; stamps are put in order by their numbers. Each pair
 //! of a lane and a journal costs one first place and one cursor, and nothing else.
 //!
-//! Tests: `judge_tests`.
+//! Tests: `check_tests`.
 #![tactic(auto)]
 
 mod asks;

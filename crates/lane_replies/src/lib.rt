@@ -18,7 +18,7 @@
 //!
 //! But for the quotas nothing here takes memory. In which order calls are served is not known here.
 //!
-//! Tests: `core_tests` and `command_tests`.
+//! Tests: `context_tests` and `serving_tests`.
 #![tactic(auto)]
 
 mod counting;

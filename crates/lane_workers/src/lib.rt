@@ -29,7 +29,7 @@
 //! `serve` and `serve_live` may wait for a turn. They take no memory and refuse nothing. Nothing
 //! says that a turn ever comes, or in which order lanes get theirs.
 //!
-//! Tests: `command_tests` (through `batch_runner`); of what lanes show the row of `src/showing_rows.rt`,
+//! Tests: `serving_tests` (through `batch_runner`); of what lanes show the row of `src/showing_rows.rt`,
 //! which the prover computes.
 #![tactic(auto)]
 

@@ -10,7 +10,7 @@
 //! due_replies: the table is legal, and one history with the journals. Threads may give others;
 //! `lane_workers` has them.
 //!
-//! Tests: `command_tests`.
+//! Tests: `serving_tests`.
 #![tactic(auto)]
 
 mod own_replies;

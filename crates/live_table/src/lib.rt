@@ -13,7 +13,7 @@
 //!
 //! Nothing here holds a context, and nothing says that a turn comes. Only `new` takes memory.
 //!
-//! Tests: `command_tests`.
+//! Tests: `serving_tests`.
 #![tactic(auto)]
 
 mod note_list;

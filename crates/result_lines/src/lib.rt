@@ -20,7 +20,7 @@
 //! [`legal_live_texts_are_those_of_allowed_runs`] its law. [`print_verdict`] prints a verdict. How a
 //! verdict is found is not known here.
 //!
-//! Tests: `judge_tests` (through `journal_check`).
+//! Tests: `check_tests` (through `journal_check`).
 #![tactic(auto)]
 
 mod forms;

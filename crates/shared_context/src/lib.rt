@@ -12,7 +12,7 @@
 //!
 //! Nothing here says that a turn comes. Only `new` takes memory.
 //!
-//! Tests: `command_tests`.
+//! Tests: `serving_tests`.
 #![tactic(auto)]
 
 mod contexts;

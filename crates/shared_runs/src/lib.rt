@@ -21,7 +21,7 @@
 //! All memory is taken before the first call is served. Nothing says that the lanes finish: they
 //! wait for one another's turns.
 //!
-//! Tests: `command_tests` (through `batch_runner`).
+//! Tests: `serving_tests` (through `batch_runner`).
 #![tactic(auto)]
 
 mod begun_run;

@@ -15,7 +15,7 @@
 //! Nothing here waits for a lock, decrypts, or keeps a sequence number. Only making a table takes
 //! memory. A table is indexed by sequence numbers, which are public, and holds verdicts.
 //!
-//! Tests: `core_tests`.
+//! Tests: `context_tests`.
 #![tactic(auto)]
 
 mod crew;

@@ -18,7 +18,7 @@
 //!
 //! Nothing here says which caller draws first, holds a list, or takes a turn.
 //!
-//! Tests: `command_tests`.
+//! Tests: `serving_tests`.
 #![tactic(auto)]
 
 mod counter;

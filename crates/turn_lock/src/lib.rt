@@ -12,7 +12,7 @@
 //!
 //! Nothing here says that a turn comes, or in which order two passes get theirs.
 //!
-//! Tests: `command_tests`.
+//! Tests: `serving_tests`.
 #![tactic(auto)]
 
 mod held;

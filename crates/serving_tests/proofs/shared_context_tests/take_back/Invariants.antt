@@ -1,0 +1,10 @@
+use Rattle.std.proofs.Common.{◌≡◌, ◌≤◌, ◌+◌, length, vec_len}
+use Rattle.turn_lock.specs.Passes.{AllOf}
+use Rattle.serving_tests.proofs.shared_context_tests.take_back.Given as goal
+
+abbrev pub invariant-loop-pass : goal.invariant-loop-pass
+invariant-loop-pass l = AllOf l.context.lock l.list.passes × AllOf l.context.lock l.passes.items
+    × (length l.list.passes + vec_len l.passes ≡ vec_len l.fn.passes) × (vec_len l.fn.passes ≤ l.list.made)
+
+abbrev pub decreases-loop-pass : goal.decreases-loop-pass
+decreases-loop-pass l = vec_len l.passes
