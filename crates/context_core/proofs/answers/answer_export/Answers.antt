@@ -1,13 +1,23 @@
-use Rattle.std.proofs.Common.{ap, ◌∙◌, subst, arith, [], ◌∷◌}
-use Rattle.call_places.specs.Spans.{span_bytes}
+use Rattle.std.proofs.Common.{length, sym, ap, ◌∙◌, subst, arith, [], ◌∷◌}
+use Rattle.call_places.specs.Spans.{IsInPool, span_bytes}
 use Rattle.hpke_context.specs.Contexts.{exported_by}
-use Rattle.batch_plans.specs.Limits.{items_of}
+use Rattle.batch_plans.specs.Limits.{items_of, IsCallWithin}
 use Rattle.batch_plans.specs.Room.{served_room}
 use Rattle.reply_texts.specs.Lines.{exported_line}
 use Rattle.lane_replies.specs.Writing.{PutsReplies}
+use Rattle.lane_replies.proofs.Within.{line_within}
 use Rattle.context_core.specs.declared.lanes.Stage.TheVariants.{Fresh}
 use Rattle.context_core.proofs.Answering.{finds_room, exported_on}
 use Rattle.context_core.proofs.answers.answer_export.Goals as goal
+
+pub of-exporter_context-requires : goal.of-exporter_context-requires
+of-exporter_context-requires c =
+    let may = c.requires.may in
+    let plan = c.args.plan.now in
+    let fits = subst (IsCallWithin (length plan.items) (length plan.pool)) c.in-Export.is
+    (line_within plan may.1 may.2 c.args.call.now may.5.within may.5.there may.5.call_is) in
+    subst (λ n. IsInPool n c.in-Export.exporter) (sym (ap length c.as_slice.ensures.items))
+    fits.1.in_pool
 
 pub export-requires-clause-room : goal.export-requires-clause-room
 export-requires-clause-room c =

@@ -1,5 +1,6 @@
 use Rattle.std.proofs.Common.{length, map, List, sym, ap, ◌∙◌, subst, arith}
 use Rattle.std.specs.List.{All, sum_by}
+use Rattle.std.proofs.lemmas.Grind.{common_steps}
 use Rattle.call_places.specs.declared.spans.Item.{Item}
 use Rattle.call_places.specs.Spans.{ItemIsInPool}
 use Rattle.hpke_context.specs.Answers.{run}
@@ -32,6 +33,9 @@ finish_opening-requires-clause-spans c =
     (subst (λ n. All (ItemIsInPool n) (opening_items plan c.args.call.now))
     (sym (ap length c.as_slice-pool.ensures.items))
     (opening_spans plan c.args.call.now may.within fits))
+
+pub finish_opening-requires-clause-steps : goal.finish_opening-requires-clause-steps
+finish_opening-requires-clause-steps c = grind (arith, common_steps)
 
 pub finish_opening-requires-clause-room : goal.finish_opening-requires-clause-room
 finish_opening-requires-clause-room c =

@@ -1,5 +1,6 @@
 use Rattle.std.proofs.Common.{◌≡◌, ◌+◌, length, drop, sym, ap, ◌∙◌, subst, arith, [], ◌∷◌}
 use Rattle.std.proofs.lemmas.List.{length-take}
+use Rattle.std.proofs.lemmas.Grind.{common_steps}
 use Rattle.call_places.specs.Spans.{IsInPool, span_bytes}
 use Rattle.hpke_context.specs.Answers.{Seal, answer}
 use Rattle.hpke_context.specs.Contexts.{cipher_of}
@@ -29,6 +30,12 @@ of-text-requires c =
     (line_within plan c.requires.1 c.requires.2 c.args.call.now may.within may.there may.call_is) in
     subst (λ n. IsInPool n c.in-Seal.item.text) (sym (ap length c.as_slice-pool.ensures.items))
     fits.1.text.in_pool
+
+pub finish_seal-requires-clause-text : goal.finish_seal-requires-clause-text
+finish_seal-requires-clause-text c = grind (arith, common_steps)
+
+pub finish_seal-requires-clause-aad : goal.finish_seal-requires-clause-aad
+finish_seal-requires-clause-aad c = grind (arith, common_steps)
 
 pub finish_seal-requires-clause-room : goal.finish_seal-requires-clause-room
 finish_seal-requires-clause-room c =

@@ -98,6 +98,13 @@ returns-in-Unseal c = λ w at there t.
     })
     (λ book is. c.due.ensures book (ap (book_at c.args.books.now) (sym number) ∙ is))
 
+pub finish-requires-in-Export : goal.finish-requires-in-Export
+finish-requires-in-Export c =
+    let m = c.requires.may in
+    let low = slice_get_within (lane_calls c.args.plan.now c.args.lane) c.args.self.now.call
+    c.args.call.now m.call_is in
+    omega (arith, low, m.follows.lane_follows.notes)
+
 pub returns-in-Export : goal.returns-in-Export
 returns-in-Export c = λ w at there t.
     let m = c.requires.may in

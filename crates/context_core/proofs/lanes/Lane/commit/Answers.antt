@@ -8,7 +8,7 @@ use Rattle.due_replies.specs.Standing.{standing_at}
 use Rattle.context_core.specs.Books.{book_at, MayAdd, Settles}
 use Rattle.context_core.specs.declared.lanes.Stage.TheVariants.{Settled}
 use Rattle.lane_replies.specs.LaneCalls.{opening_items}
-use Rattle.lane_replies.proofs.Within.{call_low, line_within, opening_spans}
+use Rattle.lane_replies.proofs.Within.{call_low, line_within, opening_spans, opening_count, opening_few}
 use Rattle.context_core.proofs.Notes.{written_front, written_size, written_back}
 use Rattle.context_core.proofs.Served.{may_settle, settled_follows, tested_opens, steps_left}
 use Rattle.context_core.proofs.lanes.Lane.commit.Goals as goal
@@ -56,6 +56,21 @@ settle-first-requires-clause-steps c =
       ap length c.deref_mut.ensures.value,
       ap length (take_rest old lane.settled),
       length-drop lane.settled old,
+    )
+
+pub settle-first-requires-clause-few : goal.settle-first-requires-clause-few
+settle-first-requires-clause-few c =
+    let m = c.requires.may in
+    let plan = c.args.plan.now in
+    let call = c.args.call.now in
+    let fits = line_within plan c.args.lane c.args.self.now.call call m.within m.there m.call_is in
+    let opens = tested_opens plan c.args.contexts.now m.within m.standing c.args.lane c.args.self.now
+    c.args.books.now call m.call_is m.there m.core m.follows c.requires.stage in
+    omega (
+      arith,
+      ap length c.items_of_opening-items.ensures,
+      opening_count plan call opens.opening fits,
+      opening_few plan call fits,
     )
 
 pub settle-first-requires-clause-room : goal.settle-first-requires-clause-room

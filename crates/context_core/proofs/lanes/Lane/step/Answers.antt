@@ -1,6 +1,15 @@
-use Rattle.std.proofs.Common.{inl, inr}
+use Rattle.std.proofs.Common.{arith, inl, inr}
+use Rattle.std.proofs.lemmas.Option.{slice_get_within}
+use Rattle.lane_replies.specs.LaneCalls.{lane_calls}
 use Rattle.context_core.proofs.Served.{done_drawn, done_settled}
 use Rattle.context_core.proofs.lanes.Lane.step.Goals as goal
+
+pub finish-requires : goal.finish-requires
+finish-requires g c =
+    let m = c.requires.may in
+    let low = slice_get_within (lane_calls c.args.plan.now c.args.lane) c.args.self.now.call
+    c.args.call.now m.call_is in
+    omega (arith, low, m.follows.lane_follows.notes)
 
 pub returns-in-Guessed : goal.returns-in-Guessed
 returns-in-Guessed g c = c.test.ensures c.args.lane c.args.books.now
