@@ -1,9 +1,6 @@
-use Rattle.std.proofs.Common.{◌≡◌, ◌*◌, ◌∙◌, List, [], length, get_or, ap, sym, subst, arith}
-use Rattle.std.proofs.lemmas.List.{get_or_read}
+use Rattle.std.proofs.Common.{◌*◌, sym, subst}
 use Rattle.std.specs.Prelude.{replicate}
-use Rattle.batch_plans.specs.declared.plan.CallLine.{CallLine}
 use Rattle.context_core.specs.Core.{Core, all_happen, happens}
-use Rattle.lane_replies.specs.LaneCalls.{lane_calls}
 use Rattle.due_replies.specs.Asks.{batch_of, cipher_at}
 use Rattle.context_core.specs.Following.{IsRehearsal}
 use Rattle.context_core.proofs.Events.{four_more}
@@ -70,18 +67,3 @@ calls-preserved g c = λ w t.
     (sym (four_more plan contexts w i n))
     (c.event-in-calls-3.ensures w3 (c.event-in-calls-2.ensures w2 (c.event-in-calls.ensures w1
     (c.event.ensures w0 (c.calls.invariant w t)))))
-
-pub returns : goal.returns
-returns g c = λ w t.
-    let plan = c.args.plan.now in
-    let contexts = c.args.contexts.now in
-    let n = c.args.number in
-    let found : c.index-as_slice-number.result ≡ lane_calls plan n =
-    get_or_read plan.lanes n c.index-as_slice-number.result c.requires.there
-    (c.index-as_slice-number.is ∙ ap (λ (ls : List (List CallLine)). get_or ls n
-    c.index-as_slice-number.result) c.as_slice.ensures.items) [] in
-    let size = ap length (c.as_slice-calls.ensures.items ∙ found) in
-    let all : c.calls._call ≡ length (lane_calls plan n) = omega (arith, size) in
-    subst (λ i. IsRehearsal plan contexts
-    (all_happen (batch_of plan contexts) (cipher_at contexts) w (replicate (4 * i) n))
-    c.calls.self.lanes.items c.calls.self.books) all (c.calls.invariant w t)
