@@ -1,4 +1,5 @@
-use Rattle.std.proofs.Common.{ℕ, All, List, length, sym, refl, subst}
+use Rattle.std.proofs.Common.{ℕ, All, List, length, sym, refl, subst, arith}
+use Rattle.std.proofs.lemmas.Grind.{common_steps}
 use Rattle.call_places.specs.Spans.{ItemIsInPool}
 use Rattle.hpke_context.specs.Contexts.{HasCipher}
 use Rattle.lane_workers.proofs.calls.Service.finish.Goals as goal
@@ -20,3 +21,6 @@ finish_opening-requires-clause-left g c = c.requires.left
 
 pub returns-clause-same : goal.returns-clause-same
 returns-clause-same g c = refl
+
+pub returns-clause-puts : goal.returns-clause-puts
+returns-clause-puts g c = grind (arith, common_steps)

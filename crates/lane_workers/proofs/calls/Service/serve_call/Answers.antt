@@ -1,4 +1,5 @@
 use Rattle.std.proofs.Common.{◌≡◌, ◌+◌, ◌-◌, ◌≤◌, ◌∷◌, [], List, ℕ, length, refl, sym, ap, ◌∙◌, subst, arith}
+use Rattle.std.proofs.lemmas.Grind.{common_steps}
 use Rattle.batch_plans.specs.declared.plan.CallLine.{CallLine}
 use Rattle.batch_plans.specs.Limits.{items_of, IsCallWithin}
 use Rattle.batch_plans.specs.Calls.{context_of}
@@ -226,3 +227,6 @@ returns-in-Export g c = λ r t.
           (ap (shared_at v.contexts.now) (sym (ap context_of e.is)) ∙ m.stands))
           (puts_heard r w.progress p e.size (line ∷ []) puts enough));
     }
+
+pub export-requires-clause-size : goal.export-requires-clause-size
+export-requires-clause-size g c = grind (arith, common_steps)

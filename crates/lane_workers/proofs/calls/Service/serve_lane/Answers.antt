@@ -82,3 +82,15 @@ calls-preserved g c =
     (is_as_it_was plan w new one.adds.more one.adds.replies)
     (subst (λ i. LaneIsAt plan v.contexts.now v.counter i (c.calls.call + 1)
     (hears (with_more (as_it_is plan w) one.adds.more) new)) c.calls.invariant.lane_is one.is_at)
+
+pub returns : goal.returns
+returns g c =
+    let v = c.args.self.now in
+    let plan = v.plan.now in
+    let lane = c.args.work.now.lane in
+    let found = lane_here plan.lanes lane c.index-as_slice-work.result
+    c.requires.there (c.index-as_slice-work.is
+    ∙ ap (λ ls. get_or ls lane c.index-as_slice-work.result) c.as_slice.ensures.items) in
+    let size = ap length (c.as_slice-lines.ensures.items ∙ found) in
+    let all : c.calls.call ≡ length (lane_calls plan lane) = omega (arith, size) in
+    subst (λ k. LaneIsAt plan v.contexts.now v.counter lane k c.calls.work) all c.calls.invariant
