@@ -1,8 +1,8 @@
 -- Journals of which one place more is kept than are asked for on their contexts.
-use Rattle.std.proofs.Common.{◌≡◌, ◌≢◌, ℕ, zero, suc, ◌+◌, ◌<◌, ◌≤◌, ◌==◌, ◌||◌, not, Bool, true, false, cond, List, [], ◌∷◌, ◌++◌, length, take, drop, get_or, Option, Some, None, refl, sym, ap, ◌∙◌, subst, inl, inr, eq-eqb, eqb-true, append_assoc, append-nil, arith}
+use Rattle.std.proofs.Common.{◌≡◌, ◌≢◌, ℕ, zero, suc, ◌+◌, ◌<◌, ◌≤◌, ◌==◌, ◌||◌, not, Bool, true, false, cond, List, [], ◌∷◌, ◌++◌, length, take, drop, get_or, Option, Some, None, refl, sym, ap, ◌∙◌, subst, inl, inr, eq-eqb, eqb-true, append_assoc, arith}
 use Rattle.std.specs.Prelude.{nat_lt}
 use Rattle.std.specs.List.{list_all, flat_map, range_with_len}
-use Rattle.std.proofs.lemmas.List.{take_all, drop_all, length-take-le, length-append, length-map}
+use Rattle.std.proofs.lemmas.List.{take_all, length-take-le, length-append, length-map}
 use Rattle.std.proofs.lemmas.Bool.{cases_eq, cases_lt}
 use Rattle.call_places.specs.declared.entries.Place.{Place}
 use Rattle.call_places.specs.declared.entries.Mark.{Mark}
@@ -169,11 +169,6 @@ keep_next batch journals i d marks first kept total lt here is so_far =
     ∙ ap (λ (ms : List Mark). kept ++ ms ∷ kept_from batch (i + 1) (drop (i + 1) journals)) (is ∙ ap (take (length (asked_on batch i) + 1)) here)
     ∙ ap (λ (js : List (List Mark)). kept ++ kept_from batch i js) (sym (drop_next journals i d lt))
     ∙ so_far
-
-pub keep_end : (batch : Batch) (journals : List (List Mark)) (i : ℕ) (kept total : List (List Mark)) → length journals ≤ i
-    → kept ++ kept_from batch i (drop i journals) ≡ total → kept ≡ total
-keep_end batch journals i kept total le so_far =
-    sym (append-nil kept) ∙ ap (λ (js : List (List Mark)). kept ++ kept_from batch i js) (sym (drop_all i journals le)) ∙ so_far
 
 -- what is kept
 pub kept_is : (batch : Batch) (journals kept : List (List Mark)) → kept ≡ kept_from batch 0 journals → IsKept batch journals kept

@@ -1,7 +1,7 @@
 -- Which names are live, by a bit for each.
-use Rattle.std.proofs.Common.{◌≡◌, ℕ, zero, suc, ◌+◌, ◌-◌, ◌<◌, ◌≤◌, ◌&&◌, ◌==◌, Bool, true, false, cond, List, [], ◌∷◌, ◌++◌, length, take, get_or, get_or-set_same, get_or-set_other, Some, refl, sym, ap, ◌∙◌, subst, inl, inr, eq-eqb, ne_eqb, arith}
+use Rattle.std.proofs.Common.{◌≡◌, ℕ, zero, suc, ◌+◌, ◌-◌, ◌<◌, ◌&&◌, ◌==◌, Bool, true, false, cond, List, [], ◌∷◌, ◌++◌, length, take, get_or, get_or-set_same, get_or-set_other, Some, refl, sym, ap, ◌∙◌, subst, inl, inr, eq-eqb, ne_eqb, arith}
 use Rattle.std.specs.Prelude.{slice_get, slice_index_or, slice_set}
-use Rattle.std.specs.List.{All, list_all, range_with_len}
+use Rattle.std.specs.List.{list_all, range_with_len}
 use Rattle.std.proofs.lemmas.Bool.{cases_eq}
 use Rattle.std.proofs.lemmas.List.{take_more, length-set, get_or_default}
 use Rattle.call_places.specs.declared.entries.Act.{Act}
@@ -55,10 +55,6 @@ next_bits lives notes i e name act live low is step bits k few =
     ∙ sym (live_at-push (take i notes) e k)
     ∙ ap (λ (es : List Entry). live_at es k) (ap (λ (f : Entry). take i notes ++ f ∷ []) is ∙ sym (take_more notes i e low))
 
--- no name is live at first
-pub no_bits : (lives : List Bool) → All (λ live. live ≡ false) lives → AreBits lives []
-no_bits lives none k low = none k false low
-
 -- ---- what notes tell
 
 module _ (notes : List Entry) where
@@ -110,11 +106,6 @@ module _ (notes : List Entry) where
   not_told before Failed none = refl
   not_told before OpenLimit none = refl
   not_told before (Note name act live) none = absurd (none name act live refl)
-
-  pub ends : (i : ℕ) (total : Bool) → length notes ≤ i → tell_from i ≡ total → true ≡ total
-  ends i total high so_far =
-      let none : length notes - i ≡ 0 = omega arith in
-      sym (ap (λ n. list_all tells (range_with_len i n)) none) ∙ so_far
 
   -- an entry of the list
   pub itself : (i : ℕ) (d : Entry) → i < length notes → get_or notes i d ≡ get_or notes i (get_or notes i d)

@@ -1,27 +1,22 @@
 -- Calls as they were served, of a plan whose lanes add and retire contexts.
-use Rattle.std.proofs.Common.{◌≡◌, ◌⊎◌, inl, inr, ◌||◌, ℕ, ◌+◌, Bool, true, false, List, [], ◌∷◌, ◌++◌, Option, Some, None, refl, sym, ap, ◌∙◌, if◌then◌else◌}
+use Rattle.std.proofs.Common.{◌≡◌, ◌||◌, ℕ, ◌+◌, Bool, true, false, List, [], ◌∷◌, ◌++◌, Option, Some, None, refl, ap, if◌then◌else◌}
 use Rattle.std.specs.Prelude.{nat_lt}
 use Rattle.call_places.specs.declared.entries.Mark.{Mark}
-use Rattle.call_places.specs.declared.spans.Item.{Item}
-use Rattle.call_places.specs.declared.spans.Span.{Span}
 use Rattle.hpke_context.specs.Contexts.{ContextView}
 use Rattle.context_books.specs.Batches.{place}
 use Rattle.batch_plans.specs.declared.plan.CallLine.{CallLine}
 use Rattle.batch_plans.specs.declared.plan.CallLine.TheVariants as calls
 use Rattle.batch_plans.specs.declared.plan.Plan.{Plan}
-use Rattle.batch_plans.specs.declared.replies.CallRefusal.{CallRefusal}
 use Rattle.batch_plans.specs.Calls.{context_of}
 use Rattle.batch_plans.specs.Limits.{first_name}
 use Rattle.batch_plans.specs.Names.{at_position}
 use Rattle.reply_texts.specs.ReplyText.{all_lines, numbered}
 use Rattle.due_replies.specs.Live.{LiveRun, run_of, was_live, looked_up}
 use Rattle.due_replies.specs.Runs.{Run}
-use Rattle.due_replies.specs.Standing.{call_refusal}
 use Rattle.result_lines.specs.LiveVerdicts.{live_of, live_reply_lines, live_lane_replies, live_replies}
 use Rattle.result_lines.specs.Replies.{reply_lines, lane_replies, all_replies}
 use Rattle.journal_check.specs.declared.tables.Table.{Table}
-use Rattle.journal_check.specs.Asks.{asked_unless, asked_in}
-use Rattle.journal_check.specs.Served.{changed_lines, due_lines, lane_due, all_due}
+use Rattle.journal_check.specs.Served.{due_lines, lane_due, all_due}
 use Rattle.journal_check.specs.Tables.{written}
 
 -- ---- the replies to calls as they were served are those that are due
@@ -105,37 +100,3 @@ module _ (run : Run) where
 
   pub replies_plain : all_due None run ≡ all_replies run
   replies_plain = lanes_plain 0 run.plan.lanes
-
--- ---- calls that ask nothing
-
-asks_nothing : (refusal : Option CallRefusal) → asked_unless refusal None ≡ None
-asks_nothing None = refl
-asks_nothing (Some refusal) = refl
-
-pub added_asks_nothing : (contexts : List (Option ContextView)) (name : ℕ) → asked_in contexts (calls.Add name) ≡ None
-added_asks_nothing contexts name = asks_nothing (call_refusal contexts (calls.Add name))
-
-pub retired_asks_nothing : (contexts : List (Option ContextView)) (name : ℕ) → asked_in contexts (calls.Retire name) ≡ None
-retired_asks_nothing contexts name = asks_nothing (call_refusal contexts (calls.Retire name))
-
--- ---- calls on contexts
-
--- a call that adds and retires none
-abbrev pub IsOnContext : CallLine → Type 0
-IsOnContext call =
-    ((context : ℕ) × (item : Item) × (call ≡ calls.Seal context item))
-    ⊎ (((context : ℕ) × (item : Item) × (call ≡ calls.Unseal context item))
-    ⊎ (((context : ℕ) × (first : ℕ) × (count : ℕ) × (call ≡ calls.UnsealAll context first count))
-    ⊎ ((context : ℕ) × (exporter : Span) × (size : ℕ) × (call ≡ calls.Export context exporter size))))
-
-pub other_lines : (table : Table) (run : Run) (live : Bool) (lane number : ℕ) (call : CallLine) → IsOnContext call → changed_lines table run live lane number call ≡ reply_lines run lane number call
-other_lines table run live lane number call on = elim on [
-  | inl t ↦ ap (changed_lines table run live lane number) t.2 ∙ sym (ap (reply_lines run lane number) t.2)
-  | inr others ↦ elim others [
-    | inl t ↦ ap (changed_lines table run live lane number) t.2 ∙ sym (ap (reply_lines run lane number) t.2)
-    | inr more ↦ elim more [
-      | inl t ↦ ap (changed_lines table run live lane number) t.3 ∙ sym (ap (reply_lines run lane number) t.3)
-      | inr t ↦ ap (changed_lines table run live lane number) t.3 ∙ sym (ap (reply_lines run lane number) t.3)
-    ]
-  ]
-]

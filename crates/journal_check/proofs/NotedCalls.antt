@@ -32,7 +32,7 @@ use Rattle.due_replies.specs.LiveChecks.{note_ask, pairs, asks_with_notes, note_
 use Rattle.result_lines.specs.Journals.{is_journal, stamps_rise}
 use Rattle.result_lines.proofs.Limited.{IsLine, calls_few}
 use Rattle.journal_check.specs.declared.asks.Asked.{Asked}
-use Rattle.journal_check.specs.Asks.{size_in, size_of, sizes_of, AreFew}
+use Rattle.journal_check.specs.Asks.{size_of, sizes_of, AreFew}
 use Rattle.journal_check.specs.Tables.{written, live_along, pairs_by, all_pairs_by, lane_lengths, is_low, is_low_note, are_low}
 use Rattle.journal_check.proofs.Asking.{call_size, lane_sizes}
 use Rattle.journal_check.proofs.Walks.{drop_next}
@@ -218,16 +218,6 @@ fails_with true d needs e = absurd (let clash : true ≡ false = sym (needs refl
 fails_with false d needs e = refl
 
 -- ---- one call after another
-
-pub pairs_next : (plan : Plan) (standing : List (Option ContextView)) (table : ℕ) (cs served : List CallLine) (i : ℕ) (d e : CallLine) → i < length cs → length served ≡ length cs
-    → pairs_by plan standing table (drop i cs) (drop i served)
-    ≡ size_of (note_ask table (noting plan standing (get_or cs i d))) ∷ size_in standing (get_or served i e) ∷ pairs_by plan standing table (drop (i + 1) cs) (drop (i + 1) served)
-pairs_next plan standing table cs served i d e low same = (λ k. pairs_by plan standing table (drop_next cs i d low k) (drop_next served i e (let few : i < length served = omega arith in few) k))
-
-pub all_pairs_next : (plan : Plan) (standing : List (Option ContextView)) (table : ℕ) (lanes served : List (List CallLine)) (i : ℕ) (d e : List CallLine) → i < length lanes → length served ≡ length lanes
-    → all_pairs_by plan standing table (drop i lanes) (drop i served)
-    ≡ pairs_by plan standing table (get_or lanes i d) (get_or served i e) ∷ all_pairs_by plan standing table (drop (i + 1) lanes) (drop (i + 1) served)
-all_pairs_next plan standing table lanes served i d e low same = (λ k. all_pairs_by plan standing table (drop_next lanes i d low k) (drop_next served i e (let few : i < length served = omega arith in few) k))
 
 pub marks_next : (journals : List (List Mark)) (i : ℕ) (d own : List Mark) (made total : List (List Mark)) → i < length journals → own ≡ map call_mark (get_or journals i d)
     → made ++ map (map call_mark) (drop i journals) ≡ total → (made ++ own ∷ []) ++ map (map call_mark) (drop (i + 1) journals) ≡ total

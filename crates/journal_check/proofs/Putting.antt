@@ -67,10 +67,6 @@ puts_none old final context marks i d lt high t =
     (puts_cons old old final context m (drop (i + 1) marks) refl (λ h s same at agree. agree)
     (λ h same at. absurd (let low = slice_get_within h m.stamp (spot_of context m) at in omega arith)) t)
 
-pub puts_end : (h : List Spot) (context : ℕ) (marks : List Mark) (i : ℕ) → length marks ≤ i → Puts h h context (drop i marks)
-puts_end h context marks i le = subst (Puts h h context) (sym (drop_all i marks le))
-    (record { size = refl; kept = λ other s same all agree. agree; put = λ other m same all none. absurd none })
-
 -- ---- all journals
 
 tail_at : (h : List Spot) (first : ℕ) (marks : List Mark) (journals : List (List Mark)) → AllAt h first (marks ∷ journals) → AllAt h (first + 1) journals

@@ -83,12 +83,6 @@ module _ (contexts : List (Option ContextView)) (journals : List (List Mark)) (l
   points_passed new passed others =
       points_on new (passed (block lane number 0 n) (places_from contexts c lane (number + 1) more) (length-block lane number 0 n) own_here) others
 
--- a call that asks nothing
-pub points_past : (contexts : List (Option ContextView)) (journals : List (List Mark)) (lane number : ℕ) (call : CallLine) (more : List CallLine) (cursors : List ℕ)
-    → asked_in contexts call ≡ None → Points contexts journals lane number (call ∷ more) cursors → Points contexts journals lane (number + 1) more cursors
-points_past contexts journals lane number call more cursors nothing points d low =
-    points d low ∙ ap (λ (o : Option (ℕ × ℕ)). places_asked d lane number o ++ places_from contexts d lane (number + 1) more) nothing
-
 -- there is a journal for its context
 pub there_for : (contexts : List (Option ContextView)) (journals : List (List Mark)) (call : CallLine) (c : ℕ) → context_of call ≡ c → call_refusal contexts call ≡ None
     → length contexts ≡ length journals → c < length journals

@@ -36,7 +36,3 @@ back_again contexts taken new n context same lt is kept out back =
     back ∙ ap (λ (cs : List (Option ContextView)). slice_set cs n (Some same)) out
     ∙ set-set contexts n None (Some same)
     ∙ ap (λ (v : ContextView). slice_set contexts n (Some v)) kept ∙ ap (slice_set contexts n) is ∙ set-get_or contexts n None
-
--- a slot that was empty
-pub still_empty : (contexts new : List (Option ContextView)) (n : ℕ) → None ≡ standing_at contexts n → new ≡ slice_set contexts n None → new ≡ contexts
-still_empty contexts new n is out = out ∙ ap (slice_set contexts n) is ∙ set-get_or contexts n None

@@ -15,7 +15,7 @@
 //! [`check_live_result`] does the same with a result whose lanes add and retire contexts
 //! (`IsLiveVerdict`): its table is read first, and says which calls found their contexts. The calls as
 //! they were served are then judged as those of a plan whose contexts stay, and the table as one
-//! journal more.
+//! journal more. One `verdict_on` (`checking.rt`) serves both kinds of results.
 //!
 //! Nothing here starts a thread: [`check_result_by`] serves a caller that has no runtime, by a
 //! permission to check tags. Each call, each place and each reply is passed a fixed number of

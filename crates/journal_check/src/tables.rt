@@ -30,8 +30,8 @@ use call_places::{Entry, Mark, Place};
 use hpke_context::Context;
 use std::alloc::{AllocError, Global};
 
-/// What a result says of a plan whose lanes add and retire contexts, and what the plan had before it
-/// was read: the calls of its lanes as they were written, the replies to its contexts, and the notes.
+/// The notes of a result whose lanes add and retire contexts, and what they are judged by: the calls of
+/// each lane as they were written, and the replies to the plan's contexts.
 #[derive(Clone, Copy)]
 pub(crate) struct Table<'a> {
     pub(crate) calls: &'a [PlainList<CallLine>],
