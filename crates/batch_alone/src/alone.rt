@@ -65,7 +65,7 @@ fn obey<K: Sink>(
 /// for: the reply is one of those that they may give.
 ///
 /// The command grammar is `command_of` of batch_words, and what may come of an input is `MayEnd` of
-/// `specs/Text.antt`. No thread is started, and nothing is waited for.
+/// batch_serving. No thread is started, and nothing is waited for.
 pub fn serve_alone<K: Sink>(
     permission: MayCheck,
     alloc: Global,
