@@ -141,6 +141,10 @@ fn run_at(
 }
 
 /// Runs the journals of all contexts that stand. Where memory runs out a context may be lost.
+///
+/// It is a call by itself, so that the stack has a printer's room for it or for what comes later, and
+/// not for both at a time.
+#[inline(never)]
 pub(crate) fn run_journals(
     permission: MayCheck,
     alloc: Global,
