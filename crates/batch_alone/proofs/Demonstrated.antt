@@ -5,9 +5,9 @@ use Rattle.call_places.specs.declared.entries.Mark.{Mark}
 use Rattle.batch_plans.specs.declared.plan.Plan.{Plan}
 use Rattle.batch_plans.specs.declared.replies.Answers.{Answers}
 use Rattle.reply_texts.specs.ReplyText.{lanes_lines, numbered}
-use Rattle.due_replies.specs.Runs.{IsAllowed, lane_call_lines}
+use Rattle.due_replies.specs.Runs.{IsAllowed, lane_call_lines, run_along}
 use Rattle.context_core.specs.Rehearsals.{rehearsed, AreAnswersOf}
-use Rattle.demo_runs.specs.Batches.{AnswersARun, run_along}
+use Rattle.demo_runs.specs.Batches.{AnswersARun}
 
 pub answers_a_run : (plan : Plan) (contexts : List (Option ContextView)) (schedule : List ℕ) (answers : Answers)
     → IsAllowed (rehearsed plan contexts schedule) → AreAnswersOf (rehearsed plan contexts schedule) answers

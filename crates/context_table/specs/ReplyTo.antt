@@ -6,8 +6,8 @@ use Rattle.hpke_context.specs.Contexts.{ContextView}
 use Rattle.batch_plans.specs.declared.plan.Plan.{Plan}
 use Rattle.batch_plans.specs.declared.replies.KeyReply.{KeyReply}
 use Rattle.batch_plans.specs.declared.replies.ContextReply.{ContextReply}
-use Rattle.due_replies.specs.Live.{IsAllowedLive, live_run_text}
-use Rattle.due_replies.specs.Runs.{IsAllowed, run_text}
+use Rattle.due_replies.specs.Live.{live_run_along, IsAllowedLive, live_run_text}
+use Rattle.due_replies.specs.Runs.{run_along, IsAllowed, run_text}
 use Rattle.context_table.specs.SetUp.{IsSetUp}
 
 -- the text replies to the plan's set-up, and to its calls along journals and guesses, which it
@@ -19,18 +19,8 @@ pub record IsReply (plan : Plan) (text : List ℕ) : Type 0 where
   pub set_up : IsSetUp plan keys contexts standing
   pub journals : List (List Mark)
   pub guesses : List (List ℕ)
-  pub allowed : IsAllowed (record {
-    plan = plan;
-    contexts = standing;
-    journals = journals;
-    guesses = guesses;
-  })
-  pub text_is : text ≡ run_text keys contexts (record {
-    plan = plan;
-    contexts = standing;
-    journals = journals;
-    guesses = guesses;
-  })
+  pub allowed : IsAllowed (run_along plan standing journals guesses)
+  pub text_is : text ≡ run_text keys contexts (run_along plan standing journals guesses)
 
 -- The same of a plan whose lanes add and retire contexts. The text prints the table too, whose notes
 -- are one legal history with the journals.
@@ -42,19 +32,5 @@ pub record IsLiveReply (plan : Plan) (text : List ℕ) : Type 0 where
   pub journals : List (List Mark)
   pub guesses : List (List ℕ)
   pub notes : List Entry
-  pub allowed : IsAllowedLive (record {
-    plan = plan;
-    replies = contexts;
-    standing = standing;
-    journals = journals;
-    guesses = guesses;
-    notes = notes;
-  })
-  pub text_is : text ≡ live_run_text keys (record {
-    plan = plan;
-    replies = contexts;
-    standing = standing;
-    journals = journals;
-    guesses = guesses;
-    notes = notes;
-  })
+  pub allowed : IsAllowedLive (live_run_along plan contexts standing journals guesses notes)
+  pub text_is : text ≡ live_run_text keys (live_run_along plan contexts standing journals guesses notes)

@@ -13,7 +13,7 @@ use Rattle.batch_plans.specs.declared.replies.KeyReply.TheVariants.{Generated}
 use Rattle.batch_plans.specs.declared.replies.ContextReply.{ContextReply}
 use Rattle.batch_plans.specs.declared.replies.Answers.{Answers}
 use Rattle.reply_texts.specs.ReplyText.{IsAnswered, has_stamps}
-use Rattle.due_replies.specs.Runs.{Run, asks_of, journal_of, LegalFor}
+use Rattle.due_replies.specs.Runs.{Run, asks_of, journal_of, LegalFor, run_along}
 use Rattle.context_table.specs.SetUp.{IsSetUp}
 use Rattle.demo_texts.specs.Texts.{share_of}
 use Rattle.demo_texts.specs.Plans.{SealsText, IsSealingPlan, BeginsAs, set_up_plan}
@@ -21,7 +21,7 @@ use Rattle.demo_texts.proofs.Spelled.{share_sum}
 use Rattle.demo_runs.specs.declared.batches.DemoBatch.{DemoBatch}
 use Rattle.demo_runs.specs.declared.batches.ServedBatch.{ServedBatch}
 use Rattle.demo_runs.specs.declared.sealing.Sealing.{Sealing}
-use Rattle.demo_runs.specs.Batches.{AnswersARun, run_along, is_generated, IsSealed, IsBegun, IsSealing, HasSealed}
+use Rattle.demo_runs.specs.Batches.{AnswersARun, is_generated, IsSealed, IsBegun, IsSealing, HasSealed}
 use Rattle.demo_runs.specs.Steps.{SealedLanes, AreLow, AreSealedLanes, put_all}
 use Rattle.demo_runs.proofs.SetUps.{SenderStands, sender_stands, sealed_size, get_standing, generated_is, set_up_of}
 use Rattle.demo_runs.proofs.Sealings.{SealingRun, all_numbers, lanes_sealed, all_low, all_there, journal_size}

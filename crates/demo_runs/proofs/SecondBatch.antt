@@ -17,7 +17,7 @@ use Rattle.batch_plans.specs.declared.replies.Answers.{Answers}
 use Rattle.reply_texts.specs.Lines.{reply_line}
 use Rattle.reply_texts.specs.ReplyText.{IsAnswered, has_stamps, numbered, answered_lines, lanes_lines}
 use Rattle.due_replies.specs.Standing.{standing_at, AreOfLines}
-use Rattle.due_replies.specs.Runs.{Run, asks_of, journal_of, LegalFor, lane_call_lines}
+use Rattle.due_replies.specs.Runs.{Run, asks_of, journal_of, LegalFor, lane_call_lines, run_along}
 use Rattle.context_table.specs.SetUp.{IsSetUp}
 use Rattle.context_table.specs.Laws.{EndsMatch, Message, to_seal, to_open, sealed_from, opened_from, OpensInOrder}
 use Rattle.context_table.proofs.OneSetUp.{one_set_up_lem}
@@ -26,7 +26,7 @@ use Rattle.demo_texts.specs.Plans.{IsOpeningPlan, set_up_plan}
 use Rattle.demo_texts.specs.Demo.{sealed_at}
 use Rattle.demo_runs.specs.declared.batches.DemoBatch.{DemoBatch}
 use Rattle.demo_runs.specs.declared.batches.ServedBatch.{ServedBatch}
-use Rattle.demo_runs.specs.Batches.{AnswersARun, run_along, ciphertexts, HasCiphertexts, IsSealed, IsBegun, IsOpening, HasOpened}
+use Rattle.demo_runs.specs.Batches.{AnswersARun, ciphertexts, HasCiphertexts, IsSealed, IsBegun, IsOpening, HasOpened}
 use Rattle.demo_runs.specs.Steps.{opened_line, IsOpenedLane}
 use Rattle.demo_runs.proofs.SetUps.{SenderStands, sender_stands, set_up_of, get_standing, BothStand, both_stand}
 use Rattle.demo_runs.proofs.Reported.{sealed_count}

@@ -12,7 +12,7 @@ use Rattle.batch_plans.specs.Limits.{IsWithinLimits}
 use Rattle.batch_plans.specs.Room.{room_for}
 use Rattle.reply_texts.specs.ReplyText.{lanes_lines, numbered, IsAnswered}
 use Rattle.due_replies.specs.Standing.{standing_at, AreOfLines, export_limits}
-use Rattle.due_replies.specs.Runs.{Run, IsAllowed, lane_call_lines}
+use Rattle.due_replies.specs.Runs.{run_along, IsAllowed, lane_call_lines}
 use Rattle.context_table.specs.SetUp.{IsSetUp}
 use Rattle.demo_texts.specs.Plans.{set_up_plan, IsSealingPlan, IsOpeningPlan}
 use Rattle.demo_texts.specs.Demo.{sealed_at}
@@ -21,11 +21,6 @@ use Rattle.demo_runs.specs.declared.batches.ServedBatch.{ServedBatch}
 use Rattle.demo_runs.specs.declared.sealing.Sealing.{Sealing}
 
 -- ---- both
-
--- the run of a plan over the contexts that stand, along these journals and guesses
-abbrev pub run_along : Plan → List (Option ContextView) → List (List Mark) → List (List ℕ) → Run
-run_along plan contexts journals guesses =
-    record { plan = plan; contexts = contexts; journals = journals; guesses = guesses }
 
 -- with some guesses the answers are those of a run that is allowed
 pub record AnswersARun (plan : Plan) (contexts : List (Option ContextView)) (answers : Answers)

@@ -2,7 +2,7 @@
 -- adds a context, retires it or looks it up for a call stands as a note in one list, the table, which
 -- tells whether the context could be called there. A call that finds its context is the call of a
 -- plan whose contexts stay; of the others no context serves any.
-use Rattle.std.specs.Prelude.{ℕ, ◌≡◌, ◌≢◌, ◌↔◌, ◌+◌, ◌-◌, ◌<◌, ◌&&◌, ◌||◌, nat_lt, Bool, true, false, if◌then◌else◌, List, [], ◌∷◌, ◌++◌, length, Contains, Option, Some, None, slice_get, slice_index_or}
+use Rattle.std.specs.Prelude.{ℕ, ◌≡◌, ◌≢◌, ◌↔◌, ◌+◌, ◌-◌, ◌*◌, ◌<◌, ◌&&◌, ◌||◌, nat_lt, Bool, true, false, if◌then◌else◌, List, [], ◌∷◌, ◌++◌, length, map, Contains, Option, Some, None, slice_get, slice_index_or}
 use Rattle.std.specs.List.{AllPairs, concat, list_any}
 use Rattle.call_places.specs.declared.entries.Act.{Act}
 use Rattle.call_places.specs.declared.entries.Act.TheVariants as acts
@@ -10,15 +10,14 @@ use Rattle.call_places.specs.declared.entries.Step.TheVariants.{Note}
 use Rattle.call_places.specs.declared.entries.Entry.{Entry}
 use Rattle.call_places.specs.declared.entries.Mark.{Mark}
 use Rattle.call_places.specs.declared.entries.Place.{Place}
-use Rattle.call_places.specs.Entries.{stamps_of, StampsRise}
+use Rattle.call_places.specs.Entries.{StampsRise}
 use Rattle.call_places.specs.Notes.{AreLive}
 use Rattle.hpke_context.specs.Contexts.{ContextView}
 use Rattle.context_books.specs.Batches.{Batch, place}
 use Rattle.context_books.specs.Legal.{is_same_place}
 use Rattle.context_books.specs.Entries.{entry_places}
 use Rattle.context_books.specs.Guesses.{AllGuessed}
-use Rattle.context_books.specs.Histories.{LegalMarks, AreAllFrom0, all_stamps, marks_at}
-use Rattle.context_books.specs.Histories.{HasLowerStamp}
+use Rattle.context_books.specs.Histories.{LegalMarks, AreAllFrom0, HasLowerStamp, mark, stamps, marks_at}
 use Rattle.call_places.specs.Entries.{IsBefore}
 use Rattle.batch_plans.specs.declared.plan.Plan.{Plan}
 use Rattle.batch_plans.specs.declared.plan.CallLine.{CallLine}
@@ -36,7 +35,7 @@ use Rattle.reply_texts.specs.ReplyText.{all_lines, numbered}
 use Rattle.reply_texts.specs.LiveText.{tells_live, live_lines}
 use Rattle.due_replies.specs.Standing.{standing_at}
 use Rattle.due_replies.specs.Asks.{cipher_at}
-use Rattle.due_replies.specs.Runs.{Run, asks_of, journal_of, guesses_of, call_lines}
+use Rattle.due_replies.specs.Runs.{Run, run_along, asks_of, journal_of, guesses_of, call_lines}
 
 -- ---- which calls are noted
 
@@ -123,15 +122,23 @@ pub record LiveRun : Type 0 where
   pub guesses : List (List ℕ)
   pub notes : List Entry
 
+-- the run of a plan along these journals, with these guesses and this table
+abbrev pub live_run_along : Plan → List ContextReply → List (Option ContextView) → List (List Mark)
+    → List (List ℕ) → List Entry → LiveRun
+live_run_along plan replies standing journals guesses notes =
+    record {
+      plan = plan;
+      replies = replies;
+      standing = standing;
+      journals = journals;
+      guesses = guesses;
+      notes = notes;
+    }
+
 -- the run of the calls as they are served
 abbrev pub run_of : LiveRun → Run
 run_of live =
-    record {
-      plan = looked_up_plan live.plan live.notes;
-      contexts = live.standing;
-      journals = live.journals;
-      guesses = live.guesses;
-    }
+    run_along (looked_up_plan live.plan live.notes) live.standing live.journals live.guesses
 
 -- ---- the lines of a call
 
@@ -167,27 +174,26 @@ live_run_text keys live =
 
 -- ---- which tables, journals and guesses there may be
 
+-- In a lane a call has two numbers: at the first stands its note, and at the second its places.
+abbrev pub note_mark : Entry → Mark
+note_mark e = mark (place e.place.lane (2 * e.place.call) e.place.item) e.stamp
+
+abbrev pub call_mark : Mark → Mark
+call_mark m = mark (place m.place.lane (2 * m.place.call + 1) m.place.item) m.stamp
+
+-- the places of all journals, and the notes of the table
+abbrev pub events : List (List Mark) → List Entry → List Mark
+events journals notes = map call_mark (concat journals) ++ map note_mark notes
+
 -- The journals of all contexts and the table: the stamps merge them into one history.
 pub record LiveHistory (batch : Batch) (journals : List (List Mark)) (notes : List Entry)
     : Type 0 where
   pub each : (context : ℕ) → LegalMarks batch context (marks_at journals context)
   -- all stamps together are the numbers from 0 on, each once
-  pub stamped : AreAllFrom0 (all_stamps journals ++ stamps_of notes)
-  -- in a lane stamps rise by call, and in a call by item
-  pub in_order : (c d : ℕ) (m k : Mark)
-      → Contains (marks_at journals c) m → Contains (marks_at journals d) k
+  pub stamped : AreAllFrom0 (stamps (events journals notes))
+  -- in a lane stamps rise: by call, from a call's note to its places, and by item
+  pub in_order : (m k : Mark) → Contains (events journals notes) m → Contains (events journals notes) k
       → m.place.lane ≡ k.place.lane → IsBefore m.place k.place → HasLowerStamp m k
-  -- a lane's notes rise by call
-  pub noted_in_order : (e f : Entry) → Contains notes e → Contains notes f
-      → e.place.lane ≡ f.place.lane → e.place.call < f.place.call → e.stamp < f.stamp
-  -- a note comes after what its lane did in earlier calls
-  pub noted_after : (c : ℕ) (m : Mark) (e : Entry)
-      → Contains (marks_at journals c) m → Contains notes e
-      → m.place.lane ≡ e.place.lane → m.place.call < e.place.call → m.stamp < e.stamp
-  -- and before the places of its own call and of later ones
-  pub noted_before : (c : ℕ) (m : Mark) (e : Entry)
-      → Contains (marks_at journals c) m → Contains notes e
-      → m.place.lane ≡ e.place.lane → e.place.call < m.place.call + 1 → e.stamp < m.stamp
 
 -- each context has its journal, each lane its guesses; the table is legal, and one history with the
 -- journals; each guess may have been made

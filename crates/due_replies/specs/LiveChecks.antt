@@ -1,7 +1,7 @@
 -- The table and the journals as one history, and a test of both which computes. Each call stands for
 -- two: the first asks for the call's note, on a context of its own behind all others, and the second
 -- asks what the call asks. So the notes are a journal, and `LegalHistory` speaks of all.
-use Rattle.std.specs.Prelude.{ℕ, ◌≡◌, ◌+◌, ◌*◌, ◌==◌, ◌&&◌, Bool, true, false, not, List, [], ◌∷◌, ◌++◌, length, map, take, Contains, Option, Some, None, slice_get, slice_index_or}
+use Rattle.std.specs.Prelude.{ℕ, ◌≡◌, ◌+◌, ◌==◌, ◌&&◌, Bool, true, false, not, List, [], ◌∷◌, ◌++◌, length, map, take, Contains, Option, Some, None, slice_get, slice_index_or}
 use Rattle.std.specs.List.{list_all, range_with_len}
 use Rattle.call_places.specs.declared.entries.Act.{Act}
 use Rattle.call_places.specs.declared.entries.Act.TheVariants as acts
@@ -19,6 +19,7 @@ use Rattle.batch_plans.specs.declared.plan.CallLine.{CallLine}
 use Rattle.reply_texts.specs.ReplyText.{numbered}
 use Rattle.due_replies.specs.Asks.{ask_of}
 use Rattle.due_replies.specs.Live.{Noting, noting, noting_in, IsNoted, looked_up, looked_up_plan, LiveRun}
+pub use Rattle.due_replies.specs.Live.{note_mark, call_mark}
 
 -- ---- each call as two
 
@@ -41,14 +42,6 @@ asks_with_notes live =
     (λ lane calls. pairs (λ call. note_ask table (noting live.plan live.standing call))
     (λ number call. ask_of (looked_up_plan live.plan live.notes) live.standing
     (looked_up live.plan live.notes lane number call)) 0 calls) 0 live.plan.lanes
-
--- a note, as the place of the first of the two calls
-abbrev pub note_mark : Entry → Mark
-note_mark e = mark (place e.place.lane (2 * e.place.call) e.place.item) e.stamp
-
--- the place of the second
-abbrev pub call_mark : Mark → Mark
-call_mark m = mark (place m.place.lane (2 * m.place.call + 1) m.place.item) m.stamp
 
 -- the journals, and the table behind them
 abbrev pub with_table : LiveRun → List (List Mark)

@@ -30,6 +30,11 @@ pub record Run : Type 0 where
   pub journals : List (List Mark)
   pub guesses : List (List ℕ)
 
+-- the run of a plan along these journals, with these guesses
+abbrev pub run_along : Plan → List (Option ContextView) → List (List Mark) → List (List ℕ) → Run
+run_along plan contexts journals guesses =
+    record { plan = plan; contexts = contexts; journals = journals; guesses = guesses }
+
 -- what its calls ask
 abbrev pub asks_of : Run → Batch
 asks_of run = batch_of run.plan run.contexts
@@ -60,12 +65,12 @@ place_line run context p =
     answer_line_of
     (reply_of (asks_of run) (cipher_at run.contexts context) (journal_of run context) p)
 
--- the lines of an opening of n messages: one for each, and what it guessed
-abbrev pub opening_lines : Run → ℕ → ℕ → ℕ → ℕ → ℕ → List (List ℕ)
-opening_lines run lane number context n guess =
-    map (place_line run context) (block lane number 0 n)
-    ++ batch_line guess (missed_in (asks_of run) (cipher_at run.contexts context)
-    (journal_of run context) lane number n guess) ∷ []
+-- what the opening of n messages guessed, and how many of them it missed
+abbrev pub guessed_line : Run → ℕ → ℕ → ℕ → ℕ → List ℕ
+guessed_line run lane number context n =
+    let guess = guess_at (lane_of (asks_of run) lane) (guesses_of run lane) number in
+    batch_line guess (missed_in (asks_of run) (cipher_at run.contexts context)
+    (journal_of run context) lane number n guess)
 
 -- the line of an export (RFC 9180, 5.3)
 abbrev pub export_line : Option ContextView → List ℕ → ℕ → List ℕ
@@ -73,18 +78,34 @@ export_line None exporter_context size = []
 export_line (Some context) exporter_context size =
     exported_line (exported_by context exporter_context size)
 
--- the lines of a call that is served, by its lane and its number there
+-- the lines of a call's items, by its lane and its number there, where `line` gives that of a place on
+-- a context
+abbrev pub lines_of_items : (ℕ → Place → List ℕ) → Plan → List (Option ContextView) → ℕ → ℕ
+    → CallLine → List (List ℕ)
+lines_of_items line plan contexts lane number (calls.Seal context item) =
+    line context (place lane number 0) ∷ []
+lines_of_items line plan contexts lane number (calls.Unseal context item) =
+    line context (place lane number 0) ∷ []
+lines_of_items line plan contexts lane number (calls.UnsealAll context first count) =
+    map (line context) (block lane number 0 count)
+lines_of_items line plan contexts lane number (calls.Export context exporter size) =
+    export_line (standing_at contexts context) (span_bytes plan.pool exporter) size ∷ []
+lines_of_items line plan contexts lane number call = []
+
+-- those that are due
+abbrev pub item_lines : Run → ℕ → ℕ → CallLine → List (List ℕ)
+item_lines run = lines_of_items (place_line run) run.plan run.contexts
+
+-- an opening of several messages has the line of its guess behind them
+abbrev pub guess_lines : (ℕ → ℕ → ℕ → ℕ → List ℕ) → ℕ → ℕ → CallLine → List (List ℕ)
+guess_lines line lane number (calls.UnsealAll context first count) =
+    line lane number context count ∷ []
+guess_lines line lane number call = []
+
+-- the lines of a call that is served
 abbrev pub served_lines : Run → ℕ → ℕ → CallLine → List (List ℕ)
-served_lines run lane number (calls.Seal context item) =
-    place_line run context (place lane number 0) ∷ []
-served_lines run lane number (calls.Unseal context item) =
-    place_line run context (place lane number 0) ∷ []
-served_lines run lane number (calls.UnsealAll context first count) =
-    opening_lines run lane number context count
-    (guess_at (lane_of (asks_of run) lane) (guesses_of run lane) number)
-served_lines run lane number (calls.Export context exporter size) =
-    export_line (standing_at run.contexts context) (span_bytes run.plan.pool exporter) size ∷ []
-served_lines run lane number call = []
+served_lines run lane number call =
+    item_lines run lane number call ++ guess_lines (guessed_line run) lane number call
 
 -- a call that is refused has one line
 abbrev pub lines_unless : Option CallRefusal → List (List ℕ) → List (List ℕ)

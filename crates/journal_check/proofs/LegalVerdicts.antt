@@ -3,12 +3,11 @@ use Rattle.std.proofs.Common.{◌≡◌, ◌↔◌, ℕ, List, Option, sym, ◌�
 use Rattle.hpke_context.specs.Contexts.{ContextView}
 use Rattle.batch_plans.specs.Limits.{IsWithinLimits}
 use Rattle.batch_plans.specs.declared.plan.Plan.{Plan}
-use Rattle.due_replies.specs.Runs.{IsAllowed, run_text}
+use Rattle.due_replies.specs.Runs.{IsAllowed, run_text, run_along}
 use Rattle.context_table.specs.ReplyTo.{IsReply}
 use Rattle.context_table.proofs.OneSetUp.{one_set_up_lem}
 use Rattle.result_lines.specs.declared.verdicts.Verdict.{Verdict}
 use Rattle.result_lines.specs.declared.verdicts.Verdict.TheVariants.{Legal}
-use Rattle.result_lines.specs.Verdicts.{run_of}
 use Rattle.result_lines.proofs.LegalTexts.{sound, complete}
 use Rattle.journal_check.specs.Verdicts.{IsVerdict}
 
@@ -34,8 +33,8 @@ module _ (plan : Plan) (text : List ℕ) (verdict : Verdict) (within : IsWithinL
       ∙ complete plan v.keys v.contexts v.standing text within v.set_up.standing_count (
         r.journals,
         r.guesses,
-        subst (λ (standing : List (Option ContextView)). IsAllowed (run_of plan standing r.journals r.guesses)) same.2 r.allowed,
-        r.text_is ∙ (λ i. run_text (same.0 i) (same.1 i) (run_of plan (same.2 i) r.journals r.guesses)),
+        subst (λ (standing : List (Option ContextView)). IsAllowed (run_along plan standing r.journals r.guesses)) same.2 r.allowed,
+        r.text_is ∙ (λ i. run_text (same.0 i) (same.1 i) (run_along plan (same.2 i) r.journals r.guesses)),
       )
 
   pub legal_iff_reply : (verdict ≡ Legal) ↔ IsReply plan text

@@ -5,12 +5,11 @@ use Rattle.hpke_context.specs.Contexts.{ContextView}
 use Rattle.batch_plans.specs.Limits.{IsWithinLimits}
 use Rattle.batch_plans.specs.declared.plan.Plan.{Plan}
 use Rattle.batch_plans.specs.declared.replies.ContextReply.{ContextReply}
-use Rattle.due_replies.specs.Live.{IsAllowedLive, live_run_text}
+use Rattle.due_replies.specs.Live.{IsAllowedLive, live_run_text, live_run_along}
 use Rattle.context_table.specs.ReplyTo.{IsLiveReply}
 use Rattle.context_table.proofs.OneSetUp.{one_set_up_lem}
 use Rattle.result_lines.specs.declared.verdicts.Verdict.{Verdict}
 use Rattle.result_lines.specs.declared.verdicts.Verdict.TheVariants.{Legal}
-use Rattle.result_lines.specs.LiveVerdicts.{live_of}
 use Rattle.result_lines.proofs.LiveTexts.{live_sound, live_complete_texts}
 use Rattle.journal_check.specs.Verdicts.{IsLiveVerdict}
 
@@ -38,9 +37,9 @@ module _ (plan : Plan) (text : List ℕ) (verdict : Verdict) (within : IsWithinL
         r.journals,
         r.guesses,
         r.notes,
-        subst (λ (replies : List ContextReply). IsAllowedLive (live_of plan replies v.standing r.journals r.guesses r.notes)) same.1
-            (subst (λ (standing : List (Option ContextView)). IsAllowedLive (live_of plan r.contexts standing r.journals r.guesses r.notes)) same.2 r.allowed),
-        r.text_is ∙ (λ i. live_run_text (same.0 i) (live_of plan (same.1 i) (same.2 i) r.journals r.guesses r.notes)),
+        subst (λ (replies : List ContextReply). IsAllowedLive (live_run_along plan replies v.standing r.journals r.guesses r.notes)) same.1
+            (subst (λ (standing : List (Option ContextView)). IsAllowedLive (live_run_along plan r.contexts standing r.journals r.guesses r.notes)) same.2 r.allowed),
+        r.text_is ∙ (λ i. live_run_text (same.0 i) (live_run_along plan (same.1 i) (same.2 i) r.journals r.guesses r.notes)),
       )
 
   pub legal_iff_live_reply : (verdict ≡ Legal) ↔ IsLiveReply plan text

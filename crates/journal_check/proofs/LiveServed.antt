@@ -11,9 +11,9 @@ use Rattle.batch_plans.specs.Calls.{context_of}
 use Rattle.batch_plans.specs.Limits.{first_name}
 use Rattle.batch_plans.specs.Names.{at_position}
 use Rattle.reply_texts.specs.ReplyText.{all_lines, numbered}
-use Rattle.due_replies.specs.Live.{LiveRun, run_of, was_live, looked_up}
+use Rattle.due_replies.specs.Live.{LiveRun, run_of, was_live, looked_up, live_run_along}
 use Rattle.due_replies.specs.Runs.{Run}
-use Rattle.result_lines.specs.LiveVerdicts.{live_of, live_reply_lines, live_lane_replies, live_replies}
+use Rattle.result_lines.specs.LiveVerdicts.{live_reply_lines, live_lane_replies, live_replies}
 use Rattle.result_lines.specs.Replies.{reply_lines, lane_replies, all_replies}
 use Rattle.journal_check.specs.declared.tables.Table.{Table}
 use Rattle.journal_check.specs.Served.{due_lines, lane_due, all_due}
@@ -26,7 +26,7 @@ module _ (plan : Plan) (contexts : List (Option ContextView)) (table : Table) (j
   written_plan = written plan table.calls.now
 
   abbrev live : LiveRun
-  live = live_of written_plan table.adds.now contexts journals guesses table.notes.now
+  live = live_run_along written_plan table.adds.now contexts journals guesses table.notes.now
 
   abbrev lines_of : ℕ → ℕ → CallLine → List (List ℕ)
   lines_of lane number call = due_lines (Some table) (run_of live) lane number call

@@ -18,10 +18,9 @@ use Rattle.batch_plans.specs.declared.plan.Plan.{Plan}
 use Rattle.batch_plans.specs.Limits.{IsWithinLimits}
 use Rattle.due_replies.specs.Standing.{standing_at}
 use Rattle.due_replies.specs.Asks.{batch_of, cipher_in, cipher_at}
-use Rattle.due_replies.specs.Runs.{Run, asks_of, journal_of, answer_line}
+use Rattle.due_replies.specs.Runs.{Run, asks_of, journal_of, answer_line, run_along}
 use Rattle.journal_check.specs.declared.runs.JournalRun.{JournalRun}
 use Rattle.result_lines.specs.Journals.{broken_journal}
-use Rattle.result_lines.specs.Verdicts.{run_of}
 use Rattle.journal_check.specs.Passing.{AreNumbersOf, AreLegal}
 use Rattle.journal_check.specs.Runs.{items_at, AreRuns, AreFor}
 use Rattle.journal_check.specs.Walks.{AreRepliesOf, HaveLanes, WasRun}
@@ -75,7 +74,7 @@ module _ (plan : Plan) (contexts : List (Option ContextView)) (journals : List (
     | inr high ↦ subst (All (IsLine plan)) (sym (get_or_past plan.lanes lane [] high)) (λ k d lt. absurd (omega arith))
   ]
 
-  have_lanes : (guesses : List (List ℕ)) → HaveLanes (run_of plan contexts journals guesses)
+  have_lanes : (guesses : List (List ℕ)) → HaveLanes (run_along plan contexts journals guesses)
   have_lanes guesses lane c low =
       lane_is (batch_of plan contexts) c (places (marks_at journals c)) (each_legal c low) lane
       ∙ ap (λ (asks : List Ask). on c (all_asked lane 0 asks)) (asks_of_lane plan contexts lane)
@@ -93,9 +92,9 @@ module _ (plan : Plan) (contexts : List (Option ContextView)) (journals : List (
 
   -- each journal was run
   pub was_run : (guesses : List (List ℕ)) (runs : List JournalRun) → length guesses ≡ length plan.lanes → length contexts ≡ length journals → length runs ≡ length journals
-      → AreRuns plan contexts journals runs → WasRun (run_of plan contexts journals guesses) runs
+      → AreRuns plan contexts journals runs → WasRun (run_along plan contexts journals guesses) runs
   was_run guesses runs lanes_size size many are =
-      let run = run_of plan contexts journals guesses in
+      let run = run_along plan contexts journals guesses in
       record {
         within = within;
         lanes_size = lanes_size;

@@ -6,9 +6,8 @@ use Rattle.call_places.specs.declared.entries.Mark.{Mark}
 use Rattle.hpke_context.specs.Contexts.{ContextView}
 use Rattle.batch_plans.specs.declared.plan.Plan.{Plan}
 use Rattle.batch_plans.specs.declared.plan.CallLine.{CallLine}
-use Rattle.due_replies.specs.Live.{Noting, noting, LiveRun}
+use Rattle.due_replies.specs.Live.{Noting, noting, LiveRun, live_run_along}
 use Rattle.due_replies.specs.LiveChecks.{note_ask, note_mark, call_mark}
-use Rattle.result_lines.specs.LiveVerdicts.{live_of}
 use Rattle.journal_check.specs.declared.asks.Asked.{Asked}
 use Rattle.journal_check.specs.Asks.{size_in, size_of}
 
@@ -20,7 +19,7 @@ written plan calls = record plan { lanes = calls }
 abbrev pub live_along : Plan → List (Option ContextView) → List (List CallLine) → List (List Mark)
     → List Entry → LiveRun
 live_along plan standing calls journals notes =
-    live_of (written plan calls) [] standing journals [] notes
+    live_run_along (written plan calls) [] standing journals [] notes
 
 abbrev pub is_standing : Option ContextView → Bool
 is_standing None = false

@@ -10,7 +10,7 @@ use Rattle.lane_workers.specs.Showing.{Closes}
 use Rattle.batch_plans.specs.declared.plan.Plan.{Plan}
 use Rattle.batch_plans.specs.declared.replies.LaneAnswers.{LaneAnswers}
 use Rattle.reply_texts.specs.ReplyText.{numbered, lanes_lines}
-use Rattle.due_replies.specs.Runs.{lane_call_lines, IsAllowed}
+use Rattle.due_replies.specs.Runs.{run_along, lane_call_lines, IsAllowed}
 use Rattle.lane_workers.specs.Served.{seen_of, LaneIsServed}
 
 -- a lane that isn't there answers nothing
@@ -39,15 +39,6 @@ pub record AllClosed (plan : Plan) (passes : List (List (Option PassView)))
 pub record AreOfARun (plan : Plan) (contexts : List (Option ContextView))
     (answers : List LaneAnswers) (journals : List (List Mark)) : Type 0 where
   pub guesses : List (List ℕ)
-  pub allowed : IsAllowed (record {
-    plan = plan;
-    contexts = contexts;
-    journals = journals;
-    guesses = guesses;
-  })
-  pub lines : lanes_lines plan.lanes answers ≡ numbered (lane_call_lines (record {
-    plan = plan;
-    contexts = contexts;
-    journals = journals;
-    guesses = guesses;
-  })) 0 plan.lanes
+  pub allowed : IsAllowed (run_along plan contexts journals guesses)
+  pub lines : lanes_lines plan.lanes answers
+      ≡ numbered (lane_call_lines (run_along plan contexts journals guesses)) 0 plan.lanes

@@ -14,7 +14,7 @@ use Rattle.batch_plans.specs.declared.replies.ContextReply.{ContextReply}
 use Rattle.batch_plans.specs.declared.replies.LaneAnswers.{LaneAnswers}
 use Rattle.reply_texts.specs.ReplyText.{numbered}
 use Rattle.reply_texts.specs.LiveText.{lanes_given}
-use Rattle.due_replies.specs.Live.{live_lane_lines, IsAllowedLive}
+use Rattle.due_replies.specs.Live.{live_run_along, live_lane_lines, IsAllowedLive}
 use Rattle.lane_workers.specs.Served.{seen_of}
 use Rattle.lane_workers.specs.LiveServed.{LiveLaneIsServed}
 use Rattle.lane_workers.specs.Gathered.{no_answers}
@@ -49,19 +49,6 @@ pub record AreOfALiveRun (plan : Plan) (replies : List ContextReply)
     (standing : List (Option ContextView)) (answers : List LaneAnswers)
     (journals : List (List Mark)) (notes : List Entry) : Type 0 where
   pub guesses : List (List ℕ)
-  pub allowed : IsAllowedLive (record {
-    plan = plan;
-    replies = replies;
-    standing = standing;
-    journals = journals;
-    guesses = guesses;
-    notes = notes;
-  })
-  pub lines : lanes_given plan.lanes answers ≡ numbered (live_lane_lines (record {
-    plan = plan;
-    replies = replies;
-    standing = standing;
-    journals = journals;
-    guesses = guesses;
-    notes = notes;
-  })) 0 plan.lanes
+  pub allowed : IsAllowedLive (live_run_along plan replies standing journals guesses notes)
+  pub lines : lanes_given plan.lanes answers
+      ≡ numbered (live_lane_lines (live_run_along plan replies standing journals guesses notes)) 0 plan.lanes

@@ -18,7 +18,7 @@ use Rattle.reply_texts.specs.Lines.{batch_line}
 use Rattle.reply_texts.specs.ReplyText.{numbered, all_lines, answered_lines}
 use Rattle.due_replies.specs.Standing.{standing_at, call_refusal}
 use Rattle.due_replies.specs.Asks.{batch_of, cipher_at}
-use Rattle.due_replies.specs.Runs.{answer_line, export_line, lines_unless}
+use Rattle.due_replies.specs.Runs.{answer_line, lines_of_items, guess_lines, lines_unless}
 
 -- ---- what a lane says of its calls
 
@@ -29,19 +29,17 @@ pub record Told : Type 0 where
   pub guesses : List ℕ
   pub misses : List ℕ
 
+-- the line of the guess that an opening of several messages tells
+abbrev pub told_guess : Plan → List (Option ContextView) → Told → ℕ → ℕ → ℕ → ℕ → List ℕ
+told_guess plan contexts told lane number context n =
+    let asks = lane_of (batch_of plan contexts) lane in
+    batch_line (guess_at asks told.guesses number) (guess_at asks told.misses number)
+
 -- the lines of a call that is served, by its lane and its number there
 abbrev pub told_served : Plan → List (Option ContextView) → Told → ℕ → ℕ → CallLine → List (List ℕ)
-told_served plan contexts told lane number (calls.Seal context item) =
-    answer_line (told.replies (place lane number 0)) ∷ []
-told_served plan contexts told lane number (calls.Unseal context item) =
-    answer_line (told.replies (place lane number 0)) ∷ []
-told_served plan contexts told lane number (calls.UnsealAll context first count) =
-    let asks = lane_of (batch_of plan contexts) lane in
-    map (λ p. answer_line (told.replies p)) (block lane number 0 count)
-    ++ batch_line (guess_at asks told.guesses number) (guess_at asks told.misses number) ∷ []
-told_served plan contexts told lane number (calls.Export context exporter size) =
-    export_line (standing_at contexts context) (span_bytes plan.pool exporter) size ∷ []
-told_served plan contexts told lane number call = []
+told_served plan contexts told lane number call =
+    lines_of_items (λ context p. answer_line (told.replies p)) plan contexts lane number call
+    ++ guess_lines (told_guess plan contexts told) lane number call
 
 abbrev pub told_lines : Plan → List (Option ContextView) → Told → ℕ → ℕ → CallLine → List (List ℕ)
 told_lines plan contexts told lane number call =

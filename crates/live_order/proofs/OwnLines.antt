@@ -33,10 +33,10 @@ use Rattle.reply_texts.proofs.Calls.{HasReplies-one, calls_lines-append, calls_l
 use Rattle.due_replies.specs.Asks.{cipher_at}
 use Rattle.due_replies.specs.Live.{LiveRun, run_of, was_live, looked_up, live_call_lines, add_line, retire_line}
 use Rattle.due_replies.specs.Lanes.{calls_of}
-use Rattle.due_replies.specs.Runs.{Run, asks_of, journal_of, guesses_of, answer_line, answer_line_of, place_line, lines_unless, served_lines, call_lines}
+use Rattle.due_replies.specs.Runs.{Run, asks_of, journal_of, guesses_of, answer_line, answer_line_of, place_line, lines_unless, served_lines, call_lines, item_lines}
 use Rattle.due_replies.specs.Standing.{call_refusal}
 use Rattle.result_lines.specs.PrintedLive.{IsReply}
-use Rattle.result_lines.specs.Replies.{item_lines, reply_lines}
+use Rattle.result_lines.specs.Replies.{reply_lines}
 use Rattle.result_lines.proofs.DueReplies.{replies_are}
 use Rattle.result_lines.proofs.Limited.{IsLine}
 use Rattle.result_lines.proofs.RunTexts.{replies_count, drop_step}

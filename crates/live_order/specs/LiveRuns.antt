@@ -5,19 +5,12 @@ use Rattle.batch_plans.specs.declared.plan.Plan.{Plan}
 use Rattle.batch_plans.specs.declared.replies.Answers.{Answers}
 use Rattle.reply_texts.specs.ReplyText.{numbered}
 use Rattle.reply_texts.specs.LiveText.{lanes_given}
-use Rattle.due_replies.specs.Live.{LiveRun, IsAllowedLive, live_lane_lines}
+use Rattle.due_replies.specs.Live.{LiveRun, live_run_along, IsAllowedLive, live_lane_lines}
 
 -- the run of these answers, with these guesses
 abbrev pub live_run : Plan → List (Option ContextView) → Answers → List (List ℕ) → LiveRun
 live_run plan standing answers guesses =
-    record {
-      plan = plan;
-      replies = answers.contexts;
-      standing = standing;
-      journals = answers.journals;
-      guesses = guesses;
-      notes = answers.notes;
-    }
+    live_run_along plan answers.contexts standing answers.journals guesses answers.notes
 
 -- with some guesses the answers are those of a run that is allowed
 pub record IsALiveRun (plan : Plan) (standing : List (Option ContextView)) (answers : Answers)

@@ -24,13 +24,13 @@ use Rattle.batch_plans.specs.Limits.{items_from, IsWithinLimits}
 use Rattle.reply_texts.specs.ReplyText.{all_lines, numbered}
 use Rattle.due_replies.specs.Standing.{standing_at, refusal_on, call_refusal}
 use Rattle.due_replies.specs.Asks.{asked_by, cipher_at}
-use Rattle.due_replies.specs.Runs.{Run, asks_of, journal_of, answer_line_of, place_line, export_line, lines_unless}
+use Rattle.due_replies.specs.Runs.{Run, asks_of, journal_of, answer_line_of, place_line, export_line, lines_unless, item_lines}
 use Rattle.due_replies.specs.Lanes.{calls_of}
 use Rattle.due_replies.proofs.Done.{ask_served, length-messages}
 use Rattle.result_lines.specs.Places.{with_feed}
 use Rattle.result_lines.specs.PrintedLive.{IsReply}
 use Rattle.result_lines.specs.Told.{ReplyView}
-use Rattle.result_lines.specs.Replies.{item_lines, reply_lines, lane_replies, all_replies, wrong_reply}
+use Rattle.result_lines.specs.Replies.{reply_lines, lane_replies, all_replies, wrong_reply}
 use Rattle.result_lines.proofs.Limited.{lines_of_limits}
 use Rattle.result_lines.proofs.Limited as limited
 use Rattle.result_lines.proofs.RunTexts.{drop_step}

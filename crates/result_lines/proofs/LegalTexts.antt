@@ -24,7 +24,7 @@ use Rattle.batch_plans.specs.declared.replies.ContextReply.{ContextReply}
 use Rattle.reply_texts.specs.ReplyText.{all_lines, numbered, has_stamps, lane_lines, mark_line, journal_lines, version_line}
 use Rattle.reply_texts.specs.Lines.{key_line, context_line}
 use Rattle.due_replies.specs.Asks.{ask_of, batch_of, cipher_at}
-use Rattle.due_replies.specs.Runs.{Run, asks_of, journal_of, guesses_of, IsAllowed, run_text}
+use Rattle.due_replies.specs.Runs.{Run, asks_of, journal_of, guesses_of, IsAllowed, run_text, run_along}
 use Rattle.due_replies.proofs.Done.{lane_asks}
 use Rattle.result_lines.specs.declared.told.GuessLine.{GuessLine}
 use Rattle.result_lines.specs.Told.{ToldView, told_by}
@@ -42,7 +42,7 @@ use Rattle.result_lines.specs.Journals.{broken_journal, is_one_history}
 use Rattle.result_lines.specs.OneRun.{PrintTheSame}
 use Rattle.result_lines.specs.Opened.{opened_with, opened}
 use Rattle.result_lines.specs.Replies.{all_replies, wrong_reply}
-use Rattle.result_lines.specs.Verdicts.{run_of, run_told, by_guess, by_reply, by_stamps, by_journal, verdict_on, by_form}
+use Rattle.result_lines.specs.Verdicts.{run_told, by_guess, by_reply, by_stamps, by_journal, verdict_on, by_form}
 use Rattle.result_lines.proofs.Counting.{journal_few, number_low}
 use Rattle.result_lines.proofs.DueReplies.{due_told, told_due, replies_are_lines}
 use Rattle.result_lines.proofs.LegalJournals.{each_legal, legal_none, legal_one, opening_size, passed_legal, as_printed}
@@ -232,8 +232,8 @@ opened_guesses run counted k (calls ∷ lanes) (own ∷ guesses) lanes_are guess
 module _ (plan : Plan) (keys : List KeyReply) (replies : List ContextReply) (contexts : List (Option ContextView)) (text : List ℕ) (within : IsWithinLimits plan)
     (standing : length contexts ≡ length plan.contexts) where
   abbrev Replies : Type 0
-  Replies = (journals : List (List Mark)) × (guesses : List (List ℕ)) × IsAllowed (run_of plan contexts journals guesses)
-      × (text ≡ run_text keys replies (run_of plan contexts journals guesses))
+  Replies = (journals : List (List Mark)) × (guesses : List (List ℕ)) × IsAllowed (run_along plan contexts journals guesses)
+      × (text ≡ run_text keys replies (run_along plan contexts journals guesses))
 
   pub sound : by_form plan contexts (told_by plan keys replies contexts text) ≡ verdicts.Legal → Replies
   sound e =
@@ -293,10 +293,10 @@ module _ (plan : Plan) (keys : List KeyReply) (replies : List ContextReply) (con
     stamps_are : has_stamps plan.version ≡ true → told.journals ≡ journals
     legal : verdict_on plan contexts told ≡ verdicts.Legal
 
-  back : (journals : List (List Mark)) (guesses : List (List ℕ)) → IsAllowed (run_of plan contexts journals guesses)
-      → text ≡ run_text keys replies (run_of plan contexts journals guesses) → Back journals guesses
+  back : (journals : List (List Mark)) (guesses : List (List ℕ)) → IsAllowed (run_along plan contexts journals guesses)
+      → text ≡ run_text keys replies (run_along plan contexts journals guesses) → Back journals guesses
   back journals guesses allowed is =
-      let start = run_of plan contexts journals guesses in
+      let start = run_along plan contexts journals guesses in
       let stamps = has_stamps plan.version in
       let batch = batch_of plan contexts in
       let p = as_printed plan contexts within stamps journals allowed.legal in
@@ -315,7 +315,7 @@ module _ (plan : Plan) (keys : List KeyReply) (replies : List ContextReply) (con
       let read : told_by plan keys replies contexts text ≡ Ok told = ap (told_by plan keys replies contexts) text_is ∙ again.is in
       let guesses_are : map numbers_told told.lanes ≡ guesses =
       numbers_of told.lanes ∙ ap (map (map (λ (b : Batch). b.guess))) again.guesses_are ∙ opened_guesses run counted 0 plan.lanes guesses refl refl (sym allowed.lanes) in
-      let run_is : run_told plan contexts told ≡ run = (λ i. run_of plan contexts (again.journals_are i) (guesses_are i)) in
+      let run_is : run_told plan contexts told ≡ run = (λ i. run_along plan contexts (again.journals_are i) (guesses_are i)) in
       record {
         told = told;
         read = read;
@@ -341,9 +341,9 @@ module _ (plan : Plan) (keys : List KeyReply) (replies : List ContextReply) (con
 
   -- ---- a text is that of one run
 
-  pub one_run : (journals others : List (List Mark)) (guesses further : List (List ℕ)) → IsAllowed (run_of plan contexts journals guesses)
-      → IsAllowed (run_of plan contexts others further) → text ≡ run_text keys replies (run_of plan contexts journals guesses)
-      → text ≡ run_text keys replies (run_of plan contexts others further) → PrintTheSame (run_of plan contexts journals guesses) (run_of plan contexts others further)
+  pub one_run : (journals others : List (List Mark)) (guesses further : List (List ℕ)) → IsAllowed (run_along plan contexts journals guesses)
+      → IsAllowed (run_along plan contexts others further) → text ≡ run_text keys replies (run_along plan contexts journals guesses)
+      → text ≡ run_text keys replies (run_along plan contexts others further) → PrintTheSame (run_along plan contexts journals guesses) (run_along plan contexts others further)
   one_run journals others guesses further first second is also =
       let a = back journals guesses first is in
       let b = back others further second also in

@@ -24,7 +24,7 @@ use Rattle.batch_plans.specs.declared.replies.Batch.{Batch}
 use Rattle.batch_plans.specs.declared.replies.KeyReply.{KeyReply}
 use Rattle.batch_plans.specs.declared.replies.ContextReply.{ContextReply}
 use Rattle.due_replies.specs.Asks.{ask_of}
-use Rattle.due_replies.specs.Live.{LiveRun, run_of, LegalTable, LiveHistory, IsAllowedLive, live_run_text}
+use Rattle.due_replies.specs.Live.{LiveRun, run_of, LegalTable, LiveHistory, IsAllowedLive, live_run_text, live_run_along}
 use Rattle.due_replies.specs.LiveChecks.{asks_with_notes, with_table, note_mark, call_mark, tells_act, tells_live_at, is_live_history}
 use Rattle.due_replies.specs.Runs.{asks_of, journal_of, guesses_of}
 use Rattle.due_replies.proofs.LiveChecked.{live_history_iff}
@@ -40,7 +40,7 @@ use Rattle.result_lines.proofs.TookLive.{told_live_took}
 use Rattle.result_lines.specs.declared.verdicts.Verdict.TheVariants as verdicts
 use Rattle.result_lines.specs.Guesses.{wrong_guesses}
 use Rattle.result_lines.specs.Journals.{broken_journal, stamps_rise}
-use Rattle.result_lines.specs.LiveVerdicts.{live_of, live_told, is_table, live_replies, by_live_journal, by_table, live_verdict_on, live_by_form}
+use Rattle.result_lines.specs.LiveVerdicts.{live_told, is_table, live_replies, by_live_journal, by_table, live_verdict_on, live_by_form}
 use Rattle.result_lines.specs.OneRun.{AreOneLiveRun}
 use Rattle.result_lines.specs.Replies.{wrong_reply}
 use Rattle.result_lines.specs.Verdicts.{by_stamps, by_reply, by_guess}
@@ -126,7 +126,7 @@ module _ (live : LiveRun) (within : IsWithinLimits live.plan) (legal : LegalTabl
 
 module _ (plan : Plan) (keys : List KeyReply) (replies : List ContextReply) (standing : List (Option ContextView)) (text : List ℕ) (within : IsWithinLimits plan) where
   abbrev live_at : List (List Mark) → List (List ℕ) → List Entry → LiveRun
-  live_at journals guesses notes = live_of plan replies standing journals guesses notes
+  live_at journals guesses notes = live_run_along plan replies standing journals guesses notes
 
   abbrev Replies : Type 0
   Replies = (journals : List (List Mark)) × (guesses : List (List ℕ)) × (notes : List Entry) × IsAllowedLive (live_at journals guesses notes)

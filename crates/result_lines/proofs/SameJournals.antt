@@ -11,9 +11,9 @@ use Rattle.batch_plans.specs.declared.plan.CallLine.TheVariants as calls
 use Rattle.reply_texts.specs.ReplyText.{all_lines, numbered}
 use Rattle.due_replies.specs.Standing.{call_refusal}
 use Rattle.due_replies.specs.Asks.{ask_of, cipher_at}
-use Rattle.due_replies.specs.Runs.{Run, asks_of, journal_of, guesses_of, answer_line_of, place_line, lines_unless}
+use Rattle.due_replies.specs.Runs.{Run, asks_of, journal_of, guesses_of, answer_line_of, place_line, lines_unless, item_lines}
 use Rattle.result_lines.specs.Opened.{opened}
-use Rattle.result_lines.specs.Replies.{item_lines, reply_lines, all_replies}
+use Rattle.result_lines.specs.Replies.{reply_lines, all_replies}
 use Rattle.result_lines.proofs.RunTexts.{all_opened}
 
 module _ (run : Run) (journals : List (List Mark)) (same : (context : ℕ) → places (marks_at journals context) ≡ journal_of run context) where

@@ -13,7 +13,7 @@ use Rattle.batch_plans.specs.declared.replies.ContextReply.{ContextReply}
 use Rattle.batch_plans.specs.Limits.{first_name}
 use Rattle.batch_plans.specs.Names.{line_count}
 use Rattle.reply_texts.specs.ReplyText.{all_lines, numbered}
-use Rattle.due_replies.specs.Live.{LiveRun, run_of, was_live, looked_up, add_line, retire_line}
+use Rattle.due_replies.specs.Live.{LiveRun, run_of, was_live, looked_up, add_line, retire_line, live_run_along}
 use Rattle.due_replies.specs.LiveChecks.{asks_with_notes, note_mark, tells_act, tells_live_at, is_live_history}
 use Rattle.due_replies.specs.Runs.{asks_of}
 use Rattle.result_lines.specs.declared.told.GuessLine.{GuessLine}
@@ -27,24 +27,11 @@ use Rattle.result_lines.specs.Verdicts.{by_stamps, by_reply, by_guess}
 
 -- ---- the run that is told
 
--- a run of the plan along these journals, with these guesses and this table
-abbrev pub live_of : Plan → List ContextReply → List (Option ContextView) → List (List Mark)
-    → List (List ℕ) → List Entry → LiveRun
-live_of plan replies standing journals guesses notes =
-    record {
-      plan = plan;
-      replies = replies;
-      standing = standing;
-      journals = journals;
-      guesses = guesses;
-      notes = notes;
-    }
-
 -- the journals and the guesses that a result tells, with the notes of its table
 abbrev pub live_told : Plan → List ContextReply → List (Option ContextView) → List Entry → ToldView
     → LiveRun
 live_told plan replies standing notes told =
-    live_of plan replies standing told.journals
+    live_run_along plan replies standing told.journals
     (map (map (λ (told : GuessLine). told.guess.guess)) told.lanes) notes
 
 -- ---- the table

@@ -7,22 +7,9 @@ use Rattle.batch_plans.specs.declared.plan.CallLine.{CallLine}
 use Rattle.batch_plans.specs.declared.plan.CallLine.TheVariants as calls
 use Rattle.reply_texts.specs.ReplyText.{all_lines, numbered}
 use Rattle.due_replies.specs.Standing.{standing_at, call_refusal}
-use Rattle.due_replies.specs.Runs.{Run, place_line, export_line, lines_unless}
+use Rattle.due_replies.specs.Runs.{Run, item_lines, lines_unless}
 use Rattle.result_lines.specs.Places.{with_feed}
 use Rattle.result_lines.specs.Told.{ReplyView}
-
--- those to the items of a call that is served
-abbrev pub item_lines : Run → ℕ → ℕ → CallLine → List (List ℕ)
-item_lines run lane number (calls.Seal context item) =
-    place_line run context (place lane number 0) ∷ []
-item_lines run lane number (calls.Unseal context item) =
-    place_line run context (place lane number 0) ∷ []
-item_lines run lane number (calls.UnsealAll context first count) =
-    map (place_line run context) (block lane number 0 count)
-item_lines run lane number (calls.Export context exporter size) =
-    export_line (standing_at run.contexts context) (span_bytes run.plan.pool exporter) size ∷ []
-item_lines run lane number (calls.Add name) = []
-item_lines run lane number (calls.Retire name) = []
 
 -- those to a call
 abbrev pub reply_lines : Run → ℕ → ℕ → CallLine → List (List ℕ)

@@ -5,7 +5,7 @@ use Rattle.call_places.specs.declared.entries.Mark.{Mark}
 use Rattle.hpke_context.specs.Contexts.{ContextView}
 use Rattle.batch_plans.specs.declared.plan.Plan.{Plan}
 use Rattle.reply_texts.specs.ReplyText.{has_stamps}
-use Rattle.due_replies.specs.Runs.{Run, asks_of}
+use Rattle.due_replies.specs.Runs.{Run, asks_of, run_along}
 use Rattle.result_lines.specs.declared.told.GuessLine.{GuessLine}
 use Rattle.result_lines.specs.Told.{ToldView}
 use Rattle.result_lines.specs.declared.verdicts.Verdict.{Verdict}
@@ -16,15 +16,10 @@ use Rattle.result_lines.specs.Guesses.{wrong_guesses}
 
 -- ---- one result
 
--- a run of the plan along these journals, with these guesses
-abbrev pub run_of : Plan → List (Option ContextView) → List (List Mark) → List (List ℕ) → Run
-run_of plan contexts journals guesses =
-    record { plan = plan; contexts = contexts; journals = journals; guesses = guesses }
-
 -- the journals and the guesses that a result tells, as a run of the plan
 abbrev pub run_told : Plan → List (Option ContextView) → ToldView → Run
 run_told plan contexts told =
-    run_of plan contexts told.journals
+    run_along plan contexts told.journals
     (map (map (λ (told : GuessLine). told.guess.guess)) told.lanes)
 
 -- a guess that isn't right, or nothing

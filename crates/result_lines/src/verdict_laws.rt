@@ -8,15 +8,15 @@ ghost use Rattle.batch_plans.specs.declared.plan.Plan.{Plan};
 ghost use Rattle.batch_plans.specs.declared.replies.KeyReply.{KeyReply};
 ghost use Rattle.batch_plans.specs.declared.replies.ContextReply.{ContextReply};
 ghost use Rattle.batch_plans.specs.Limits.{IsWithinLimits};
-ghost use Rattle.due_replies.specs.Live.{IsAllowedLive, live_run_text};
-ghost use Rattle.due_replies.specs.Runs.{IsAllowed, run_text};
+ghost use Rattle.due_replies.specs.Live.{IsAllowedLive, live_run_text, live_run_along};
+ghost use Rattle.due_replies.specs.Runs.{IsAllowed, run_text, run_along};
 ghost use Rattle.result_lines.specs.Tables.{table_told};
 ghost use Rattle.result_lines.specs.Told.{told_by};
 ghost use Rattle.result_lines.specs.ToldLive.{told_live_by};
 ghost use Rattle.result_lines.specs.declared.verdicts.Verdict.{Verdict};
-ghost use Rattle.result_lines.specs.LiveVerdicts.{live_of, live_by_form};
+ghost use Rattle.result_lines.specs.LiveVerdicts.{live_by_form};
 ghost use Rattle.result_lines.specs.OneRun.{PrintTheSame, AreOneLiveRun};
-ghost use Rattle.result_lines.specs.Verdicts.{by_form, run_of};
+ghost use Rattle.result_lines.specs.Verdicts.{by_form};
 
 /// Over given replies to the set-up and given contexts a text is legal exactly where there are
 /// journals and guesses that are allowed and whose text it is.
@@ -26,8 +26,8 @@ pub fn legal_texts_are_those_of_allowed_runs()
         → length contexts ≡ length plan.contexts
         → (by_form plan contexts (told_by plan keys replies contexts text) ≡ Verdict.Legal)
         ↔ ((journals : List (List Mark)) × (guesses : List (List ℕ))
-        × IsAllowed (run_of plan contexts journals guesses)
-        × (text ≡ run_text keys replies (run_of plan contexts journals guesses))) }
+        × IsAllowed (run_along plan contexts journals guesses)
+        × (text ≡ run_text keys replies (run_along plan contexts journals guesses))) }
 {}
 
 /// A text is that of one run alone: two runs that are allowed and have one text have the same
@@ -37,12 +37,12 @@ pub fn a_text_tells_one_run()
         (contexts : List (Option ContextView)) (journals others : List (List Mark))
         (guesses further : List (List ℕ)) → IsWithinLimits plan
         → length contexts ≡ length plan.contexts
-        → IsAllowed (run_of plan contexts journals guesses)
-        → IsAllowed (run_of plan contexts others further)
-        → run_text keys replies (run_of plan contexts journals guesses)
-        ≡ run_text keys replies (run_of plan contexts others further)
-        → PrintTheSame (run_of plan contexts journals guesses)
-        (run_of plan contexts others further) }
+        → IsAllowed (run_along plan contexts journals guesses)
+        → IsAllowed (run_along plan contexts others further)
+        → run_text keys replies (run_along plan contexts journals guesses)
+        ≡ run_text keys replies (run_along plan contexts others further)
+        → PrintTheSame (run_along plan contexts journals guesses)
+        (run_along plan contexts others further) }
 {}
 
 /// Over given replies to the set-up and given contexts a text is legal, as a result whose lanes add
@@ -55,8 +55,8 @@ pub fn legal_live_texts_are_those_of_allowed_runs()
         (told_live_by plan keys replies standing (table_told plan standing text) text)
         ≡ Verdict.Legal)
         ↔ ((journals : List (List Mark)) × (guesses : List (List ℕ)) × (notes : List Entry)
-        × IsAllowedLive (live_of plan replies standing journals guesses notes)
-        × (text ≡ live_run_text keys (live_of plan replies standing journals guesses notes))) }
+        × IsAllowedLive (live_run_along plan replies standing journals guesses notes)
+        × (text ≡ live_run_text keys (live_run_along plan replies standing journals guesses notes))) }
 {}
 
 /// A text is that of one run alone: two runs that are allowed and have one text have the same
@@ -65,10 +65,10 @@ pub fn a_live_text_tells_one_run()
     ensures { (plan : Plan) (keys : List KeyReply) (replies : List ContextReply)
         (standing : List (Option ContextView)) (journals others : List (List Mark))
         (guesses further : List (List ℕ)) (notes tables : List Entry) → IsWithinLimits plan
-        → IsAllowedLive (live_of plan replies standing journals guesses notes)
-        → IsAllowedLive (live_of plan replies standing others further tables)
-        → live_run_text keys (live_of plan replies standing journals guesses notes)
-        ≡ live_run_text keys (live_of plan replies standing others further tables)
-        → AreOneLiveRun (live_of plan replies standing journals guesses notes)
-        (live_of plan replies standing others further tables) }
+        → IsAllowedLive (live_run_along plan replies standing journals guesses notes)
+        → IsAllowedLive (live_run_along plan replies standing others further tables)
+        → live_run_text keys (live_run_along plan replies standing journals guesses notes)
+        ≡ live_run_text keys (live_run_along plan replies standing others further tables)
+        → AreOneLiveRun (live_run_along plan replies standing journals guesses notes)
+        (live_run_along plan replies standing others further tables) }
 {}
