@@ -4,7 +4,7 @@ use Rattle.std.specs.Prelude.{◌≢◌}
 use Rattle.std.specs.Io.KnownBytes.{Appends}
 use Rattle.batch_io.specs.Outside.{Rose}
 use Rattle.field_text.specs.declared.reasons.Reason.{Reason}
-use Rattle.reply_texts.specs.ReplyText.{bad_text}
+use Rattle.batch_plans.specs.ReplyText.{bad_text}
 use Rattle.result_lines.specs.declared.verdicts.Verdict.{Verdict}
 use Rattle.result_lines.specs.VerdictText.{verdict_text}
 use Rattle.batch_words.specs.declared.commands.Command.{Command}

@@ -2,8 +2,8 @@
 
 ghost use Rattle.std.specs.Prelude.{◌≡◌, IfOk};
 ghost use Rattle.batch_plans.specs.Limits.{IsWithinLimits};
-ghost use Rattle.reply_texts.specs.ReplyText.{IsAnswered};
-ghost use Rattle.reply_texts.specs.LiveText.{live_text};
+ghost use Rattle.batch_plans.specs.ReplyText.{IsAnswered};
+ghost use Rattle.batch_plans.specs.LiveText.{live_text};
 ghost use Rattle.request_frames.specs.Live.{live};
 ghost use Rattle.context_table.specs.ReplyTo.{IsLiveReply};
 ghost use Rattle.batch_serving.specs.Effects.{Writes};

@@ -2,7 +2,7 @@
 
 ghost use Rattle.std.specs.Prelude.{IfOk};
 ghost use Rattle.batch_plans.specs.Limits.{IsPlain, IsWithinLimits};
-ghost use Rattle.reply_texts.specs.ReplyText.{answers_text, IsAnswered};
+ghost use Rattle.batch_plans.specs.ReplyText.{answers_text, IsAnswered};
 ghost use Rattle.request_frames.specs.Batch.{batch};
 ghost use Rattle.context_table.specs.ReplyTo.{IsReply};
 ghost use Rattle.batch_serving.specs.Effects.{Writes};

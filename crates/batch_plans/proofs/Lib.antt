@@ -1,3 +1,7 @@
 pub mod Rooms
 pub mod Counts
 pub mod Positions
+pub mod Numbering
+pub mod Calls
+pub mod Pools
+pub mod Lanes

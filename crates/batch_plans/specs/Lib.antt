@@ -7,3 +7,7 @@ pub mod Room
 pub mod Progress
 pub mod Filling
 pub mod Lending
+pub mod Words
+pub mod Lines
+pub mod ReplyText
+pub mod LiveText

@@ -1,4 +1,4 @@
-//! What a batch asks for, and the room for its answers.
+//! What a batch asks for, the room for its answers, and the text that tells them.
 //!
 //! A [`Plan`] is a whole batch: its seed, its key lines and context lines (RFC 9180, 5.1), and its
 //! lanes of calls (RFC 9180, 5.2 and 5.3). The bytes of its fields, except the seed's, are spans of
@@ -12,10 +12,21 @@
 //! before the first call is answered (`specs/Room.antt`), and a [`LaneProgress`] fills those of one
 //! lane (`specs/Progress.antt`).
 //!
-//! A contract sees each list as the list of its items. Not here: which text spells a plan, how
-//! answers are printed, and what a served call does.
+//! The text that a batch is answered with is defined here as a list of its lines, a format of this
+//! program's own (docs/FORMAT.md). `specs/Words.antt` has the words of refusals and reasons,
+//! `specs/Lines.antt` the lines of keys, contexts, replies and guesses, `specs/ReplyText.antt` the
+//! whole text, `answers_text`, for version 1 and version 2, and which of a lane's replies belong to
+//! which call; `specs/LiveText.antt` has that of a plan whose lanes add and retire contexts,
+//! `live_text`.
 //!
-//! Tests: `text_tests` (through `request_frames`) and `context_tests`.
+//! A contract sees each list as the list of its items. Not here: which text spells a plan, which
+//! answers a plan may have, how they are printed, and what a served call does.
+//!
+//! `proofs/Calls.antt` adds the lines of one call more to those of the calls before it, and
+//! `proofs/Pools.antt` says that bytes written behind the replies' spans change no line.
+//!
+//! Tests: `text_tests` (through `request_frames`, and those that print these texts) and
+//! `context_tests`.
 #![tactic(auto)]
 
 mod calls;

@@ -7,7 +7,7 @@ ghost use Rattle.std.specs.Io.KnownBytes.{Consumes, Appends};
 ghost use Rattle.batch_io.specs.Outside.{Rose};
 ghost use Rattle.field_text.specs.declared.reasons.Reason.{Reason};
 ghost use Rattle.field_text.specs.Printing.{AppendsPrefix};
-ghost use Rattle.reply_texts.specs.ReplyText.{bad_text};
+ghost use Rattle.batch_plans.specs.ReplyText.{bad_text};
 ghost use Rattle.result_lines.specs.declared.verdicts.Verdict.{Verdict};
 ghost use Rattle.result_lines.specs.VerdictText.{verdict_text};
 ghost use Rattle.batch_serving.specs.declared.outcomes.Outcome.{Outcome as Outcome_};

@@ -9,7 +9,7 @@ use Rattle.field_text.specs.Lines.{bad, whole}
 use Rattle.field_text.proofs.Judging.{too_large as front_too_large}
 use Rattle.batch_plans.specs.Limits.{most_input}
 use Rattle.batch_plans.specs.declared.plan.Plan.{Plan}
-use Rattle.reply_texts.specs.ReplyText.{bad_text}
+use Rattle.batch_plans.specs.ReplyText.{bad_text}
 use Rattle.request_frames.specs.Batch.{batch, batch_lines, ended, front_batch}
 use Rattle.request_frames.specs.Live.{front_live, live, live_lines}
 use Rattle.capsule_frames.specs.Capsules.{capsules, capsule_lines}

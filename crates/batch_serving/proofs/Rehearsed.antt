@@ -6,7 +6,7 @@ use Rattle.batch_plans.specs.declared.plan.Plan.{Plan}
 use Rattle.batch_plans.specs.declared.replies.KeyReply.{KeyReply}
 use Rattle.batch_plans.specs.declared.replies.ContextReply.{ContextReply}
 use Rattle.batch_plans.specs.declared.replies.Answers.{Answers}
-use Rattle.reply_texts.specs.ReplyText.{reply_lines, answers_text}
+use Rattle.batch_plans.specs.ReplyText.{reply_lines, answers_text}
 use Rattle.due_replies.specs.Standing.{AreOfLines}
 use Rattle.due_replies.specs.Runs.{run_text}
 use Rattle.context_table.specs.SetUp.{IsSetUp}

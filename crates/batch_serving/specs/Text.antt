@@ -6,7 +6,7 @@ use Rattle.hpke_context.specs.Contexts.{ContextView}
 use Rattle.batch_plans.specs.declared.plan.Plan.{Plan}
 use Rattle.batch_plans.specs.declared.replies.KeyReply.{KeyReply}
 use Rattle.batch_plans.specs.declared.replies.ContextReply.{ContextReply}
-use Rattle.reply_texts.specs.ReplyText.{bad_text}
+use Rattle.batch_plans.specs.ReplyText.{bad_text}
 use Rattle.request_frames.specs.Batch.{batch, front_batch, BadAt, FrontBadAt}
 use Rattle.due_replies.specs.Runs.{run_text}
 use Rattle.context_table.specs.SetUp.{IsSetUp}

@@ -1,8 +1,8 @@
 //! What was answered, written as a reply if there was memory for it.
 
 ghost use Rattle.std.specs.Prelude.{IfOk, Ok};
-ghost use Rattle.reply_texts.specs.ReplyText.{answers_text, IsAnswered};
-ghost use Rattle.reply_texts.specs.LiveText.{live_text};
+ghost use Rattle.batch_plans.specs.ReplyText.{answers_text, IsAnswered};
+ghost use Rattle.batch_plans.specs.LiveText.{live_text};
 ghost use Rattle.context_table.specs.ReplyTo.{IsLiveReply};
 ghost use Rattle.capsule_runs.specs.Replies.{AreReplies, IsCapsuleReply};
 ghost use Rattle.batch_serving.specs.Effects.{SaysReply, Writes};

@@ -4,7 +4,7 @@ use Rattle.std.specs.Prelude.{ℕ, List, [], ◌++◌, map, codes}
 use Rattle.std.specs.List.{concat}
 use Rattle.field_text.specs.Printing.{hex_text}
 use Rattle.batch_plans.specs.declared.replies.KeyReply.{KeyReply}
-use Rattle.reply_texts.specs.ReplyText.{setup_text}
+use Rattle.batch_plans.specs.ReplyText.{setup_text}
 use Rattle.capsule_frames.specs.declared.replies.CapsuleRefusal.{CapsuleRefusal}
 use Rattle.capsule_frames.specs.declared.replies.CapsuleRefusal.TheVariants as refusals
 use Rattle.capsule_frames.specs.declared.replies.CapsuleReply.{CapsuleReply}

@@ -26,8 +26,8 @@ use Rattle.batch_plans.specs.Limits.{items_of, items_from, IsCallWithin, IsWithi
 use Rattle.batch_plans.specs.Calls.{context_of}
 use Rattle.batch_plans.specs.Room.{served_room, served_batches, opened_room}
 use Rattle.batch_plans.specs.Progress.{Progress, with_reply}
-use Rattle.reply_texts.specs.Lines.{exported_line, batch_line}
-use Rattle.reply_texts.specs.ReplyText.{guess_line}
+use Rattle.batch_plans.specs.Lines.{exported_line, batch_line}
+use Rattle.batch_plans.specs.ReplyText.{guess_line}
 use Rattle.batch_plans.proofs.Rooms.{lane_within}
 use Rattle.due_replies.specs.Standing.{standing_at, call_refusal, AreOfLines}
 use Rattle.due_replies.specs.Asks.{asked_by, ask_unless, ask_of, batch_of, cipher_at, cipher_in}

@@ -26,8 +26,8 @@ use Rattle.batch_plans.specs.declared.plan.Plan.{Plan}
 use Rattle.batch_plans.specs.declared.replies.LaneAnswers.{LaneAnswers}
 use Rattle.batch_plans.specs.Limits.{IsWithinLimits}
 use Rattle.batch_plans.specs.Room.{all_items_on, lane_room, journal_room, blank_mark}
-use Rattle.reply_texts.specs.ReplyText.{answered_lines, lanes_lines, numbered, UsesUp}
-use Rattle.reply_texts.proofs.Lanes.{lanes_lines-numbered}
+use Rattle.batch_plans.specs.ReplyText.{answered_lines, lanes_lines, numbered, UsesUp}
+use Rattle.batch_plans.proofs.Lanes.{lanes_lines-numbered}
 use Rattle.due_replies.specs.Standing.{standing_at, export_limits, AreOfLines}
 use Rattle.due_replies.specs.Asks.{batch_of, cipher_at, ask_of}
 use Rattle.due_replies.specs.Runs.{lane_call_lines}

@@ -6,7 +6,7 @@ use Rattle.context_core.specs.Core.{Lane, core}
 use Rattle.batch_plans.specs.declared.plan.Plan.{Plan}
 use Rattle.batch_plans.specs.declared.replies.Answers.{Answers}
 use Rattle.batch_plans.specs.declared.replies.LaneAnswers.{LaneAnswers}
-use Rattle.reply_texts.specs.ReplyText.{lanes_lines, numbered, UsesUp}
+use Rattle.batch_plans.specs.ReplyText.{lanes_lines, numbered, UsesUp}
 use Rattle.due_replies.specs.Asks.{batch_of, cipher_at}
 use Rattle.due_replies.specs.Runs.{Run, lane_call_lines}
 

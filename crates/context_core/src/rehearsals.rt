@@ -3,7 +3,7 @@
 ghost use Rattle.std.specs.Prelude.{ℕ, ◌≡◌, ◌^◌, [], None, All, get_or, ◌≤◌, ◌<◌, ◌*◌, length, map, replicate, OnOk, OnErr, IfOk};
 ghost use Rattle.batch_plans.specs.Limits.{IsWithinLimits};
 ghost use Rattle.batch_plans.specs.Room.{room_for, lane_room};
-ghost use Rattle.reply_texts.specs.ReplyText.{IsAnswered};
+ghost use Rattle.batch_plans.specs.ReplyText.{IsAnswered};
 ghost use Rattle.context_core.specs.Core.{Core, happens, all_happen, start, core};
 ghost use Rattle.due_replies.specs.Standing.{AreOfLines, export_limits};
 ghost use Rattle.due_replies.specs.Asks.{batch_of, cipher_at};

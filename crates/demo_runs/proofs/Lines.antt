@@ -12,7 +12,7 @@ use Rattle.std.proofs.lemmas.List.Elements.{All-nil, All-cons, All-push}
 use Rattle.hex.specs.Hex.{encode_with, encode_lower, lower_digits, hex_digit_value, IsBytes}
 use Rattle.hex.proofs.HexLemmas.{IsDigits-lower_digits}
 use Rattle.field_text.specs.Printing.{hex_text}
-use Rattle.reply_texts.specs.Lines.{served_line}
+use Rattle.batch_plans.specs.Lines.{served_line}
 
 -- ---- numbers
 

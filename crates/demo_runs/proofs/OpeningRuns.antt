@@ -20,8 +20,8 @@ use Rattle.batch_plans.specs.declared.plan.CallLine.{CallLine}
 use Rattle.batch_plans.specs.declared.plan.CallLine.TheVariants.{UnsealAll}
 use Rattle.batch_plans.specs.declared.replies.Reply.{Reply}
 use Rattle.batch_plans.specs.declared.replies.Batch.{Batch as Guess}
-use Rattle.reply_texts.specs.Lines.{reply_line, batch_line}
-use Rattle.reply_texts.specs.ReplyText.{numbered, all_lines, calls_lines}
+use Rattle.batch_plans.specs.Lines.{reply_line, batch_line}
+use Rattle.batch_plans.specs.ReplyText.{numbered, all_lines, calls_lines}
 use Rattle.due_replies.specs.Standing.{standing_at, call_refusal}
 use Rattle.due_replies.specs.Asks.{ask_of, asked_by, ask_unless, cipher_in, cipher_at}
 use Rattle.due_replies.specs.Runs.{Run, asks_of, journal_of, guesses_of, place_line, answer_line_of, call_lines, served_lines, lines_unless}

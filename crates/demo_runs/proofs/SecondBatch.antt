@@ -14,8 +14,8 @@ use Rattle.batch_plans.specs.declared.replies.KeyReply.TheVariants.{Generated, S
 use Rattle.batch_plans.specs.declared.replies.ContextReply.{ContextReply}
 use Rattle.batch_plans.specs.declared.replies.LaneAnswers.{LaneAnswers}
 use Rattle.batch_plans.specs.declared.replies.Answers.{Answers}
-use Rattle.reply_texts.specs.Lines.{reply_line}
-use Rattle.reply_texts.specs.ReplyText.{IsAnswered, has_stamps, numbered, answered_lines, lanes_lines}
+use Rattle.batch_plans.specs.Lines.{reply_line}
+use Rattle.batch_plans.specs.ReplyText.{IsAnswered, has_stamps, numbered, answered_lines, lanes_lines}
 use Rattle.due_replies.specs.Standing.{standing_at, AreOfLines}
 use Rattle.due_replies.specs.Runs.{Run, asks_of, journal_of, LegalFor, lane_call_lines, run_along}
 use Rattle.context_table.specs.SetUp.{IsSetUp}

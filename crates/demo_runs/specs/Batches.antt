@@ -10,7 +10,7 @@ use Rattle.batch_plans.specs.declared.replies.ContextReply.{ContextReply}
 use Rattle.batch_plans.specs.declared.replies.Answers.{Answers}
 use Rattle.batch_plans.specs.Limits.{IsWithinLimits}
 use Rattle.batch_plans.specs.Room.{room_for}
-use Rattle.reply_texts.specs.ReplyText.{lanes_lines, numbered, IsAnswered}
+use Rattle.batch_plans.specs.ReplyText.{lanes_lines, numbered, IsAnswered}
 use Rattle.due_replies.specs.Standing.{standing_at, AreOfLines, export_limits}
 use Rattle.due_replies.specs.Runs.{run_along, IsAllowed, lane_call_lines}
 use Rattle.context_table.specs.SetUp.{IsSetUp}

@@ -7,7 +7,7 @@ use Rattle.batch_plans.specs.declared.plan.CallLine.{CallLine}
 use Rattle.batch_plans.specs.declared.replies.Reply.{Reply}
 use Rattle.batch_plans.specs.declared.replies.LaneAnswers.{LaneAnswers}
 use Rattle.batch_plans.specs.Replies.{IsInRange, IsPrintable}
-use Rattle.reply_texts.specs.Lines.{served_line, reply_line}
+use Rattle.batch_plans.specs.Lines.{served_line, reply_line}
 use Rattle.demo_texts.specs.Texts.{sealed_text}
 use Rattle.demo_texts.specs.Demo.{sealed_at}
 

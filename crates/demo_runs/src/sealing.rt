@@ -3,7 +3,7 @@
 ghost use Rattle.std.specs.Prelude.{◌≡◌, ◌<◌, ◌≤◌, ℕ, List, length, IfOk, MatchOption, Some, None, slice_set};
 ghost use Rattle.std.specs.List.{flat_map};
 ghost use Rattle.hpke_context.specs.Contexts.{ContextView};
-ghost use Rattle.reply_texts.specs.Lines.{reply_line};
+ghost use Rattle.batch_plans.specs.Lines.{reply_line};
 ghost use Rattle.demo_texts.specs.Demo.{sealed_at};
 ghost use Rattle.demo_runs.specs.Steps.{sealed_line, IsSealedReply, SealedLane, SealedLanes, AreLow};
 ghost use Rattle.demo_runs.specs.Batches.{IsSealed, is_generated, IsSealing, HasSealed};

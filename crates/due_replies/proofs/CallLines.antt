@@ -23,7 +23,7 @@ use Rattle.batch_plans.specs.declared.plan.CallLine.{CallLine}
 use Rattle.batch_plans.specs.declared.plan.CallLine.TheVariants as calls
 use Rattle.batch_plans.specs.declared.replies.CallRefusal.{CallRefusal}
 use Rattle.batch_plans.specs.Limits.{items_from, IsCallWithin}
-use Rattle.reply_texts.specs.Lines.{batch_line, exported_line, refused_line}
+use Rattle.batch_plans.specs.Lines.{batch_line, exported_line, refused_line}
 use Rattle.due_replies.specs.Standing.{call_refusal, standing_at}
 use Rattle.due_replies.specs.Asks.{asked_by, cipher_at}
 use Rattle.due_replies.specs.Runs.{Run, asks_of, journal_of, guesses_of, answer_line, answer_line_of, place_line, served_lines, opening_lines, export_line, lines_unless, call_lines}

@@ -22,7 +22,7 @@ use Rattle.batch_plans.specs.declared.plan.CallLine.TheVariants as calls
 use Rattle.batch_plans.specs.declared.replies.CallRefusal.{CallRefusal}
 use Rattle.batch_plans.specs.Limits.{first_name, IsWithinLimits}
 use Rattle.batch_plans.specs.Names.{line_count, position, at_position}
-use Rattle.reply_texts.specs.LiveText.{tells_live}
+use Rattle.batch_plans.specs.LiveText.{tells_live}
 use Rattle.due_replies.specs.Asks.{ask_unless, ask_of, asked_by}
 use Rattle.due_replies.specs.Live.{Noting, looking, noting, noting_in, IsNoted, was_live, looked_up, looked_up_plan, LiveRun, run_of, FoundLive, IsAllowedLive}
 use Rattle.due_replies.specs.Runs.{asks_of, journal_of}

@@ -19,7 +19,7 @@ use Rattle.context_books.proofs.Members.{contains_in, in_contains, in_range, in_
 use Rattle.context_books.proofs.OneHistory.{history_iff}
 use Rattle.context_books.proofs.Truths.{and_left, and_right, both_true, all_true, true_all}
 use Rattle.batch_plans.specs.declared.plan.CallLine.{CallLine}
-use Rattle.reply_texts.specs.ReplyText.{numbered}
+use Rattle.batch_plans.specs.ReplyText.{numbered}
 use Rattle.due_replies.specs.Asks.{ask_of}
 use Rattle.due_replies.specs.Live.{Noting, noting, noting_in, IsNoted, looked_up, looked_up_plan, LiveRun, run_of, LegalTable, LiveHistory}
 use Rattle.due_replies.specs.LiveChecks.{note_ask, pairs, note_mark, call_mark, asks_with_notes, with_table, TellActs, is_same_act, notes_act, tells_noting, tells_act, is_same_truth, tells_live_after, tells_live_at, is_live_history}

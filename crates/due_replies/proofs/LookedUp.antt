@@ -11,8 +11,8 @@ use Rattle.batch_plans.specs.declared.plan.CallLine.{CallLine}
 use Rattle.batch_plans.specs.Calls.{context_of}
 use Rattle.batch_plans.specs.Limits.{first_name}
 use Rattle.batch_plans.specs.Names.{at_position}
-use Rattle.reply_texts.specs.LiveText.{tells_live}
-use Rattle.reply_texts.specs.ReplyText.{numbered}
+use Rattle.batch_plans.specs.LiveText.{tells_live}
+use Rattle.batch_plans.specs.ReplyText.{numbered}
 use Rattle.due_replies.specs.Live.{was_live, looked_up, looked_up_plan}
 
 -- ---- lists by their numbers

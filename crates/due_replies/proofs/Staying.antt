@@ -11,7 +11,7 @@ use Rattle.context_books.specs.Lists.{In}
 use Rattle.batch_plans.specs.declared.plan.CallLine.{CallLine}
 use Rattle.batch_plans.specs.declared.plan.CallLine.TheVariants.{Seal, Unseal, UnsealAll}
 use Rattle.batch_plans.specs.declared.replies.CallRefusal.{CallRefusal}
-use Rattle.reply_texts.specs.Lines.{batch_line}
+use Rattle.batch_plans.specs.Lines.{batch_line}
 use Rattle.due_replies.specs.Standing.{call_refusal}
 use Rattle.due_replies.specs.Asks.{cipher_at}
 use Rattle.due_replies.specs.Runs.{Run, asks_of, journal_of, guesses_of, answer_line_of, place_line, opening_lines, served_lines, lines_unless, call_lines}

@@ -30,9 +30,9 @@ use Rattle.batch_plans.specs.declared.replies.CallRefusal.TheVariants as refusal
 use Rattle.batch_plans.specs.Limits.{first_name}
 use Rattle.batch_plans.specs.Calls.{context_of}
 use Rattle.batch_plans.specs.Names.{line_count, at_position}
-use Rattle.reply_texts.specs.Lines.{added_line, retired_line, refused_line}
-use Rattle.reply_texts.specs.ReplyText.{all_lines, numbered}
-use Rattle.reply_texts.specs.LiveText.{tells_live, live_lines}
+use Rattle.batch_plans.specs.Lines.{added_line, retired_line, refused_line}
+use Rattle.batch_plans.specs.ReplyText.{all_lines, numbered}
+use Rattle.batch_plans.specs.LiveText.{tells_live, live_lines}
 use Rattle.due_replies.specs.Standing.{standing_at}
 use Rattle.due_replies.specs.Asks.{cipher_at}
 use Rattle.due_replies.specs.Runs.{Run, run_along, asks_of, journal_of, guesses_of, call_lines}

@@ -16,7 +16,7 @@ use Rattle.context_books.specs.Histories.{mark}
 use Rattle.context_books.specs.Checks.{is_legal_history}
 use Rattle.batch_plans.specs.declared.plan.Plan.{Plan}
 use Rattle.batch_plans.specs.declared.plan.CallLine.{CallLine}
-use Rattle.reply_texts.specs.ReplyText.{numbered}
+use Rattle.batch_plans.specs.ReplyText.{numbered}
 use Rattle.due_replies.specs.Asks.{ask_of}
 use Rattle.due_replies.specs.Live.{Noting, noting, noting_in, IsNoted, looked_up, looked_up_plan, LiveRun}
 pub use Rattle.due_replies.specs.Live.{note_mark, call_mark}

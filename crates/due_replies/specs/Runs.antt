@@ -17,8 +17,8 @@ use Rattle.batch_plans.specs.declared.plan.CallLine.TheVariants as calls
 use Rattle.batch_plans.specs.declared.replies.KeyReply.{KeyReply}
 use Rattle.batch_plans.specs.declared.replies.ContextReply.{ContextReply}
 use Rattle.batch_plans.specs.declared.replies.CallRefusal.{CallRefusal}
-use Rattle.reply_texts.specs.Lines.{served_line, failed_line, limit_line, exported_line, refused_line, batch_line}
-use Rattle.reply_texts.specs.ReplyText.{all_lines, numbered, reply_lines, has_stamps}
+use Rattle.batch_plans.specs.Lines.{served_line, failed_line, limit_line, exported_line, refused_line, batch_line}
+use Rattle.batch_plans.specs.ReplyText.{all_lines, numbered, reply_lines, has_stamps}
 use Rattle.due_replies.specs.Standing.{standing_at, call_refusal}
 use Rattle.due_replies.specs.Asks.{batch_of, cipher_at}
 

@@ -4,7 +4,7 @@ use Rattle.field_text.specs.Printing.{AppendsPrefix}
 use Rattle.field_text.specs.declared.reasons.Reason.{Reason}
 use Rattle.field_text.specs.declared.faults.BadBatch.{BadBatch}
 use Rattle.batch_plans.specs.declared.plan.Plan.{Plan}
-use Rattle.reply_texts.specs.ReplyText.{bad_text}
+use Rattle.batch_plans.specs.ReplyText.{bad_text}
 use Rattle.request_frames.specs.Batch.{BadAt, Spells}
 use Rattle.context_table.specs.ReplyTo.{IsReply}
 use Rattle.hpkebatch_c.specs.Texts.{IsBatch, IsNoBatch, TellsBad, HasLongerLine, IsReplyTo, IsNoReplyTo}

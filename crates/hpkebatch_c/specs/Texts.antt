@@ -2,7 +2,7 @@
 use Rattle.std.specs.Prelude.{◌≡◌, ◌<◌, ℕ, List, length}
 use Rattle.field_text.specs.declared.reasons.Reason.{Reason}
 use Rattle.batch_plans.specs.declared.plan.Plan.{Plan}
-use Rattle.reply_texts.specs.ReplyText.{bad_text}
+use Rattle.batch_plans.specs.ReplyText.{bad_text}
 use Rattle.request_frames.specs.Batch.{BadAt, Spells}
 use Rattle.context_table.specs.ReplyTo.{IsReply}
 

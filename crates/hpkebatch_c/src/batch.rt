@@ -4,7 +4,7 @@ ghost use Rattle.std.specs.Prelude.{◌≡◌, ◌≢◌, ◌⊎◌, ◌≤◌, 
 ghost use Rattle.field_text.specs.declared.faults.BadBatch.{BadBatch as BadBatch_};
 ghost use Rattle.batch_plans.specs.Limits.{IsWithinLimits, most_input};
 ghost use Rattle.request_frames.specs.Batch.{BadAt};
-ghost use Rattle.reply_texts.specs.ReplyText.{bad_text};
+ghost use Rattle.batch_plans.specs.ReplyText.{bad_text};
 ghost use Rattle.context_table.specs.ReplyTo.{IsReply};
 ghost use Rattle.hpkebatch_c.specs.Texts.{IsBatch, IsNoBatch, TellsBad, HasLongerLine, IsReplyTo, IsNoReplyTo};
 

@@ -2,7 +2,7 @@
 use Rattle.std.proofs.Common.{◌≡◌, ℕ, ◌+◌, Bool, Option, Result, List, [], ◌∷◌, ◌++◌, ◌≤◌, length, drop, Ok, Err, Some, subst, sym, ap, ◌∙◌, append_assoc, append-nil}
 use Rattle.std.proofs.lemmas.List.{drop_all}
 use Rattle.batch_plans.specs.declared.plan.CallLine.{CallLine}
-use Rattle.reply_texts.specs.ReplyText.{all_lines, numbered}
+use Rattle.batch_plans.specs.ReplyText.{all_lines, numbered}
 use Rattle.due_replies.specs.Runs.{Run}
 use Rattle.result_lines.specs.Told.{ReplyView}
 use Rattle.result_lines.specs.declared.stop.Stop.{Stop}

@@ -24,8 +24,8 @@ use Rattle.context_books.proofs.Truths.{and_left, both_true, true_all, true_lt}
 use Rattle.batch_plans.specs.Limits.{IsWithinLimits}
 use Rattle.batch_plans.specs.declared.plan.Plan.{Plan}
 use Rattle.batch_plans.specs.declared.plan.CallLine.{CallLine}
-use Rattle.reply_texts.specs.ReplyText.{numbered}
-use Rattle.reply_texts.proofs.Numbering.{length-numbered}
+use Rattle.batch_plans.specs.ReplyText.{numbered}
+use Rattle.batch_plans.proofs.Numbering.{length-numbered}
 use Rattle.due_replies.specs.Asks.{ask_of}
 use Rattle.due_replies.specs.Live.{noting, looked_up, looked_up_plan, LiveRun}
 use Rattle.due_replies.specs.LiveChecks.{note_ask, pairs, asks_with_notes, note_mark, call_mark, with_table}

@@ -8,7 +8,7 @@ use Rattle.batch_plans.specs.declared.plan.Plan.{Plan}
 use Rattle.batch_plans.specs.declared.plan.CallLine.{CallLine}
 use Rattle.batch_plans.specs.declared.plan.CallLine.TheVariants.{Add, Retire}
 use Rattle.batch_plans.specs.Names.{line_count}
-use Rattle.reply_texts.specs.ReplyText.{all_lines, numbered, has_stamps}
+use Rattle.batch_plans.specs.ReplyText.{all_lines, numbered, has_stamps}
 use Rattle.due_replies.specs.Asks.{batch_of}
 use Rattle.due_replies.specs.Live.{LiveRun, looked_up_plan, was_live, add_line, retire_line}
 use Rattle.due_replies.specs.LiveChecks.{tells_act, is_live_history}

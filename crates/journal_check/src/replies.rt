@@ -7,7 +7,7 @@ ghost use Rattle.call_places.specs.Spans.{IsInPool, span_bytes};
 ghost use Rattle.hpke_context.specs.Contexts.{export_limit, exported_by};
 ghost use Rattle.batch_plans.specs.declared.plan.CallLine.{CallLine};
 ghost use Rattle.batch_plans.specs.Replies.{IsInRange};
-ghost use Rattle.reply_texts.specs.Lines.{exported_line, reply_line};
+ghost use Rattle.batch_plans.specs.Lines.{exported_line, reply_line};
 ghost use Rattle.due_replies.specs.Standing.{standing_at, call_refusal};
 ghost use Rattle.due_replies.specs.Runs.{place_line, export_line as export_line_of, item_lines};
 ghost use Rattle.result_lines.specs.Replies.{wrong_reply as wrong_reply_of};

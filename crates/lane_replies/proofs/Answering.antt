@@ -14,11 +14,11 @@ use Rattle.batch_plans.specs.declared.replies.Batch.{Batch}
 use Rattle.batch_plans.specs.Replies.{IsInRange}
 use Rattle.batch_plans.specs.Progress.{Progress, begun, with_reply, with_batch}
 use Rattle.batch_plans.specs.Room.{served_batches}
-use Rattle.reply_texts.specs.Lines.{reply_line, refused_line}
-use Rattle.reply_texts.specs.ReplyText.{is_refused, guess_line, calls_lines, HasReplies, UsesUp}
-use Rattle.reply_texts.specs.ReplyText.UsesUp.{none}
-use Rattle.reply_texts.proofs.Calls.{HasReplies-one, HasReplies-refused, HasReplies-opening, UsesUp-push, UsesUp-push_replies, calls_lines-push, calls_lines-push_replies}
-use Rattle.reply_texts.proofs.Pools.{calls_lines-same}
+use Rattle.batch_plans.specs.Lines.{reply_line, refused_line}
+use Rattle.batch_plans.specs.ReplyText.{is_refused, guess_line, calls_lines, HasReplies, UsesUp}
+use Rattle.batch_plans.specs.ReplyText.UsesUp.{none}
+use Rattle.batch_plans.proofs.Calls.{HasReplies-one, HasReplies-refused, HasReplies-opening, UsesUp-push, UsesUp-push_replies, calls_lines-push, calls_lines-push_replies}
+use Rattle.batch_plans.proofs.Pools.{calls_lines-same}
 use Rattle.lane_replies.specs.Writing.{PutsReplies}
 use Rattle.lane_replies.specs.Answered.{HasAnswered}
 use Rattle.lane_replies.proofs.Writing.{all_in_more}

@@ -14,8 +14,8 @@ use Rattle.batch_plans.specs.Limits.{items_of, IsWithinLimits}
 use Rattle.batch_plans.specs.Calls.{refusal}
 use Rattle.batch_plans.specs.Room.{served_room, served_batches, lane_room, IsLaneWithin}
 use Rattle.batch_plans.specs.Progress.{Progress, begun, with_reply, with_batch}
-use Rattle.reply_texts.specs.Lines.{refused_line}
-use Rattle.reply_texts.specs.ReplyText.{guess_line, calls_lines}
+use Rattle.batch_plans.specs.Lines.{refused_line}
+use Rattle.batch_plans.specs.ReplyText.{guess_line, calls_lines}
 use Rattle.due_replies.specs.Standing.{call_refusal, export_limits, AreOfLines}
 use Rattle.due_replies.specs.Runs.{Run, call_lines, lane_call_lines}
 use Rattle.due_replies.specs.Lanes.{calls_of, HasDone, done_lines}

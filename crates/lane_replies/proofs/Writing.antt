@@ -8,9 +8,9 @@ use Rattle.batch_plans.specs.declared.replies.Reply.TheVariants.{Blank, Sealed, 
 use Rattle.batch_plans.specs.Replies.{IsInRange}
 use Rattle.batch_plans.specs.Progress.{Progress, with_room, with_pool, with_reply}
 use Rattle.context_books.proofs.Lists.{append-nil}
-use Rattle.reply_texts.specs.Lines.{reply_line}
-use Rattle.reply_texts.specs.ReplyText.{is_refused}
-use Rattle.reply_texts.proofs.Pools.{reply_lines-same}
+use Rattle.batch_plans.specs.Lines.{reply_line}
+use Rattle.batch_plans.specs.ReplyText.{is_refused}
+use Rattle.batch_plans.proofs.Pools.{reply_lines-same}
 use Rattle.lane_replies.specs.Writing.{PutsReplies, WritesReply}
 
 abbrev IsNoRefusal : Reply → Type 0

@@ -7,7 +7,7 @@ use Rattle.batch_plans.specs.declared.plan.CallLine.{CallLine}
 use Rattle.batch_plans.specs.Replies.{IsInRange}
 use Rattle.batch_plans.specs.Room.{call_room, call_replies, call_batches}
 use Rattle.batch_plans.specs.Progress.{Progress}
-use Rattle.reply_texts.specs.ReplyText.{calls_lines, UsesUp}
+use Rattle.batch_plans.specs.ReplyText.{calls_lines, UsesUp}
 use Rattle.due_replies.specs.Standing.{export_limits}
 use Rattle.due_replies.specs.Runs.{Run}
 use Rattle.due_replies.specs.Lanes.{calls_of, done_lines}

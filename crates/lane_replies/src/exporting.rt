@@ -4,7 +4,7 @@ ghost use Rattle.std.specs.Prelude.{◌≡◌, ◌∷◌, [], ◌+◌, ◌<◌, 
 ghost use Rattle.call_places.specs.Spans.{IsInPool, span_bytes};
 ghost use Rattle.hpke_context.specs.Contexts.{export_limit, exported_by};
 ghost use Rattle.batch_plans.specs.Progress.{with_reply};
-ghost use Rattle.reply_texts.specs.Lines.{exported_line};
+ghost use Rattle.batch_plans.specs.Lines.{exported_line};
 ghost use Rattle.lane_replies.specs.Writing.{PutsReplies, WritesReply};
 
 use batch_plans::{CallRefusal, LaneProgress, Reply};

@@ -34,7 +34,7 @@ use Rattle.batch_plans.specs.Limits.{items_of, IsCallWithin}
 use Rattle.batch_plans.specs.Calls.{context_of, refusal}
 use Rattle.batch_plans.specs.Room.{served_room, served_batches}
 use Rattle.batch_plans.specs.Progress.{Progress, with_reply}
-use Rattle.reply_texts.specs.Lines.{exported_line}
+use Rattle.batch_plans.specs.Lines.{exported_line}
 use Rattle.due_replies.specs.Standing.{standing_at, refusal_on, call_refusal, export_limits}
 use Rattle.due_replies.specs.Asks.{ask_of, ask_unless, asked_by, cipher_at, cipher_in}
 use Rattle.due_replies.specs.Runs.{answer_line, export_line, lines_unless}

@@ -22,7 +22,7 @@ use Rattle.batch_plans.specs.Limits.{items_of}
 use Rattle.batch_plans.specs.Room.{lane_room}
 use Rattle.batch_plans.specs.Progress.{begun}
 use Rattle.batch_plans.proofs.Rooms.{lane_within}
-use Rattle.reply_texts.specs.ReplyText.{answered_lines, calls_lines}
+use Rattle.batch_plans.specs.ReplyText.{answered_lines, calls_lines}
 use Rattle.due_replies.specs.Standing.{export_limits}
 use Rattle.due_replies.specs.Asks.{ask_of, batch_of, cipher_at}
 use Rattle.due_replies.proofs.Done.{lane_asks}
@@ -161,7 +161,7 @@ module _ (plan : Plan) (contexts : List (Option SharedView)) (counter : Option (
             (sym (take-length calls))
             ∙ says.answered.lines_are
             ∙ ap (λ cs. Rattle.std.specs.List.flat_map (λ (lines : List (List ℕ)). lines)
-            (Rattle.reply_texts.specs.ReplyText.numbered
+            (Rattle.batch_plans.specs.ReplyText.numbered
             (Rattle.lane_workers.specs.Served.told_lines plan stand told lane) 0 cs))
             (take-length calls);
         printable = printable;

@@ -15,7 +15,7 @@ use Rattle.batch_plans.specs.declared.plan.CallLine.{CallLine}
 use Rattle.batch_plans.specs.declared.plan.CallLine.TheVariants as calls
 use Rattle.batch_plans.specs.declared.replies.LaneAnswers.{LaneAnswers}
 use Rattle.batch_plans.specs.Limits.{IsCallWithin, IsWithinLimits}
-use Rattle.reply_texts.specs.ReplyText.{all_lines, answered_lines, has_stamps}
+use Rattle.batch_plans.specs.ReplyText.{all_lines, answered_lines, has_stamps}
 use Rattle.due_replies.specs.Asks.{batch_of, cipher_at}
 use Rattle.due_replies.specs.Runs.{Run, call_lines, lane_call_lines, LegalFor, IsAllowed}
 use Rattle.lane_workers.specs.Served.{Told, told_lines, seen_of, LaneIsServed}

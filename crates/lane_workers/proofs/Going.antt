@@ -22,7 +22,7 @@ use Rattle.lane_workers.proofs.Stamping.{added_to}
 use Rattle.batch_plans.specs.declared.plan.Plan.{Plan}
 use Rattle.batch_plans.specs.declared.plan.CallLine.{CallLine}
 use Rattle.batch_plans.specs.Progress.{Progress}
-use Rattle.reply_texts.specs.ReplyText.{numbered}
+use Rattle.batch_plans.specs.ReplyText.{numbered}
 use Rattle.due_replies.specs.Asks.{ask_of, batch_of, cipher_at}
 use Rattle.due_replies.proofs.Done.{ask_at}
 use Rattle.lane_replies.specs.Answered.{HasAnswered}

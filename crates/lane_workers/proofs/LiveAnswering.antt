@@ -24,8 +24,8 @@ use Rattle.batch_plans.specs.Names.{at_position}
 use Rattle.batch_plans.specs.Progress.{Progress, with_reply}
 use Rattle.batch_plans.specs.Room.{served_batches, served_or}
 use Rattle.batch_plans.proofs.Rooms.{has_item}
-use Rattle.reply_texts.specs.ReplyText.{numbered}
-use Rattle.reply_texts.proofs.Numbering.{length-numbered}
+use Rattle.batch_plans.specs.ReplyText.{numbered}
+use Rattle.batch_plans.proofs.Numbering.{length-numbered}
 use Rattle.due_replies.specs.Live.{was_live, looked_up, looked_up_plan}
 use Rattle.due_replies.specs.Standing.{call_refusal}
 use Rattle.lane_replies.specs.LaneCalls.{lane_calls}

@@ -21,8 +21,8 @@ use Rattle.batch_plans.specs.Names.{at_position, all_live}
 use Rattle.batch_plans.specs.Progress.{Progress, begun}
 use Rattle.batch_plans.specs.Room.{served_room, served_batches, served_or, call_room, call_replies, call_batches, lane_room, IsLaneWithin}
 use Rattle.batch_plans.proofs.Rooms.{has_item, lane_within}
-use Rattle.reply_texts.specs.ReplyText.{numbered}
-use Rattle.reply_texts.proofs.Numbering.{length-numbered}
+use Rattle.batch_plans.specs.ReplyText.{numbered}
+use Rattle.batch_plans.proofs.Numbering.{length-numbered}
 use Rattle.due_replies.specs.Live.{looked_up, looked_up_plan}
 use Rattle.due_replies.specs.Standing.{export_limits}
 use Rattle.due_replies.proofs.LookedUp.{calls_looked}

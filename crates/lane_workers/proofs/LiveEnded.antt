@@ -21,9 +21,9 @@ use Rattle.batch_plans.specs.declared.replies.Reply.TheVariants.{Blank, Refused}
 use Rattle.batch_plans.specs.Progress.{Progress}
 use Rattle.batch_plans.specs.Replies.{IsPrintable}
 use Rattle.batch_plans.specs.Room.{blank_batch}
-use Rattle.reply_texts.specs.LiveText.{is_given, given_lines}
-use Rattle.reply_texts.specs.ReplyText.{calls_lines, numbered, all_lines}
-use Rattle.reply_texts.proofs.Numbering.{length-numbered}
+use Rattle.batch_plans.specs.LiveText.{is_given, given_lines}
+use Rattle.batch_plans.specs.ReplyText.{calls_lines, numbered, all_lines}
+use Rattle.batch_plans.proofs.Numbering.{length-numbered}
 use Rattle.due_replies.specs.Live.{was_live, looked_up, looked_up_plan}
 use Rattle.due_replies.proofs.LookedUp.{calls_looked}
 use Rattle.lane_replies.proofs.Writing.{all_in_more}

@@ -34,7 +34,7 @@ use Rattle.batch_plans.specs.declared.replies.CallRefusal.{CallRefusal}
 use Rattle.batch_plans.specs.Calls.{context_of}
 use Rattle.batch_plans.specs.Limits.{first_name}
 use Rattle.batch_plans.specs.Names.{line_count}
-use Rattle.reply_texts.specs.LiveText.{tells_live}
+use Rattle.batch_plans.specs.LiveText.{tells_live}
 use Rattle.due_replies.specs.Live.{Noting, noting_of, looking, adding, noting, noting_in, was_live, looked_up_plan}
 use Rattle.due_replies.specs.Standing.{standing_at}
 use Rattle.lane_replies.specs.LaneCalls.{lane_calls}

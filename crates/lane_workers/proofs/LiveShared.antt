@@ -20,8 +20,8 @@ use Rattle.batch_plans.specs.declared.replies.CallRefusal.TheVariants.{NoContext
 use Rattle.batch_plans.specs.Calls.{context_of}
 use Rattle.batch_plans.specs.Limits.{first_name, items_of, size_of, text_size, IsCallWithin, IsWithinLimits}
 use Rattle.batch_plans.specs.Names.{at_position, all_live}
-use Rattle.reply_texts.specs.ReplyText.{numbered}
-use Rattle.reply_texts.proofs.Numbering.{length-numbered}
+use Rattle.batch_plans.specs.ReplyText.{numbered}
+use Rattle.batch_plans.proofs.Numbering.{length-numbered}
 use Rattle.due_replies.specs.Asks.{ask_of, ask_unless, asked_by}
 use Rattle.due_replies.specs.Live.{was_live, looked_up, looked_up_plan}
 use Rattle.due_replies.specs.Standing.{refusal_on, call_refusal}

@@ -27,9 +27,9 @@ use Rattle.batch_plans.specs.declared.plan.CallLine.TheVariants as calls
 use Rattle.batch_plans.specs.declared.replies.ContextReply.{ContextReply}
 use Rattle.batch_plans.specs.declared.replies.LaneAnswers.{LaneAnswers}
 use Rattle.batch_plans.specs.Limits.{IsWithinLimits}
-use Rattle.reply_texts.specs.LiveText.{given_lines, lanes_given}
-use Rattle.reply_texts.specs.ReplyText.{numbered, all_lines}
-use Rattle.reply_texts.proofs.Numbering.{length-numbered}
+use Rattle.batch_plans.specs.LiveText.{given_lines, lanes_given}
+use Rattle.batch_plans.specs.ReplyText.{numbered, all_lines}
+use Rattle.batch_plans.proofs.Numbering.{length-numbered}
 use Rattle.due_replies.specs.Asks.{batch_of, cipher_at}
 use Rattle.due_replies.specs.Live.{looked_up, looked_up_plan, LiveRun, run_of, retire_line, live_call_lines, live_lane_lines, LegalTable, LiveHistory, IsAllowedLive}
 use Rattle.due_replies.specs.Runs.{call_lines}

@@ -16,7 +16,7 @@ use Rattle.batch_plans.specs.declared.plan.CallLine.TheVariants as calls
 use Rattle.batch_plans.specs.Calls.{context_of}
 use Rattle.batch_plans.specs.Limits.{first_name}
 use Rattle.batch_plans.specs.Names.{at_position}
-use Rattle.reply_texts.specs.Lines.{batch_line}
+use Rattle.batch_plans.specs.Lines.{batch_line}
 use Rattle.due_replies.specs.Asks.{ask_of, ask_unless, asked_by, batch_of}
 use Rattle.due_replies.specs.Live.{was_live, looked_up, looked_up_plan}
 use Rattle.due_replies.specs.Runs.{answer_line, lines_unless}

@@ -30,8 +30,8 @@ use Rattle.batch_plans.specs.Limits.{items_of, items_from, IsCallWithin}
 use Rattle.batch_plans.specs.Calls.{context_of}
 use Rattle.batch_plans.specs.Room.{served_room, served_batches}
 use Rattle.batch_plans.specs.Progress.{Progress, with_batch}
-use Rattle.reply_texts.specs.Lines.{batch_line}
-use Rattle.reply_texts.specs.ReplyText.{guess_line}
+use Rattle.batch_plans.specs.Lines.{batch_line}
+use Rattle.batch_plans.specs.ReplyText.{guess_line}
 use Rattle.due_replies.specs.Standing.{call_refusal, export_limits}
 use Rattle.due_replies.specs.Asks.{ask_of, asked_by, cipher_at}
 use Rattle.due_replies.specs.Runs.{answer_line}

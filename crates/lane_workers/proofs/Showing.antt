@@ -24,8 +24,8 @@ use Rattle.batch_plans.specs.declared.plan.CallLine.{CallLine}
 use Rattle.batch_plans.specs.declared.plan.CallLine.TheVariants as calls
 use Rattle.batch_plans.specs.declared.replies.CallRefusal.{CallRefusal}
 use Rattle.batch_plans.specs.Limits.{items_from}
-use Rattle.reply_texts.specs.Lines.{batch_line}
-use Rattle.reply_texts.specs.ReplyText.{numbered}
+use Rattle.batch_plans.specs.Lines.{batch_line}
+use Rattle.batch_plans.specs.ReplyText.{numbered}
 use Rattle.due_replies.specs.Standing.{call_refusal}
 use Rattle.due_replies.specs.Asks.{ask_of, ask_unless, asked_by, batch_of, cipher_at}
 use Rattle.due_replies.specs.Runs.{Run, journal_of, guesses_of, answer_line, answer_line_of, place_line, lines_unless, served_lines, call_lines}

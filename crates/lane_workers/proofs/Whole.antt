@@ -17,7 +17,7 @@ use Rattle.batch_plans.specs.declared.plan.CallLine.{CallLine}
 use Rattle.batch_plans.specs.declared.replies.LaneAnswers.{LaneAnswers}
 use Rattle.batch_plans.specs.Replies.{IsInRange}
 use Rattle.batch_plans.specs.Limits.{IsWithinLimits}
-use Rattle.reply_texts.specs.ReplyText.{numbered, all_lines, answered_lines, lanes_lines}
+use Rattle.batch_plans.specs.ReplyText.{numbered, all_lines, answered_lines, lanes_lines}
 use Rattle.due_replies.specs.Asks.{ask_of, batch_of}
 use Rattle.due_replies.specs.Runs.{lane_call_lines}
 use Rattle.lane_workers.specs.Served.{Told, told_lines, LaneIsServed}

@@ -21,7 +21,7 @@ use Rattle.batch_plans.specs.declared.plan.CallLine.{CallLine}
 use Rattle.batch_plans.specs.Limits.{items_of, IsWithinLimits}
 use Rattle.batch_plans.specs.Calls.{context_of}
 use Rattle.batch_plans.specs.Progress.{Progress}
-use Rattle.reply_texts.specs.ReplyText.{numbered, all_lines}
+use Rattle.batch_plans.specs.ReplyText.{numbered, all_lines}
 use Rattle.due_replies.specs.Standing.{AreOfLines, export_limits, call_refusal}
 use Rattle.due_replies.specs.Asks.{batch_of, cipher_at}
 use Rattle.lane_replies.specs.LaneCalls.{lane_calls}

@@ -12,8 +12,8 @@ use Rattle.lane_workers.specs.Showing.{Closes}
 use Rattle.batch_plans.specs.declared.plan.Plan.{Plan}
 use Rattle.batch_plans.specs.declared.replies.ContextReply.{ContextReply}
 use Rattle.batch_plans.specs.declared.replies.LaneAnswers.{LaneAnswers}
-use Rattle.reply_texts.specs.ReplyText.{numbered}
-use Rattle.reply_texts.specs.LiveText.{lanes_given}
+use Rattle.batch_plans.specs.ReplyText.{numbered}
+use Rattle.batch_plans.specs.LiveText.{lanes_given}
 use Rattle.due_replies.specs.Live.{live_run_along, live_lane_lines, IsAllowedLive}
 use Rattle.lane_workers.specs.Served.{seen_of}
 use Rattle.lane_workers.specs.LiveServed.{LiveLaneIsServed}

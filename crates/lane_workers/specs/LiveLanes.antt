@@ -29,9 +29,9 @@ use Rattle.batch_plans.specs.Calls.{context_of}
 use Rattle.batch_plans.specs.Limits.{first_name, IsWithinLimits, items_of}
 use Rattle.batch_plans.specs.Names.{line_count, at_position, all_live}
 use Rattle.batch_plans.specs.Room.{served_batches, served_or}
-use Rattle.reply_texts.specs.Lines.{added_line, refused_line}
-use Rattle.reply_texts.specs.LiveText.{is_given}
-use Rattle.reply_texts.specs.ReplyText.{HasReplies}
+use Rattle.batch_plans.specs.Lines.{added_line, refused_line}
+use Rattle.batch_plans.specs.LiveText.{is_given}
+use Rattle.batch_plans.specs.ReplyText.{HasReplies}
 use Rattle.hpke_context.specs.Contexts.{ContextView}
 use Rattle.due_replies.specs.Live.{was_live, looked_up_plan, add_line}
 use Rattle.due_replies.specs.Standing.{standing_at, call_refusal}

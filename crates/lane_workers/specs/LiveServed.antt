@@ -20,8 +20,8 @@ use Rattle.batch_plans.specs.declared.replies.ContextReply.{ContextReply}
 use Rattle.batch_plans.specs.declared.replies.LaneAnswers.{LaneAnswers}
 use Rattle.batch_plans.specs.Names.{line_count}
 use Rattle.batch_plans.specs.Replies.{IsPrintable}
-use Rattle.reply_texts.specs.ReplyText.{numbered, all_lines}
-use Rattle.reply_texts.specs.LiveText.{given_lines}
+use Rattle.batch_plans.specs.ReplyText.{numbered, all_lines}
+use Rattle.batch_plans.specs.LiveText.{given_lines}
 use Rattle.due_replies.specs.Asks.{batch_of, cipher_at}
 use Rattle.due_replies.specs.Live.{Noting, noting, IsNoted, was_live, looked_up, looked_up_plan, add_line, retire_line}
 use Rattle.lane_replies.specs.LaneCalls.{lane_calls}

@@ -13,8 +13,8 @@ use Rattle.batch_plans.specs.declared.replies.Batch.{Batch}
 use Rattle.batch_plans.specs.Limits.{items_of}
 use Rattle.batch_plans.specs.Room.{served_batches, served_or}
 use Rattle.batch_plans.specs.Progress.{Progress}
-use Rattle.reply_texts.specs.LiveText.{is_given}
-use Rattle.reply_texts.specs.ReplyText.{HasReplies}
+use Rattle.batch_plans.specs.LiveText.{is_given}
+use Rattle.batch_plans.specs.ReplyText.{HasReplies}
 use Rattle.due_replies.specs.Standing.{call_refusal}
 use Rattle.lane_workers.specs.declared.works.LaneWork.{LaneWork}
 use Rattle.lane_workers.specs.Served.{seen_of}

@@ -14,8 +14,8 @@ use Rattle.batch_plans.specs.declared.plan.CallLine.{CallLine}
 use Rattle.batch_plans.specs.declared.plan.CallLine.TheVariants as calls
 use Rattle.batch_plans.specs.declared.replies.LaneAnswers.{LaneAnswers}
 use Rattle.batch_plans.specs.Replies.{IsPrintable}
-use Rattle.reply_texts.specs.Lines.{batch_line}
-use Rattle.reply_texts.specs.ReplyText.{numbered, all_lines, answered_lines}
+use Rattle.batch_plans.specs.Lines.{batch_line}
+use Rattle.batch_plans.specs.ReplyText.{numbered, all_lines, answered_lines}
 use Rattle.due_replies.specs.Standing.{standing_at, call_refusal}
 use Rattle.due_replies.specs.Asks.{batch_of, cipher_at}
 use Rattle.due_replies.specs.Runs.{answer_line, lines_of_items, guess_lines, lines_unless}

@@ -6,7 +6,7 @@ ghost use Rattle.hpke_context.specs.Answers.{run};
 ghost use Rattle.hpke_context.specs.Contexts.{CanSeal, CanOpen, HasCipher, cipher_of, export_limit, exported_by};
 ghost use Rattle.context_books.specs.Openings.{IsTableFor, opening_steps, opening_misses, unseals};
 ghost use Rattle.batch_plans.specs.Room.{opened_room};
-ghost use Rattle.reply_texts.specs.Lines.{exported_line};
+ghost use Rattle.batch_plans.specs.Lines.{exported_line};
 ghost use Rattle.due_replies.specs.Runs.{answer_line};
 ghost use Rattle.lane_replies.specs.Writing.{PutsReplies};
 ghost use Rattle.due_replies.specs.Standing.{refusal_on};

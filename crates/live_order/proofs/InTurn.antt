@@ -23,8 +23,8 @@ use Rattle.batch_plans.specs.declared.plan.CallLine.{CallLine}
 use Rattle.batch_plans.specs.Calls.{context_of}
 use Rattle.batch_plans.specs.Limits.{first_name}
 use Rattle.batch_plans.specs.Names.{at_position}
-use Rattle.reply_texts.specs.LiveText.{tells_live}
-use Rattle.reply_texts.specs.ReplyText.{numbered}
+use Rattle.batch_plans.specs.LiveText.{tells_live}
+use Rattle.batch_plans.specs.ReplyText.{numbered}
 use Rattle.due_replies.specs.Asks.{ask_of}
 use Rattle.due_replies.specs.Live.{Noting, noting, noting_in, was_live, looked_up, looked_up_plan}
 use Rattle.due_replies.specs.LiveChecks.{note_ask, pairs, note_mark}

@@ -21,7 +21,7 @@ use Rattle.batch_plans.specs.declared.replies.Reply.{Reply}
 use Rattle.batch_plans.specs.Limits.{IsWithinLimits}
 use Rattle.batch_plans.specs.Names.{line_count}
 use Rattle.batch_plans.specs.Replies.{IsInRange, IsPrintable}
-use Rattle.reply_texts.specs.ReplyText.{reply_count, IsAnswered, UsesUp}
+use Rattle.batch_plans.specs.ReplyText.{reply_count, IsAnswered, UsesUp}
 use Rattle.due_replies.specs.Standing.{AreOfLines}
 use Rattle.due_replies.proofs.LookedUp.{calls_looked}
 use Rattle.result_lines.proofs.LookedLimits.{looked_lanes}

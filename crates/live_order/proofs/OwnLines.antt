@@ -25,11 +25,11 @@ use Rattle.batch_plans.specs.Calls.{context_of, items_of}
 use Rattle.batch_plans.specs.Limits.{first_name, IsWithinLimits}
 use Rattle.batch_plans.specs.Names.{line_count, at_position}
 use Rattle.batch_plans.specs.Room.{served_or}
-use Rattle.reply_texts.specs.Lines.{reply_line, batch_line, refused_line}
-use Rattle.reply_texts.specs.LiveText.{is_given}
-use Rattle.reply_texts.specs.ReplyText.{is_refused, reply_count, guess_line, calls_lines, numbered, all_lines, HasReplies, UsesUp}
-use Rattle.reply_texts.specs.ReplyText.UsesUp.{none, call_and_more}
-use Rattle.reply_texts.proofs.Calls.{HasReplies-one, calls_lines-append, calls_lines-one}
+use Rattle.batch_plans.specs.Lines.{reply_line, batch_line, refused_line}
+use Rattle.batch_plans.specs.LiveText.{is_given}
+use Rattle.batch_plans.specs.ReplyText.{is_refused, reply_count, guess_line, calls_lines, numbered, all_lines, HasReplies, UsesUp}
+use Rattle.batch_plans.specs.ReplyText.UsesUp.{none, call_and_more}
+use Rattle.batch_plans.proofs.Calls.{HasReplies-one, calls_lines-append, calls_lines-one}
 use Rattle.due_replies.specs.Asks.{cipher_at}
 use Rattle.due_replies.specs.Live.{LiveRun, run_of, was_live, looked_up, live_call_lines, add_line, retire_line}
 use Rattle.due_replies.specs.Lanes.{calls_of}

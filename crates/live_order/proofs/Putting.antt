@@ -8,7 +8,7 @@ use Rattle.std.proofs.Math.Seq.{take-append_seam, drop-append_seam, set-append_s
 use Rattle.batch_plans.specs.declared.plan.CallLine.{CallLine}
 use Rattle.batch_plans.specs.declared.replies.Batch.{Batch}
 use Rattle.batch_plans.specs.declared.replies.Reply.{Reply}
-use Rattle.reply_texts.specs.ReplyText.{reply_count, HasReplies, UsesUp}
+use Rattle.batch_plans.specs.ReplyText.{reply_count, HasReplies, UsesUp}
 use Rattle.live_order.specs.Own.{put_first, put_at, with_own}
 use Rattle.live_order.specs.Tables.{SoFar, next_stamp, with_places}
 use Rattle.live_order.proofs.OwnLines.{uses_first, with_own-first, first_of}

@@ -32,9 +32,9 @@ use Rattle.batch_plans.specs.declared.replies.CallRefusal.{CallRefusal}
 use Rattle.batch_plans.specs.declared.replies.ContextReply.{ContextReply}
 use Rattle.batch_plans.specs.declared.replies.LaneAnswers.{LaneAnswers}
 use Rattle.batch_plans.specs.Limits.{IsWithinLimits}
-use Rattle.reply_texts.specs.Lines.{batch_line}
-use Rattle.reply_texts.specs.LiveText.{given_lines, lanes_given}
-use Rattle.reply_texts.specs.ReplyText.{numbered, all_lines, answered_lines, lanes_lines, UsesUp}
+use Rattle.batch_plans.specs.Lines.{batch_line}
+use Rattle.batch_plans.specs.LiveText.{given_lines, lanes_given}
+use Rattle.batch_plans.specs.ReplyText.{numbered, all_lines, answered_lines, lanes_lines, UsesUp}
 use Rattle.due_replies.specs.Asks.{ask_unless, asked_by, ask_of, batch_of, cipher_at}
 use Rattle.due_replies.specs.Live.{Noting, noting, noting_in, IsNoted, LiveRun, run_of, looked_up, looked_up_plan, live_lane_lines, LegalTable, LiveHistory, IsAllowedLive}
 use Rattle.due_replies.specs.LiveChecks.{note_ask, pairs, note_mark, call_mark, asks_with_notes, with_table, TellActs}

@@ -3,8 +3,8 @@ use Rattle.std.specs.Prelude.{ℕ, ◌≡◌, List, Option}
 use Rattle.hpke_context.specs.Contexts.{ContextView}
 use Rattle.batch_plans.specs.declared.plan.Plan.{Plan}
 use Rattle.batch_plans.specs.declared.replies.Answers.{Answers}
-use Rattle.reply_texts.specs.ReplyText.{numbered}
-use Rattle.reply_texts.specs.LiveText.{lanes_given}
+use Rattle.batch_plans.specs.ReplyText.{numbered}
+use Rattle.batch_plans.specs.LiveText.{lanes_given}
 use Rattle.due_replies.specs.Live.{LiveRun, live_run_along, IsAllowedLive, live_lane_lines}
 
 -- the run of these answers, with these guesses

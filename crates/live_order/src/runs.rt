@@ -2,7 +2,7 @@
 
 ghost use Rattle.std.specs.Prelude.{◌≡◌, [], length, IfOk, OnOk};
 ghost use Rattle.batch_plans.specs.Limits.{IsWithinLimits};
-ghost use Rattle.reply_texts.specs.ReplyText.{IsAnswered};
+ghost use Rattle.batch_plans.specs.ReplyText.{IsAnswered};
 ghost use Rattle.due_replies.specs.Standing.{AreOfLines, export_limits};
 ghost use Rattle.context_core.specs.Rehearsals.{rehearsed, AreAnswersOf};
 ghost use Rattle.live_order.specs.LiveRuns.{IsALiveRun};

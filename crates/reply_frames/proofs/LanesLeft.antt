@@ -8,10 +8,10 @@ use Rattle.batch_plans.specs.declared.plan.CallLine.{CallLine}
 use Rattle.batch_plans.specs.declared.replies.Reply.{Reply}
 use Rattle.batch_plans.specs.declared.replies.Batch.{Batch}
 use Rattle.batch_plans.specs.declared.replies.LaneAnswers.{LaneAnswers}
-use Rattle.reply_texts.specs.Lines.{reply_line}
-use Rattle.reply_texts.specs.ReplyText.{numbered, all_lines, reply_count, batch_count, guess_line, calls_lines, answered_lines, lanes_lines, lane_lines}
-use Rattle.reply_texts.specs.LiveText.{given_lines, lanes_given}
-use Rattle.reply_texts.proofs.Lanes.{IsLane}
+use Rattle.batch_plans.specs.Lines.{reply_line}
+use Rattle.batch_plans.specs.ReplyText.{numbered, all_lines, reply_count, batch_count, guess_line, calls_lines, answered_lines, lanes_lines, lane_lines}
+use Rattle.batch_plans.specs.LiveText.{given_lines, lanes_given}
+use Rattle.batch_plans.proofs.Lanes.{IsLane}
 use Rattle.reply_frames.specs.LineParts.{lines_by, lanes_by}
 use Rattle.reply_frames.proofs.LinesLeft.{drop-next}
 

@@ -4,7 +4,7 @@ use Rattle.std.proofs.Math.Seq.{drop-cons}
 use Rattle.std.proofs.lemmas.List.{drop_all}
 use Rattle.std.proofs.lemmas.List.Folds.{concat-append}
 use Rattle.std.specs.List.{concat}
-use Rattle.reply_texts.specs.ReplyText.{numbered, all_lines}
+use Rattle.batch_plans.specs.ReplyText.{numbered, all_lines}
 
 -- the element of this number, and those behind it
 pub drop-next : {A : Type 0} (xs : List A) (i : ℕ) (d x : A) → i < length xs → x ≡ get_or xs i d

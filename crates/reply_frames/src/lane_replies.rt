@@ -4,9 +4,9 @@ ghost use Rattle.std.specs.Prelude.{◌≡◌, length, take, drop, map, slice_ge
 ghost use Rattle.std.specs.List.{All, concat};
 ghost use Rattle.batch_plans.specs.Replies.{IsInRange, IsPrintable};
 ghost use Rattle.field_text.specs.Printing.{Puts};
-ghost use Rattle.reply_texts.specs.Lines.{reply_line};
-ghost use Rattle.reply_texts.specs.ReplyText.{is_refused, reply_count, batch_count};
-ghost use Rattle.reply_texts.specs.ReplyText.{guess_line, answered_lines};
+ghost use Rattle.batch_plans.specs.Lines.{reply_line};
+ghost use Rattle.batch_plans.specs.ReplyText.{is_refused, reply_count, batch_count};
+ghost use Rattle.batch_plans.specs.ReplyText.{guess_line, answered_lines};
 
 use crate::reply_lines::{put_batch, put_reply};
 use batch_io::Sink;

@@ -1,6 +1,6 @@
-//! The printing of replies to batches, a format of this program's own, which reply_texts defines.
+//! The printing of replies to batches, a format of this program's own, which batch_plans defines.
 //!
-//! [`print_answers`] and [`print_bad`] append exactly the text that reply_texts defines, or a
+//! [`print_answers`] and [`print_bad`] append exactly the text that batch_plans defines, or a
 //! prefix of it if the sink failed; [`print_setup`] and [`print_reply`] do the same for parts of
 //! it, and [`print_live`] for the reply to a batch whose lanes add and retire contexts. For replies
 //! of other texts the parts can be put into a buffer: [`put_setup`], [`put_keys`], [`put_replies`],

@@ -3,8 +3,8 @@
 ghost use Rattle.std.specs.Prelude.{ℕ, ◌≡◌, ◌++◌, List, [], codes, decimal, length, IfOk};
 ghost use Rattle.batch_plans.specs.Replies.{IsInRange};
 ghost use Rattle.field_text.specs.Printing.{Puts, IsFresh};
-ghost use Rattle.reply_texts.specs.Lines.{key_line, context_line, reply_line};
-ghost use Rattle.reply_texts.specs.LiveText.{note_line};
+ghost use Rattle.batch_plans.specs.Lines.{key_line, context_line, reply_line};
+ghost use Rattle.batch_plans.specs.LiveText.{note_line};
 
 use crate::replies::put_key_line;
 use crate::reply_lines::{put_context_line, put_note, put_numbered, put_reply};

@@ -6,10 +6,10 @@ ghost use Rattle.std.specs.Io.KnownBytes.{Appends};
 ghost use Rattle.batch_io.specs.Outside.{Rose};
 ghost use Rattle.batch_plans.specs.Replies.{IsInRange, IsPrintable};
 ghost use Rattle.field_text.specs.Printing.{Puts, AppendsPrefix};
-ghost use Rattle.reply_texts.specs.Lines.{context_line, reply_line};
-ghost use Rattle.reply_texts.specs.ReplyText.{numbered, all_lines, setup_text, version_line};
-ghost use Rattle.reply_texts.specs.ReplyText.{lane_lines, has_stamps, mark_line, journal_lines};
-ghost use Rattle.reply_texts.specs.ReplyText.{answers_text, bad_text, IsAnswered};
+ghost use Rattle.batch_plans.specs.Lines.{context_line, reply_line};
+ghost use Rattle.batch_plans.specs.ReplyText.{numbered, all_lines, setup_text, version_line};
+ghost use Rattle.batch_plans.specs.ReplyText.{lane_lines, has_stamps, mark_line, journal_lines};
+ghost use Rattle.batch_plans.specs.ReplyText.{answers_text, bad_text, IsAnswered};
 ghost use Rattle.reply_frames.specs.LineParts.{lines_by, lanes_by, marks_behind};
 
 use crate::given_replies::put_given_calls;

@@ -3,9 +3,9 @@
 ghost use Rattle.std.specs.Prelude.{◌≡◌};
 ghost use Rattle.std.specs.List.{concat};
 ghost use Rattle.field_text.specs.Printing.{Puts};
-ghost use Rattle.reply_texts.specs.Words.{key_refusal_word};
-ghost use Rattle.reply_texts.specs.Lines.{key_words, key_line};
-ghost use Rattle.reply_texts.specs.ReplyText.{numbered};
+ghost use Rattle.batch_plans.specs.Words.{key_refusal_word};
+ghost use Rattle.batch_plans.specs.Lines.{key_words, key_line};
+ghost use Rattle.batch_plans.specs.ReplyText.{numbered};
 
 use batch_io::Sink;
 use batch_plans::{KeyRefusal, KeyReply};

@@ -1,7 +1,7 @@
 //! The words of refusals and reasons in the reply text.
 
 ghost use Rattle.std.specs.Prelude.{◌≡◌};
-ghost use Rattle.reply_texts.specs.Words.{context_refusal_word, call_refusal_word, reason_word};
+ghost use Rattle.batch_plans.specs.Words.{context_refusal_word, call_refusal_word, reason_word};
 
 use batch_plans::{CallRefusal, ContextRefusal};
 use field_text::Reason;

@@ -21,7 +21,7 @@ use Rattle.batch_plans.specs.declared.plan.CallLine.TheVariants as calls
 use Rattle.batch_plans.specs.declared.replies.CallRefusal.{CallRefusal}
 use Rattle.batch_plans.specs.Calls.{context_of}
 use Rattle.batch_plans.specs.Limits.{items_from, IsWithinLimits}
-use Rattle.reply_texts.specs.ReplyText.{all_lines, numbered}
+use Rattle.batch_plans.specs.ReplyText.{all_lines, numbered}
 use Rattle.due_replies.specs.Standing.{standing_at, refusal_on, call_refusal}
 use Rattle.due_replies.specs.Asks.{asked_by, cipher_at}
 use Rattle.due_replies.specs.Runs.{Run, asks_of, journal_of, answer_line_of, place_line, export_line, lines_unless, item_lines}

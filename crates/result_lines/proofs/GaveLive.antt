@@ -13,8 +13,8 @@ use Rattle.batch_plans.specs.declared.plan.ContextLine.{ContextLine}
 use Rattle.batch_plans.specs.declared.replies.Batch.{Batch}
 use Rattle.batch_plans.specs.declared.replies.KeyReply.{KeyReply}
 use Rattle.batch_plans.specs.declared.replies.ContextReply.{ContextReply}
-use Rattle.reply_texts.specs.ReplyText.{all_lines, numbered, lane_lines, mark_line, journal_lines}
-use Rattle.reply_texts.specs.LiveText.{added_journal_lines, note_line, table_lines}
+use Rattle.batch_plans.specs.ReplyText.{all_lines, numbered, lane_lines, mark_line, journal_lines}
+use Rattle.batch_plans.specs.LiveText.{added_journal_lines, note_line, table_lines}
 use Rattle.due_replies.specs.Live.{looked_up_plan}
 use Rattle.result_lines.specs.declared.told.GuessLine.{GuessLine}
 use Rattle.result_lines.specs.declared.stamps.Stamps.TheVariants.{PlacesAndNotes}

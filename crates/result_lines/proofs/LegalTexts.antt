@@ -21,8 +21,8 @@ use Rattle.batch_plans.specs.declared.plan.CallLine.{CallLine}
 use Rattle.batch_plans.specs.declared.replies.Batch.{Batch}
 use Rattle.batch_plans.specs.declared.replies.KeyReply.{KeyReply}
 use Rattle.batch_plans.specs.declared.replies.ContextReply.{ContextReply}
-use Rattle.reply_texts.specs.ReplyText.{all_lines, numbered, has_stamps, lane_lines, mark_line, journal_lines, version_line}
-use Rattle.reply_texts.specs.Lines.{key_line, context_line}
+use Rattle.batch_plans.specs.ReplyText.{all_lines, numbered, has_stamps, lane_lines, mark_line, journal_lines, version_line}
+use Rattle.batch_plans.specs.Lines.{key_line, context_line}
 use Rattle.due_replies.specs.Asks.{ask_of, batch_of, cipher_at}
 use Rattle.due_replies.specs.Runs.{Run, asks_of, journal_of, guesses_of, IsAllowed, run_text, run_along}
 use Rattle.due_replies.proofs.Done.{lane_asks}

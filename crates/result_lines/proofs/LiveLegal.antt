@@ -30,8 +30,8 @@ use Rattle.batch_plans.specs.declared.plan.CallLine.{CallLine}
 use Rattle.batch_plans.specs.Limits as limits
 use Rattle.batch_plans.specs.Limits.{IsWithinLimits}
 use Rattle.batch_plans.proofs.Rooms.{has_item}
-use Rattle.reply_texts.specs.ReplyText.{numbered}
-use Rattle.reply_texts.specs.LiveText.{tells_live}
+use Rattle.batch_plans.specs.ReplyText.{numbered}
+use Rattle.batch_plans.specs.LiveText.{tells_live}
 use Rattle.due_replies.specs.Asks.{ask_of}
 use Rattle.due_replies.specs.Live.{Noting, noting, noting_in, IsNoted, looked_up, looked_up_plan, LiveRun, run_of, LegalTable, LiveHistory}
 use Rattle.due_replies.specs.LiveChecks.{note_ask, pairs, asks_with_notes, note_mark, call_mark, with_table, tells_act, tells_live_at, is_live_history}

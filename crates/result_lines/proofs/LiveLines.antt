@@ -22,8 +22,8 @@ use Rattle.batch_plans.specs.Calls.{context_of}
 use Rattle.batch_plans.specs.Room.{served_batches, served_or}
 use Rattle.batch_plans.specs.Limits.{first_name, items_of, IsWithinLimits}
 use Rattle.batch_plans.specs.Names.{line_count, at_position}
-use Rattle.reply_texts.specs.ReplyText.{all_lines, numbered, guess_line}
-use Rattle.reply_texts.specs.LiveText.{live_lines}
+use Rattle.batch_plans.specs.ReplyText.{all_lines, numbered, guess_line}
+use Rattle.batch_plans.specs.LiveText.{live_lines}
 use Rattle.due_replies.specs.Standing.{call_refusal}
 use Rattle.due_replies.specs.Asks.{ask_of}
 use Rattle.due_replies.specs.Live.{LiveRun, run_of, was_live, looked_up, live_call_lines, live_lane_lines, live_run_text}

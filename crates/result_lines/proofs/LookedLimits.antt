@@ -14,8 +14,8 @@ use Rattle.batch_plans.specs.declared.plan.CallLine.TheVariants as calls
 use Rattle.batch_plans.specs.Calls.{context_of}
 use Rattle.batch_plans.specs.Limits.{first_name, items_of, size_of, text_size, IsNumber, IsCallWithin, IsWithinLimits}
 use Rattle.batch_plans.specs.Names.{position, at_position}
-use Rattle.reply_texts.specs.ReplyText.{numbered}
-use Rattle.reply_texts.proofs.Numbering.{length-numbered}
+use Rattle.batch_plans.specs.ReplyText.{numbered}
+use Rattle.batch_plans.proofs.Numbering.{length-numbered}
 use Rattle.due_replies.specs.Live.{was_live, looked_up, looked_up_plan}
 
 -- ---- one call

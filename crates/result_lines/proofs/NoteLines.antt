@@ -6,7 +6,7 @@ use Rattle.field_text.specs.Cuts.{lines_of, pieces_of}
 use Rattle.field_text.proofs.Cutting.{some_piece}
 use Rattle.field_text.specs.Fields as fields
 use Rattle.field_text.specs.Fields.{◌>>=◌, number, next, exactly}
-use Rattle.reply_texts.specs.LiveText.{bit, tells_live, note_line}
+use Rattle.batch_plans.specs.LiveText.{bit, tells_live, note_line}
 use Rattle.result_lines.specs.declared.stamps.Stamps.TheVariants.{PlacesAndNotes}
 use Rattle.result_lines.specs.declared.tables.NoteLine.{NoteLine}
 use Rattle.result_lines.specs.Forms.{most_stamp}

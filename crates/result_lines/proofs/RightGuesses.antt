@@ -11,7 +11,7 @@ use Rattle.context_books.proofs.Members.{value_at}
 use Rattle.context_books.proofs.Truths.{and_left, and_right, both_true}
 use Rattle.batch_plans.specs.declared.plan.CallLine.{CallLine}
 use Rattle.batch_plans.specs.declared.replies.Batch.{Batch}
-use Rattle.reply_texts.specs.ReplyText.{numbered}
+use Rattle.batch_plans.specs.ReplyText.{numbered}
 use Rattle.due_replies.specs.Asks.{ask_of, cipher_at}
 use Rattle.due_replies.specs.Runs.{Run, asks_of, journal_of, guesses_of}
 use Rattle.due_replies.proofs.Done.{lane_asks}

@@ -21,9 +21,9 @@ use Rattle.batch_plans.specs.declared.replies.CallRefusal.{CallRefusal}
 use Rattle.batch_plans.specs.declared.replies.CallRefusal.TheVariants.{NoContext}
 use Rattle.batch_plans.specs.Room.{served_batches, served_or}
 use Rattle.batch_plans.specs.Limits.{items_from, IsWithinLimits, items_of}
-use Rattle.reply_texts.specs.Lines.{batch_line}
-use Rattle.reply_texts.specs.ReplyText as texts
-use Rattle.reply_texts.specs.ReplyText.{all_lines, numbered, guess_line}
+use Rattle.batch_plans.specs.Lines.{batch_line}
+use Rattle.batch_plans.specs.ReplyText as texts
+use Rattle.batch_plans.specs.ReplyText.{all_lines, numbered, guess_line}
 use Rattle.due_replies.specs.Standing.{call_refusal}
 use Rattle.due_replies.specs.Asks.{asked_by, ask_unless, ask_of, cipher_at}
 use Rattle.due_replies.specs.Runs.{Run, asks_of, journal_of, guesses_of, place_line, served_lines, lines_unless, call_lines, lane_call_lines, run_text, item_lines}

@@ -8,7 +8,7 @@ use Rattle.context_books.specs.Histories.{marks_at, places}
 use Rattle.context_books.specs.Legal.{reply_of}
 use Rattle.batch_plans.specs.declared.plan.CallLine.{CallLine}
 use Rattle.batch_plans.specs.declared.plan.CallLine.TheVariants as calls
-use Rattle.reply_texts.specs.ReplyText.{all_lines, numbered}
+use Rattle.batch_plans.specs.ReplyText.{all_lines, numbered}
 use Rattle.due_replies.specs.Standing.{call_refusal}
 use Rattle.due_replies.specs.Asks.{ask_of, cipher_at}
 use Rattle.due_replies.specs.Runs.{Run, asks_of, journal_of, guesses_of, answer_line_of, place_line, lines_unless, item_lines}

@@ -4,8 +4,8 @@ use Rattle.hpke_context.specs.Contexts.{ContextView}
 use Rattle.batch_plans.specs.declared.plan.ContextLine.{ContextLine}
 use Rattle.batch_plans.specs.declared.plan.CallLine.{CallLine}
 use Rattle.call_places.specs.declared.entries.Entry.{Entry}
-use Rattle.reply_texts.specs.ReplyText.{numbered}
-use Rattle.reply_texts.specs.LiveText.{note_line}
+use Rattle.batch_plans.specs.ReplyText.{numbered}
+use Rattle.batch_plans.specs.LiveText.{note_line}
 use Rattle.result_lines.specs.declared.stop.Stop.{Stop}
 use Rattle.result_lines.specs.declared.stamps.Stamps.{Stamps}
 use Rattle.result_lines.specs.Places.{Stops}

@@ -12,7 +12,7 @@ use Rattle.batch_plans.specs.declared.plan.CallLine.TheVariants.{Add, Retire}
 use Rattle.batch_plans.specs.declared.replies.ContextReply.{ContextReply}
 use Rattle.batch_plans.specs.Limits.{first_name}
 use Rattle.batch_plans.specs.Names.{line_count}
-use Rattle.reply_texts.specs.ReplyText.{all_lines, numbered}
+use Rattle.batch_plans.specs.ReplyText.{all_lines, numbered}
 use Rattle.due_replies.specs.Live.{LiveRun, run_of, was_live, looked_up, add_line, retire_line, live_run_along}
 use Rattle.due_replies.specs.LiveChecks.{asks_with_notes, note_mark, tells_act, tells_live_at, is_live_history}
 use Rattle.due_replies.specs.Runs.{asks_of}

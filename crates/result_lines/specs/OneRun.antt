@@ -1,6 +1,6 @@
 -- What the text of a run tells of it.
 use Rattle.std.specs.Prelude.{◌≡◌, ℕ, true}
-use Rattle.reply_texts.specs.ReplyText.{has_stamps}
+use Rattle.batch_plans.specs.ReplyText.{has_stamps}
 use Rattle.due_replies.specs.Live.{LiveRun}
 use Rattle.due_replies.specs.Runs.{Run, journal_of}
 

@@ -5,7 +5,7 @@ use Rattle.call_places.specs.Spans.{span_bytes}
 use Rattle.context_books.specs.Batches.{block, place}
 use Rattle.batch_plans.specs.declared.plan.CallLine.{CallLine}
 use Rattle.batch_plans.specs.declared.plan.CallLine.TheVariants as calls
-use Rattle.reply_texts.specs.ReplyText.{all_lines, numbered}
+use Rattle.batch_plans.specs.ReplyText.{all_lines, numbered}
 use Rattle.due_replies.specs.Standing.{standing_at, call_refusal}
 use Rattle.due_replies.specs.Runs.{Run, item_lines, lines_unless}
 use Rattle.result_lines.specs.Places.{with_feed}

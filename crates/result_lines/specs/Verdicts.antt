@@ -4,7 +4,7 @@ use Rattle.std.specs.Prelude.{ℕ, Bool, true, false, List, map, Option, Some, N
 use Rattle.call_places.specs.declared.entries.Mark.{Mark}
 use Rattle.hpke_context.specs.Contexts.{ContextView}
 use Rattle.batch_plans.specs.declared.plan.Plan.{Plan}
-use Rattle.reply_texts.specs.ReplyText.{has_stamps}
+use Rattle.batch_plans.specs.ReplyText.{has_stamps}
 use Rattle.due_replies.specs.Runs.{Run, asks_of, run_along}
 use Rattle.result_lines.specs.declared.told.GuessLine.{GuessLine}
 use Rattle.result_lines.specs.Told.{ToldView}

@@ -2,8 +2,8 @@
 
 ghost use Rattle.std.specs.Prelude.{◌≡◌, ◌≤◌, ℕ, List, length};
 ghost use Rattle.batch_plans.specs.Limits.{most_input};
-ghost use Rattle.reply_texts.specs.ReplyText.{numbered, has_stamps};
-ghost use Rattle.reply_texts.specs.Lines.{key_line as key_line_of, context_line as context_line_of};
+ghost use Rattle.batch_plans.specs.ReplyText.{numbered, has_stamps};
+ghost use Rattle.batch_plans.specs.Lines.{key_line as key_line_of, context_line as context_line_of};
 ghost use Rattle.result_lines.specs.Forms.{stamps_for};
 ghost use Rattle.result_lines.specs.Places.{Tells};
 ghost use Rattle.result_lines.specs.Told.{with_lines, with_setup, with_lanes, with_journals};

@@ -3,7 +3,7 @@
 ghost use Rattle.std.specs.Prelude.{◌≡◌, ◌<◌, ◌≤◌, IfOk, length};
 ghost use Rattle.batch_plans.specs.Limits.{IsWithinLimits};
 ghost use Rattle.batch_plans.specs.Room.{room_for};
-ghost use Rattle.reply_texts.specs.ReplyText.{IsAnswered};
+ghost use Rattle.batch_plans.specs.ReplyText.{IsAnswered};
 ghost use Rattle.due_replies.specs.Standing.{AreOfLines, export_limits};
 ghost use Rattle.lane_workers.specs.Gathered.{AreOfARun};
 

@@ -1,5 +1,5 @@
 use Rattle.std.proofs.Common.{◌≡◌}
-use Rattle.reply_texts.specs.LiveText.{live_text}
+use Rattle.batch_plans.specs.LiveText.{live_text}
 use Rattle.context_table.specs.ReplyTo.{IsLiveReply}
 use Rattle.live_order.specs.LiveRuns.{IsALiveRun}
 use Rattle.batch_alone.proofs.Lived.{both_ok, is_live_reply}

@@ -1,5 +1,5 @@
 use Rattle.std.proofs.Common.{refl, subst, sym}
-use Rattle.reply_texts.specs.ReplyText.{bad_text}
+use Rattle.batch_plans.specs.ReplyText.{bad_text}
 use Rattle.batch_serving.specs.declared.outcomes.Outcome.TheVariants.{BadBatch}
 use Rattle.batch_serving.specs.Effects.{Writes}
 use Rattle.batch_serving.specs.Text.{IsTold}

@@ -2,8 +2,8 @@ use Rattle.std.proofs.Common.{◌≡◌, ℕ, List, ◌++◌, map, codes, ap, sy
 use Rattle.std.specs.List.{concat}
 use Rattle.field_text.proofs.Held.{Puts-same}
 use Rattle.batch_plans.specs.declared.replies.KeyReply.{KeyReply}
-use Rattle.reply_texts.specs.Lines.{key_line}
-use Rattle.reply_texts.specs.ReplyText.{numbered}
+use Rattle.batch_plans.specs.Lines.{key_line}
+use Rattle.batch_plans.specs.ReplyText.{numbered}
 use Rattle.reply_frames.proofs.Chains.{◌⨾◌}
 use Rattle.capsule_frames.specs.declared.replies.CapsuleReply.{CapsuleReply}
 use Rattle.capsule_frames.specs.Text.{capsule_line, capsules_text}

@@ -3,7 +3,7 @@ use Rattle.call_places.specs.Spans.{IsInPool, span_bytes}
 use Rattle.hpke_context.specs.Contexts.{exported_by}
 use Rattle.batch_plans.specs.Limits.{items_of, IsCallWithin}
 use Rattle.batch_plans.specs.Room.{served_room}
-use Rattle.reply_texts.specs.Lines.{exported_line}
+use Rattle.batch_plans.specs.Lines.{exported_line}
 use Rattle.lane_replies.specs.Writing.{PutsReplies}
 use Rattle.lane_replies.proofs.Within.{line_within}
 use Rattle.context_core.specs.declared.lanes.Stage.TheVariants.{Fresh}

@@ -5,7 +5,7 @@ use Rattle.call_places.specs.declared.entries.Mark.{Mark}
 use Rattle.batch_plans.specs.declared.replies.Answers.{Answers}
 use Rattle.batch_plans.specs.declared.replies.LaneAnswers.{LaneAnswers}
 use Rattle.batch_plans.specs.Replies.{IsPrintable}
-use Rattle.reply_texts.specs.ReplyText.{lanes_lines, UsesUp}
+use Rattle.batch_plans.specs.ReplyText.{lanes_lines, UsesUp}
 use Rattle.lane_replies.specs.LaneCalls.{lane_calls}
 use Rattle.context_core.specs.Core.{core}
 use Rattle.due_replies.specs.Standing.{export_limits}

@@ -1,6 +1,6 @@
 use Rattle.std.proofs.Common.{◌∙◌, map, refl, sym}
 use Rattle.std.specs.String.{string_bytes}
-use Rattle.reply_texts.specs.ReplyText.{bad_text}
+use Rattle.batch_plans.specs.ReplyText.{bad_text}
 use Rattle.result_lines.specs.VerdictText.{verdict_text}
 use Rattle.batch_words.specs.Words.{command_of}
 use Rattle.hpkebatch_c.proofs.Served.{put_bad, put_broken, put_done, refused}

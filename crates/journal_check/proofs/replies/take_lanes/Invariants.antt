@@ -1,5 +1,5 @@
 use Rattle.std.proofs.Common.{◌≡◌, ◌++◌, ℕ, List, drop}
-use Rattle.reply_texts.specs.ReplyText.{all_lines, numbered}
+use Rattle.batch_plans.specs.ReplyText.{all_lines, numbered}
 use Rattle.result_lines.specs.Replies.{wrong_reply}
 use Rattle.journal_check.specs.Served.{lane_due, all_due}
 use Rattle.journal_check.specs.Walks.{run_in}

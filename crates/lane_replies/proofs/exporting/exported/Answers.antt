@@ -2,7 +2,7 @@ use Rattle.std.proofs.Common.{refl, ap, ◌∙◌, arith}
 use Rattle.call_places.specs.declared.spans.Span.{Span}
 use Rattle.hpke_context.specs.Contexts.{exported_by}
 use Rattle.batch_plans.specs.declared.replies.Reply.TheVariants.{Exported}
-use Rattle.reply_texts.specs.Lines.{exported_line}
+use Rattle.batch_plans.specs.Lines.{exported_line}
 use Rattle.lane_replies.proofs.Writing.{writes}
 use Rattle.lane_replies.proofs.exporting.exported.Goals as goal
 

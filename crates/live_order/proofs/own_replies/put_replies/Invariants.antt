@@ -2,7 +2,7 @@ use Rattle.std.proofs.Common.{◌≡◌, ◌<◌, ◌≤◌, ◌++◌, ℕ, List
 use Rattle.std.specs.Prelude.{slice_index_or}
 use Rattle.batch_plans.specs.declared.plan.CallLine.{CallLine}
 use Rattle.batch_plans.specs.declared.replies.Batch.{Batch}
-use Rattle.reply_texts.specs.ReplyText.{UsesUp}
+use Rattle.batch_plans.specs.ReplyText.{UsesUp}
 use Rattle.live_order.specs.Own.{own_reply, with_own}
 use Rattle.live_order.proofs.own_replies.put_replies.Given as goal
 

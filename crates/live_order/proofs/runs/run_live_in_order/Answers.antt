@@ -5,7 +5,7 @@ use Rattle.call_places.specs.declared.entries.Mark.{Mark}
 use Rattle.batch_plans.specs.declared.plan.CallLine.{CallLine}
 use Rattle.batch_plans.specs.declared.plan.Plan.{Plan}
 use Rattle.batch_plans.specs.Limits.{IsWithinLimits}
-use Rattle.reply_texts.specs.ReplyText.{IsAnswered}
+use Rattle.batch_plans.specs.ReplyText.{IsAnswered}
 use Rattle.due_replies.specs.Live.{looked_up_plan}
 use Rattle.context_core.specs.Rehearsals.{rehearsed, AreAnswersOf}
 use Rattle.result_lines.proofs.LookedLimits.{looked_lanes}

@@ -1,7 +1,7 @@
 use Rattle.std.proofs.Common.{refl}
 use Rattle.call_places.specs.declared.entries.Entry.{Entry}
 use Rattle.call_places.specs.declared.entries.Step.TheVariants.{Sealed}
-use Rattle.reply_texts.specs.LiveText.{note_line}
+use Rattle.batch_plans.specs.LiveText.{note_line}
 use Rattle.reply_frames.proofs.Leaves.{Leaves-whole, Leaves-next, Leaves-nothing}
 use Rattle.reply_frames.proofs.LinesLeft.{each-next, each-end}
 use Rattle.reply_frames.proofs.live_printing.put_notes.Goals as goal

@@ -1,4 +1,4 @@
-use Rattle.reply_texts.specs.LiveText.{note_line}
+use Rattle.batch_plans.specs.LiveText.{note_line}
 use Rattle.reply_frames.proofs.Leaves.{Leaves}
 use Rattle.reply_frames.proofs.LinesLeft.{each_from}
 use Rattle.reply_frames.proofs.live_printing.put_notes.Given as goal

@@ -1,4 +1,4 @@
-use Rattle.reply_texts.specs.Lines.{context_line}
+use Rattle.batch_plans.specs.Lines.{context_line}
 use Rattle.reply_frames.proofs.Leaves.{Leaves-whole, Leaves-next, Leaves-nothing}
 use Rattle.reply_frames.proofs.LinesLeft.{numbered-next, numbered-end}
 use Rattle.reply_frames.proofs.printing.put_contexts.Goals as goal

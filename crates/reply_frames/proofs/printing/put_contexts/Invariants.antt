@@ -1,4 +1,4 @@
-use Rattle.reply_texts.specs.Lines.{context_line}
+use Rattle.batch_plans.specs.Lines.{context_line}
 use Rattle.reply_frames.proofs.Leaves.{Leaves}
 use Rattle.reply_frames.proofs.LinesLeft.{numbered_from}
 use Rattle.reply_frames.proofs.printing.put_contexts.Given as goal

@@ -2,8 +2,8 @@ use Rattle.std.proofs.Common.{List, ap, arith}
 use Rattle.std.specs.List.{concat}
 use Rattle.batch_plans.specs.declared.plan.CallLine.{CallLine}
 use Rattle.field_text.proofs.Held.{Puts-same}
-use Rattle.reply_texts.specs.ReplyText.{lane_lines}
-use Rattle.reply_texts.proofs.Lanes.{IsLane}
+use Rattle.batch_plans.specs.ReplyText.{lane_lines}
+use Rattle.batch_plans.proofs.Lanes.{IsLane}
 use Rattle.reply_frames.specs.LineParts.{lines_by}
 use Rattle.reply_frames.proofs.Leaves.{Leaves-whole, Leaves-next, Leaves-nothing}
 use Rattle.reply_frames.proofs.LanesLeft.{lanes-next, lanes-end}

@@ -1,6 +1,6 @@
 use Rattle.std.proofs.Common.{refl}
 use Rattle.batch_plans.specs.Room.{blank_mark}
-use Rattle.reply_texts.specs.ReplyText.{mark_line}
+use Rattle.batch_plans.specs.ReplyText.{mark_line}
 use Rattle.reply_frames.proofs.Leaves.{Leaves-whole, Leaves-next, Leaves-nothing}
 use Rattle.reply_frames.proofs.LinesLeft.{each-next, each-end}
 use Rattle.reply_frames.proofs.printing.put_marks.Goals as goal

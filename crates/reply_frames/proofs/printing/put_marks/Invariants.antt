@@ -1,4 +1,4 @@
-use Rattle.reply_texts.specs.ReplyText.{mark_line}
+use Rattle.batch_plans.specs.ReplyText.{mark_line}
 use Rattle.reply_frames.proofs.Leaves.{Leaves}
 use Rattle.reply_frames.proofs.LinesLeft.{each_from}
 use Rattle.reply_frames.proofs.printing.put_marks.Given as goal

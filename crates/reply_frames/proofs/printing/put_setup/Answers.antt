@@ -1,8 +1,8 @@
 use Rattle.std.proofs.Common.{sym}
 use Rattle.std.proofs.lemmas.List.Folds.{concat-append}
 use Rattle.field_text.proofs.Held.{Puts-same}
-use Rattle.reply_texts.specs.Lines.{key_line, context_line}
-use Rattle.reply_texts.specs.ReplyText.{numbered}
+use Rattle.batch_plans.specs.Lines.{key_line, context_line}
+use Rattle.batch_plans.specs.ReplyText.{numbered}
 use Rattle.reply_frames.proofs.Chains.{◌⨾◌}
 use Rattle.reply_frames.proofs.printing.put_setup.Goals as goal
 

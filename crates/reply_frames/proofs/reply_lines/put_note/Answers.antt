@@ -1,6 +1,6 @@
 use Rattle.std.proofs.Common.{decimal, ap, ◌∙◌}
 use Rattle.field_text.proofs.Held.{Puts-same}
-use Rattle.reply_texts.specs.LiveText.{bit}
+use Rattle.batch_plans.specs.LiveText.{bit}
 use Rattle.reply_frames.proofs.Chains.{◌⨾◌}
 use Rattle.reply_frames.proofs.reply_lines.put_note.Goals as goal
 

@@ -1,6 +1,6 @@
 use Rattle.std.proofs.Common.{ap}
 use Rattle.field_text.proofs.Held.{Puts-same}
-use Rattle.reply_texts.specs.Lines.{exported_line}
+use Rattle.batch_plans.specs.Lines.{exported_line}
 use Rattle.reply_frames.proofs.reply_lines.put_reply.Goals as goal
 
 pub returns-in-Exported : goal.returns-in-Exported

@@ -1,5 +1,5 @@
 use Rattle.std.proofs.Common.{◌≡◌, drop, map}
-use Rattle.reply_texts.specs.LiveText.{note_line}
+use Rattle.batch_plans.specs.LiveText.{note_line}
 use Rattle.result_lines.specs.Told.{with_lines}
 use Rattle.result_lines.proofs.live_reading.read_notes.Given as goal
 

@@ -1,5 +1,5 @@
 use Rattle.std.proofs.Common.{◌≡◌, ◌++◌, drop}
-use Rattle.reply_texts.specs.ReplyText.{numbered}
+use Rattle.batch_plans.specs.ReplyText.{numbered}
 use Rattle.due_replies.specs.Live.{looked_up}
 use Rattle.result_lines.proofs.looking_up.looked_up_lane.Given as goal
 

@@ -1,6 +1,6 @@
 use Rattle.std.proofs.Common.{◌≡◌, ◌++◌, ℕ, List, drop}
 use Rattle.batch_plans.specs.declared.plan.CallLine.{CallLine}
-use Rattle.reply_texts.specs.ReplyText.{numbered}
+use Rattle.batch_plans.specs.ReplyText.{numbered}
 use Rattle.due_replies.specs.Live.{looked_up}
 use Rattle.result_lines.proofs.looking_up.looked_up_lanes.Given as goal
 

@@ -1,6 +1,6 @@
 use Rattle.std.proofs.Common.{◌≡◌, drop}
-use Rattle.reply_texts.specs.Lines.{context_line}
-use Rattle.reply_texts.specs.ReplyText.{numbered}
+use Rattle.batch_plans.specs.Lines.{context_line}
+use Rattle.batch_plans.specs.ReplyText.{numbered}
 use Rattle.result_lines.specs.Told.{with_lines}
 use Rattle.result_lines.proofs.reading.read_contexts.Given as goal
 

@@ -2,7 +2,7 @@ use Rattle.std.proofs.Common.{◌≤◌, ◌∷◌, [], ℕ, List, length, sym, 
 use Rattle.call_places.specs.Spans.{IsInPool, span_bytes}
 use Rattle.hpke_context.specs.Contexts.{ContextView, export_limit, exported_by}
 use Rattle.lane_replies.specs.Writing.{PutsReplies}
-use Rattle.reply_texts.specs.Lines.{exported_line}
+use Rattle.batch_plans.specs.Lines.{exported_line}
 use Rattle.lane_workers.proofs.calls.Service.export.Goals as goal
 
 pub of-exporter_context-requires : goal.of-exporter_context-requires

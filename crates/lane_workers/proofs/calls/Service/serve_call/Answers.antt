@@ -7,7 +7,7 @@ use Rattle.batch_plans.specs.Room.{served_room, served_batches}
 use Rattle.batch_plans.specs.Progress.{Progress, with_batch}
 use Rattle.call_places.specs.Spans.{IsInPool, span_bytes}
 use Rattle.hpke_context.specs.Contexts.{exported_by}
-use Rattle.reply_texts.specs.Lines.{exported_line}
+use Rattle.batch_plans.specs.Lines.{exported_line}
 use Rattle.lane_replies.specs.Writing.{PutsReplies}
 use Rattle.lane_workers.specs.declared.works.LaneWork.{LaneWork}
 use Rattle.lane_replies.specs.LaneCalls.{IsOpening}

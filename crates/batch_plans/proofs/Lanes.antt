@@ -2,7 +2,7 @@
 use Rattle.std.proofs.Common.{◌≡◌, ◌<◌, ◌+◌, ℕ, zero, suc, List, [], ◌∷◌, length, get_or, refl, ap, ◌∙◌, add-zero, arith}
 use Rattle.batch_plans.specs.declared.plan.CallLine.{CallLine}
 use Rattle.batch_plans.specs.declared.replies.LaneAnswers.{LaneAnswers}
-use Rattle.reply_texts.specs.ReplyText.{answered_lines, lanes_lines, numbered}
+use Rattle.batch_plans.specs.ReplyText.{answered_lines, lanes_lines, numbered}
 
 pub length-lanes_lines : (lanes : List (List CallLine)) (answers : List LaneAnswers)
     → length answers ≡ length lanes → length (lanes_lines lanes answers) ≡ length lanes

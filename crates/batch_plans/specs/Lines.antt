@@ -11,7 +11,7 @@ use Rattle.batch_plans.specs.declared.replies.ContextReply.TheVariants as contex
 use Rattle.batch_plans.specs.declared.replies.CallRefusal.{CallRefusal}
 use Rattle.batch_plans.specs.declared.replies.Reply.{Reply}
 use Rattle.batch_plans.specs.declared.replies.Reply.TheVariants.{Blank, Sealed, Opened, Failed, Limit, Exported, Refused, Added, Retired}
-use Rattle.reply_texts.specs.Words.{key_refusal_word, context_refusal_word, call_refusal_word}
+use Rattle.batch_plans.specs.Words.{key_refusal_word, context_refusal_word, call_refusal_word}
 
 -- ---- keys and contexts
 

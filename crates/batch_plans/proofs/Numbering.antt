@@ -1,7 +1,7 @@
 -- Lists that are made of the elements of another and their numbers.
 use Rattle.std.proofs.Common.{◌≡◌, ◌<◌, ◌+◌, ℕ, List, [], ◌∷◌, ◌++◌, length, take, map, get_or, refl, sym, ap, ◌∙◌, add-zero, zero-add, arith}
 use Rattle.std.proofs.lemmas.List.{take_more, length-take-le}
-use Rattle.reply_texts.specs.ReplyText.{numbered}
+use Rattle.batch_plans.specs.ReplyText.{numbered}
 
 pub length-numbered : {A B : Type 0} (f : ℕ → A → B) (start : ℕ) (xs : List A)
     → length (numbered f start xs) ≡ length xs

@@ -16,8 +16,8 @@ use Rattle.batch_plans.specs.declared.plan.CallLine.{CallLine}
 use Rattle.batch_plans.specs.declared.plan.Plan.{Plan}
 use Rattle.batch_plans.specs.Calls.{items_of}
 use Rattle.batch_plans.specs.Room.{served_batches}
-use Rattle.reply_texts.specs.Words.{reason_word}
-use Rattle.reply_texts.specs.Lines.{key_line, context_line, reply_line, batch_line}
+use Rattle.batch_plans.specs.Words.{reason_word}
+use Rattle.batch_plans.specs.Lines.{key_line, context_line, reply_line, batch_line}
 
 -- ---- the replies of a call
 

@@ -15,7 +15,7 @@ use Rattle.batch_plans.specs.declared.replies.Reply.TheVariants.{Blank}
 use Rattle.batch_plans.specs.declared.replies.LaneAnswers.{LaneAnswers}
 use Rattle.batch_plans.specs.declared.replies.Answers.{Answers}
 use Rattle.batch_plans.specs.Names.{line_count}
-use Rattle.reply_texts.specs.ReplyText.{answered_lines, numbered, all_lines, setup_lines, lane_lines, mark_line, journal_lines, version_line}
+use Rattle.batch_plans.specs.ReplyText.{answered_lines, numbered, all_lines, setup_lines, lane_lines, mark_line, journal_lines, version_line}
 
 -- ---- lanes
 

@@ -1,4 +1,0 @@
-pub mod Numbering
-pub mod Calls
-pub mod Pools
-pub mod Lanes

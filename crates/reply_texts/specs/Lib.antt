@@ -1,4 +1,0 @@
-pub mod Words
-pub mod Lines
-pub mod ReplyText
-pub mod LiveText
