@@ -1,3 +1,12 @@
 pub mod Lived
 pub mod Told
 pub mod Demonstrated
+pub mod LaneByLane
+pub mod TableStamps
+pub mod InTurn
+pub mod OwnLines
+pub mod Rooms
+pub mod Whole
+pub mod Lives
+pub mod Putting
+pub mod Made

@@ -11,7 +11,7 @@ use Rattle.batch_plans.specs.Names.{line_count}
 use Rattle.batch_plans.specs.LiveText.{live_lines, live_text}
 use Rattle.context_table.specs.SetUp.{IsSetUp}
 use Rattle.context_table.specs.ReplyTo.{IsLiveReply}
-use Rattle.live_order.specs.LiveRuns.{IsALiveRun}
+use Rattle.batch_alone.specs.LiveRuns.{IsALiveRun}
 
 -- what two facts say of a result's value
 pub both_ok : {X E : Type 0} (r : Result X E) (P Q R : X → Type 0) → ((x : X) → P x → Q x → R x)

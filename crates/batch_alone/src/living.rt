@@ -9,12 +9,12 @@ ghost use Rattle.context_table.specs.ReplyTo.{IsLiveReply};
 ghost use Rattle.batch_serving.specs.Effects.{Writes};
 ghost use Rattle.batch_serving.specs.Text.{AnswersBy};
 
+use crate::runs::run_live_in_order;
 use batch_io::Sink;
 use batch_plans::{Answers, Plan};
 use batch_serving::{Named, Outcome, tell_fault, tell_live_run};
 use batch_words::Mult;
 use context_table::{Setup, export_limits, set_up};
-use live_order::run_live_in_order;
 use request_frames::read_live;
 use speculative_open::Crew;
 use std::alloc::{AllocError, Global};

@@ -1,7 +1,7 @@
 use Rattle.std.proofs.Common.{◌≡◌}
 use Rattle.batch_plans.specs.LiveText.{live_text}
 use Rattle.context_table.specs.ReplyTo.{IsLiveReply}
-use Rattle.live_order.specs.LiveRuns.{IsALiveRun}
+use Rattle.batch_alone.specs.LiveRuns.{IsALiveRun}
 use Rattle.batch_alone.proofs.Lived.{both_ok, is_live_reply}
 use Rattle.batch_alone.proofs.living.answered_live_in_order.Goals as goal
 

@@ -1,9 +1,0 @@
-pub mod LaneByLane
-pub mod TableStamps
-pub mod InTurn
-pub mod OwnLines
-pub mod Rooms
-pub mod Whole
-pub mod Lives
-pub mod Putting
-pub mod Made
