@@ -1,8 +1,7 @@
 -- The lines of one call, of each kind: what the sequential context answers from the number on that
 -- is due before the call's places.
 use Rattle.std.proofs.Common.{◌≡◌, ℕ, ◌+◌, List, [], ◌∷◌, ◌++◌, length, map, take, sym, ap, ◌∙◌, subst, arith, Some, None}
-use Rattle.std.specs.Prelude.{slice_get, slice_index}
-use Rattle.std.proofs.lemmas.List.{get_or-append-add}
+use Rattle.std.specs.Prelude.{slice_get}
 use Rattle.std.proofs.lemmas.Simd.{map-map}
 use Rattle.call_places.specs.declared.spans.Item.{Item as ItemSpans}
 use Rattle.call_places.specs.declared.spans.Span.{Span}
@@ -10,7 +9,7 @@ use Rattle.call_places.specs.declared.entries.Place.{Place}
 use Rattle.call_places.specs.Messages.{sealed_messages}
 use Rattle.call_places.specs.Spans.{span_bytes}
 use Rattle.hpke_context.specs.Answers as hpke
-use Rattle.hpke_context.specs.Answers.{Item, Seal, Unseal, Cipher, Answer, answer}
+use Rattle.hpke_context.specs.Answers.{Seal, Unseal, Cipher, answer}
 use Rattle.hpke_context.specs.Contexts.{ContextView, exported_by}
 use Rattle.context_books.specs.Batches.{Ask, unseal, items_in, context_in, block, place, own_places, lane_of, lane_places}
 use Rattle.context_books.specs.Legal.{reply_of, number_of, due_after}
@@ -27,7 +26,7 @@ use Rattle.batch_plans.specs.Lines.{batch_line, exported_line, refused_line}
 use Rattle.due_replies.specs.Standing.{call_refusal, standing_at}
 use Rattle.due_replies.specs.Asks.{asked_by, cipher_at}
 use Rattle.due_replies.specs.Runs.{Run, asks_of, journal_of, guesses_of, answer_line, answer_line_of, place_line, served_lines, export_line, lines_unless, call_lines}
-use Rattle.due_replies.specs.Lanes.{calls_of, guesses_before}
+use Rattle.due_replies.specs.Lanes.{calls_of}
 use Rattle.due_replies.proofs.Placed.{call_replies_are, call_numbers_are}
 use Rattle.due_replies.proofs.Done.{ask_served, length-messages, within_taken}
 use Rattle.due_replies.specs.Lanes.{StandsBehind}
@@ -43,17 +42,6 @@ not_yet run lane number context front own item has =
     let few = within_taken number asks t.1 item context t.3.0 t.3.1 in
     let is : number ≡ 0 + t.1 = t.2 in
     absurd (omega arith)
-
--- what the lane's last guess is
-pub guess_now : (run : Run) (lane number guess : ℕ) (guesses : List ℕ)
-    → guesses_of run lane ≡ guesses ++ guess ∷ []
-    → length guesses ≡ guesses_before run lane number
-    → guess_at (lane_of (asks_of run) lane) (guesses_of run lane) number ≡ guess
-guess_now run lane number guess guesses is count =
-    ap (λ gs. slice_index gs (guesses_before run lane number)) is
-    ∙ ap (slice_index (guesses ++ guess ∷ [])) (sym count
-    ∙ (let e : length guesses ≡ length guesses + 0 = omega arith in e))
-    ∙ get_or-append-add guesses (guess ∷ []) 0 0
 
 -- ---- the lines of the places of a call
 
