@@ -9,11 +9,6 @@ use Rattle.batch_plans.specs.declared.plan.CallLine.{CallLine}
 use Rattle.batch_plans.specs.Limits.{items_of, all_items}
 use Rattle.batch_plans.specs.Room.{served_on, items_at, items_on, all_items_on}
 
--- a call that no context serves adds to no count
-pub not_served : (contexts : List ContextLine) (limits : List ℕ) (call : CallLine) (k : ℕ)
-    → served_on contexts limits call ≡ None → items_on contexts limits k call ≡ 0
-not_served contexts limits call k none = ap (λ served. items_at served k (items_of call)) none
-
 -- a call that a context serves adds its items to its count alone
 pub served : (contexts : List ContextLine) (limits : List ℕ) (call : CallLine) (counts : List ℕ)
     (context k : ℕ) → served_on contexts limits call ≡ Some context → context < length counts

@@ -1,16 +1,8 @@
 -- The lines of all lanes.
-use Rattle.std.proofs.Common.{◌≡◌, ◌<◌, ◌+◌, ℕ, zero, suc, List, [], ◌∷◌, length, get_or, refl, ap, ◌∙◌, add-zero, arith}
+use Rattle.std.proofs.Common.{◌≡◌, ◌<◌, ◌+◌, ℕ, suc, List, [], ◌∷◌, length, get_or, refl, ap, ◌∙◌, add-zero, arith}
 use Rattle.batch_plans.specs.declared.plan.CallLine.{CallLine}
 use Rattle.batch_plans.specs.declared.replies.LaneAnswers.{LaneAnswers}
 use Rattle.batch_plans.specs.ReplyText.{answered_lines, lanes_lines, numbered}
-
-pub length-lanes_lines : (lanes : List (List CallLine)) (answers : List LaneAnswers)
-    → length answers ≡ length lanes → length (lanes_lines lanes answers) ≡ length lanes
-length-lanes_lines [] answers same = refl
-length-lanes_lines (calls ∷ lanes) [] same = absurd (omega (arith, same))
-length-lanes_lines (calls ∷ lanes) (lane ∷ answers) same =
-    let rest : length answers ≡ length lanes = omega (arith, same) in
-    omega (arith, length-lanes_lines lanes answers rest)
 
 -- the calls and the answers of the lane of this number
 pub record IsLane (lanes : List (List CallLine)) (answers : List LaneAnswers) (i : ℕ)
@@ -29,17 +21,6 @@ is_first = record {
   lane_is = refl;
 }
 
--- the lane of the next number, and that of the number before in the lists behind their heads
-in_rest : {first : List CallLine} {lanes : List (List CallLine)} {one : LaneAnswers}
-    {answers : List LaneAnswers} {i : ℕ} {calls : List CallLine} {lane : LaneAnswers}
-    → IsLane (first ∷ lanes) (one ∷ answers) (suc i) calls lane → IsLane lanes answers i calls lane
-in_rest h = record {
-  one_of_lanes = omega arith;
-  one_of_answers = omega arith;
-  calls_are = h.calls_are;
-  lane_is = h.lane_is;
-}
-
 behind_first : {first : List CallLine} {lanes : List (List CallLine)} {one : LaneAnswers}
     {answers : List LaneAnswers} {i : ℕ} {calls : List CallLine} {lane : LaneAnswers}
     → IsLane lanes answers i calls lane → IsLane (first ∷ lanes) (one ∷ answers) (suc i) calls lane
@@ -49,19 +30,6 @@ behind_first h = record {
   calls_are = h.calls_are;
   lane_is = h.lane_is;
 }
-
--- the lines of the lane of this number
-pub get_or-lanes_lines : (lanes : List (List CallLine)) (answers : List LaneAnswers) (i : ℕ)
-    (calls : List CallLine) (lane : LaneAnswers) (d : List (List ℕ))
-    → IsLane lanes answers i calls lane
-    → answered_lines calls lane ≡ get_or (lanes_lines lanes answers) i d
-get_or-lanes_lines [] answers i calls lane d h = absurd (omega arith)
-get_or-lanes_lines (first ∷ lanes) [] i calls lane d h = absurd (omega arith)
-get_or-lanes_lines (first ∷ lanes) (one ∷ answers) zero calls lane d h =
-    ap (λ (calls : List CallLine). answered_lines calls lane) h.calls_are
-    ∙ ap (λ (lane : LaneAnswers). answered_lines first lane) h.lane_is
-get_or-lanes_lines (first ∷ lanes) (one ∷ answers) (suc i) calls lane d h =
-    get_or-lanes_lines lanes answers i calls lane d (in_rest h)
 
 -- the lines of all lanes, where those of each lane are made of its number and its calls
 pub lanes_lines-numbered : (f : ℕ → List CallLine → List (List ℕ)) (start : ℕ)

@@ -1,8 +1,7 @@
 -- The lines of one call, of each kind: what the sequential context answers from the number on that
 -- is due before the call's places.
 use Rattle.std.proofs.Common.{◌≡◌, ℕ, ◌+◌, List, [], ◌∷◌, ◌++◌, length, map, take, sym, ap, ◌∙◌, subst, arith, Some, None}
-use Rattle.std.specs.Prelude.{slice_get, slice_index}
-use Rattle.std.proofs.lemmas.List.{get_or-append-add}
+use Rattle.std.specs.Prelude.{slice_get}
 use Rattle.std.proofs.lemmas.Simd.{map-map}
 use Rattle.call_places.specs.declared.spans.Item.{Item as ItemSpans}
 use Rattle.call_places.specs.declared.spans.Span.{Span}
@@ -10,11 +9,11 @@ use Rattle.call_places.specs.declared.entries.Place.{Place}
 use Rattle.call_places.specs.Messages.{sealed_messages}
 use Rattle.call_places.specs.Spans.{span_bytes}
 use Rattle.hpke_context.specs.Answers as hpke
-use Rattle.hpke_context.specs.Answers.{Item, Seal, Unseal, Cipher, Answer, answer}
+use Rattle.hpke_context.specs.Answers.{Seal, Unseal, Cipher, answer}
 use Rattle.hpke_context.specs.Contexts.{ContextView, exported_by}
 use Rattle.context_books.specs.Batches.{Ask, unseal, items_in, context_in, block, place, own_places, lane_of, lane_places}
 use Rattle.context_books.specs.Legal.{reply_of, number_of, due_after}
-use Rattle.context_books.specs.Guesses.{guess_at, missed}
+use Rattle.context_books.specs.Guesses.{guess_at, missed, missed_in}
 use Rattle.context_books.specs.Entries.{numbers_from}
 use Rattle.context_books.specs.Lists.{In}
 use Rattle.context_books.proofs.Places.{in_own}
@@ -26,9 +25,8 @@ use Rattle.batch_plans.specs.Limits.{items_from, IsCallWithin}
 use Rattle.batch_plans.specs.Lines.{batch_line, exported_line, refused_line}
 use Rattle.due_replies.specs.Standing.{call_refusal, standing_at}
 use Rattle.due_replies.specs.Asks.{asked_by, cipher_at}
-use Rattle.due_replies.specs.Runs.{Run, asks_of, journal_of, guesses_of, answer_line, answer_line_of, place_line, served_lines, opening_lines, export_line, lines_unless, call_lines}
-use Rattle.due_replies.specs.Lanes.{AllServed}
-use Rattle.due_replies.specs.Lanes.{calls_of, guesses_before}
+use Rattle.due_replies.specs.Runs.{Run, asks_of, journal_of, guesses_of, answer_line, answer_line_of, place_line, served_lines, export_line, lines_unless, call_lines}
+use Rattle.due_replies.specs.Lanes.{calls_of}
 use Rattle.due_replies.proofs.Placed.{call_replies_are, call_numbers_are}
 use Rattle.due_replies.proofs.Done.{ask_served, length-messages, within_taken}
 use Rattle.due_replies.specs.Lanes.{StandsBehind}
@@ -44,17 +42,6 @@ not_yet run lane number context front own item has =
     let few = within_taken number asks t.1 item context t.3.0 t.3.1 in
     let is : number ≡ 0 + t.1 = t.2 in
     absurd (omega arith)
-
--- what the lane's last guess is
-pub guess_now : (run : Run) (lane number guess : ℕ) (guesses : List ℕ)
-    → guesses_of run lane ≡ guesses ++ guess ∷ []
-    → length guesses ≡ guesses_before run lane number
-    → guess_at (lane_of (asks_of run) lane) (guesses_of run lane) number ≡ guess
-guess_now run lane number guess guesses is count =
-    ap (λ gs. slice_index gs (guesses_before run lane number)) is
-    ∙ ap (slice_index (guesses ++ guess ∷ [])) (sym count
-    ∙ (let e : length guesses ≡ length guesses + 0 = omega arith in e))
-    ∙ get_or-append-add guesses (guess ∷ []) 0 0
 
 -- ---- the lines of the places of a call
 
@@ -159,8 +146,8 @@ unseal_all_lines run lane number context first count guess front within at free 
     let here = ask_served run lane number call at free in
     let size = length-messages run.plan.items run.plan.pool first count within.3 in
     lines_served run lane number call free
-    ∙ ap (λ n. opening_lines run lane number context n
-    (guess_at (lane_of (asks_of run) lane) (guesses_of run lane) number)) (sym size)
-    ∙ ap (opening_lines run lane number context (length (items_in ask))) is
+    ∙ (λ i. map (place_line run context) (block lane number 0 (sym size i))
+    ++ batch_line (is i) (missed_in (asks_of run) (cipher_at run.contexts context)
+    (journal_of run context) lane number (sym size i) (is i)) ∷ [])
     ∙ (λ i. places_lines run lane number ask front here t i ++ batch_line guess
     (missed guess 0 (places_numbers run lane number ask front here t i)) ∷ [])

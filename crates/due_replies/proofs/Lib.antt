@@ -1,11 +1,10 @@
 pub mod Refusals
-pub mod Growing
-pub mod Staying
 pub mod Placed
 pub mod Done
 pub mod CallLines
 pub mod LookedUp
 pub mod FoundLive
 pub mod NeverLive
+pub mod LiveParts
 pub mod OneLiveHistory
 pub mod LiveChecked

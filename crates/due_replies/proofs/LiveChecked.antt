@@ -264,9 +264,6 @@ module _ (live : LiveRun) where
   abbrev numbers : List ℕ
   numbers = range_with_len 0 (length live.notes)
 
-  abbrev call_at : Entry → Option CallLine
-  call_at e = slice_get (slice_index_or live.plan.lanes e.place.lane []) e.place.call
-
   acts_told : list_all acts_test live.notes ≡ true → TellActs live.plan live.standing live.notes
   acts_told passes e n has r =
       noting_told n e.step (ap (λ o. tells_noting o e.step) (sym r.noting_is)

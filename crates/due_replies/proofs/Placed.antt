@@ -1,21 +1,19 @@
 -- The replies to a call whose places stand behind a front of the journal: the sequential context's
 -- answers, from the number on that is due after the front.
-use Rattle.std.proofs.Common.{◌≡◌, ℕ, ◌+◌, ◌<◌, ◌≤◌, List, [], ◌∷◌, ◌++◌, length, map, take, drop, refl, sym, ap, ◌∙◌, subst, arith, append_assoc, inl, inr, Some}
+use Rattle.std.proofs.Common.{◌≡◌, ℕ, ◌+◌, ◌<◌, ◌≤◌, List, [], ◌∷◌, ◌++◌, length, map, drop, refl, sym, ap, ◌∙◌, subst, arith, append_assoc, inl, inr, Some}
 use Rattle.std.specs.Prelude.{slice_get}
 use Rattle.call_places.specs.declared.entries.Place.{Place}
 use Rattle.call_places.specs.declared.entries.Entry.{Entry}
-use Rattle.call_places.specs.Entries.{number_at}
 use Rattle.hpke_context.specs.Answers.{Item, Cipher, answer, next, run, due}
-use Rattle.context_books.specs.Batches.{Batch, Ask, items_in, context_in, block, place, lane_of, item_of, item_or_none, IsServed}
+use Rattle.context_books.specs.Batches.{Batch, Ask, items_in, context_in, block, place, lane_of, item_or_none, IsServed}
 use Rattle.context_books.specs.Legal.{reply_of, due_after, before, number_of}
 use Rattle.context_books.specs.Entries.{numbers_from, number_after, entry_places, FitsAt, Fits}
 use Rattle.context_books.proofs.Members.{In-append}
 use Rattle.context_books.specs.Lists.{In}
-use Rattle.context_books.proofs.OneLane.{parted}
 use Rattle.context_books.proofs.Places.{before_split}
 use Rattle.context_books.proofs.Runs.{due_after-append, drop_step, item_here}
 use Rattle.context_books.proofs.Replies.{reply_at}
-use Rattle.context_books.proofs.EntryNumbers.{to_each, each_front, due_fits, entry_places-append}
+use Rattle.context_books.proofs.EntryNumbers.{to_each}
 use Rattle.context_books.specs.Lists.{EachFrom}
 use Rattle.due_replies.specs.Lanes.{AllServed}
 
@@ -131,23 +129,3 @@ pub fitting_places_are_served : (batch : Batch) (context : ℕ) (c : Cipher) (es
     → Fits batch context c es → AllServed batch context (entry_places es)
 fitting_places_are_served batch context c es fits =
     places_served batch context c 0 es (to_each (FitsAt batch context c) es fits)
-
--- where the entries of a context fit, a place that first stands at index i is answered at its
--- number there
-pub reply_at_entry : (batch : Batch) (context : ℕ) (c : Cipher) (es : List Entry) (i : ℕ)
-    (e : Entry) (x : Item) → Fits batch context c es
-    → slice_get es i ≡ Some e → item_of batch e.place ≡ Some (context, x)
-    → (In e.place (entry_places (take i es)) → ⊥)
-    → reply_of batch c (entry_places es) e.place ≡ Some (answer c (number_at i es) x)
-reply_at_entry batch context c es i e x fits at item once =
-    let front = take i es in
-    let back = drop (i + 1) es in
-    let parts : es ≡ front ++ (e ∷ back) = parted es i e at in
-    let each = subst (EachFrom (FitsAt batch context c) 0) parts
-    (to_each (FitsAt batch context c) es fits) in
-    let front_fits = each_front (FitsAt batch context c) 0 front (e ∷ back) each in
-    ap (λ es. reply_of batch c (entry_places es) e.place) parts
-    ∙ ap (λ ps. reply_of batch c ps e.place) (entry_places-append front (e ∷ back))
-    ∙ reply_at batch context c (entry_places front) (entry_places back) e.place x
-    (places_served batch context c 0 front front_fits) once item
-    ∙ ap (λ n. Some (answer c n x)) (due_fits batch context c front front_fits)

@@ -55,11 +55,6 @@ module _ (lines : List ContextLine) (contexts : List (Option ContextView))
       → items_on lines limits number call ≡ 0
   refused_call call is = counted call ∙ refused _ _ call is
 
-  pub numberless_call : (call : CallLine) → takes_numbers (kind_of call) ≡ false
-      → items_on lines limits number call ≡ 0
-  numberless_call call is =
-      counted call ∙ ap (λ b. asks_by b (call_refusal contexts call) call) is
-
   served : (o : Option CallRefusal) (call : CallLine) → is_some o ≡ false
       → context_of call ≡ number → asks_by true o call ≡ items_of call
   served None call is same =

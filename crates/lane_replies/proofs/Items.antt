@@ -2,7 +2,7 @@
 use Rattle.std.proofs.Common.{◌≡◌, ◌<◌, ◌≤◌, ◌+◌, ℕ, List, [], ◌∷◌, ◌++◌, length, take, map, get_or, Some, sym, ap, ◌∙◌, subst, arith}
 use Rattle.std.specs.Prelude.{slice_get, sum_by, option_map}
 use Rattle.std.proofs.lemmas.List.{length-map, length-take, map-append}
-use Rattle.std.proofs.lemmas.List.Sums.{sum_by-cons, sum_by_more}
+use Rattle.std.proofs.lemmas.List.Sums.{sum_by_more}
 use Rattle.std.proofs.lemmas.Option.{slice_get-map, slice_get-get_or, get_or_from_slice_get}
 use Rattle.call_places.specs.declared.spans.Item.{Item as Spans}
 use Rattle.call_places.specs.declared.entries.Step.{Step}
@@ -29,10 +29,6 @@ pub length-unseals : (pool : List ℕ) (items : List Spans)
 length-unseals pool items =
     length-map (sealed_messages pool items) (λ (x : SealedMessage). Unseal x.aad x.ct)
     ∙ length-map items (sealed_message pool)
-
--- the room of an opening of one message
-pub room_of_one : (item : Spans) → sum_by opened_room (item ∷ []) ≡ opened_room item
-room_of_one item = omega (arith, sum_by-cons opened_room item [])
 
 -- an opening has a line for each item
 pub one_line_each : (c : Cipher) (first : ℕ) (pool : List ℕ) (items : List Spans)

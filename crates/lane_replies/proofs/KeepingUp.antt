@@ -1,16 +1,14 @@
 -- The answers of a lane along a run, one call more at a time.
-use Rattle.std.proofs.Common.{◌≡◌, ◌<◌, ◌+◌, ℕ, List, [], ◌∷◌, ◌++◌, length, take, drop, Option, Some, None, refl, sym, ap, ◌∙◌, subst, arith}
-use Rattle.std.specs.Prelude.{slice_get, slice_index_or}
+use Rattle.std.proofs.Common.{◌≡◌, ◌<◌, ◌+◌, ℕ, List, [], ◌∷◌, ◌++◌, length, take, drop, Some, None, refl, sym, ap, ◌∙◌, subst, arith}
+use Rattle.std.specs.Prelude.{slice_get}
 use Rattle.std.proofs.Math.Seq.{take-length, drop-length}
-use Rattle.hpke_context.specs.Contexts.{ContextView}
 use Rattle.context_books.proofs.OneLane.{taken_more}
-use Rattle.batch_plans.specs.declared.plan.Plan.{Plan}
 use Rattle.batch_plans.specs.declared.plan.CallLine.{CallLine}
 use Rattle.batch_plans.specs.declared.plan.CallLine.TheVariants.{UnsealAll}
 use Rattle.batch_plans.specs.declared.replies.CallRefusal.{CallRefusal}
 use Rattle.batch_plans.specs.declared.replies.Reply.TheVariants.{Refused}
 use Rattle.batch_plans.specs.declared.replies.Batch.{Batch}
-use Rattle.batch_plans.specs.Limits.{items_of, IsWithinLimits}
+use Rattle.batch_plans.specs.Limits.{items_of}
 use Rattle.batch_plans.specs.Calls.{refusal}
 use Rattle.batch_plans.specs.Room.{served_room, served_batches, lane_room, IsLaneWithin}
 use Rattle.batch_plans.specs.Progress.{Progress, begun, with_reply, with_batch}
@@ -18,10 +16,9 @@ use Rattle.batch_plans.specs.Lines.{refused_line}
 use Rattle.batch_plans.specs.ReplyText.{guess_line, calls_lines}
 use Rattle.due_replies.specs.Standing.{call_refusal, export_limits, AreOfLines}
 use Rattle.due_replies.specs.Runs.{Run, call_lines, lane_call_lines}
-use Rattle.due_replies.specs.Lanes.{calls_of, HasDone, done_lines}
+use Rattle.due_replies.specs.Lanes.{calls_of, done_lines}
 use Rattle.due_replies.proofs.Refusals.{refusal_agrees}
-use Rattle.due_replies.proofs.Staying.{Grows, JournalsAreServed}
-use Rattle.due_replies.proofs.Done.{done_lines_stay, done_lines_more}
+use Rattle.due_replies.proofs.Done.{done_lines_more}
 use Rattle.due_replies.proofs.CallLines.{refused_lines}
 use Rattle.lane_replies.specs.Writing.{PutsReplies}
 use Rattle.lane_replies.specs.Answered.{HasAnswered, HasRoomFor, KeepsUp}
@@ -36,26 +33,6 @@ keeps_up_begun run lane within = record {
   answered = answered_begun (lane_room run.plan (export_limits run.contexts) (calls_of run lane));
   room = room_begun run.plan (export_limits run.contexts) (calls_of run lane) within;
 }
-
--- while the run grows
-pub keeps_up_later : (run later : Run) (lane number : ℕ) (p : Progress) → IsWithinLimits run.plan
-    → Grows lane run later → JournalsAreServed run → HasDone run lane number
-    → KeepsUp run lane number p → KeepsUp later lane number p
-keeps_up_later run later lane number p within grows served done t = record {
-  answered = subst (λ lines. HasAnswered (take number (calls_of later lane)) lines p)
-      (done_lines_stay lane number run later within grows served done)
-      (subst (λ (calls : List CallLine). HasAnswered (take number calls)
-      (done_lines run lane number) p) same_calls t.answered);
-  room = subst (λ (calls : List CallLine). HasRoomFor later.plan (export_limits later.contexts)
-      (drop number calls) p) same_calls
-      (subst (λ (plan : Plan). HasRoomFor plan (export_limits later.contexts)
-      (drop number (calls_of run lane)) p) (sym grows.plan)
-      (subst (λ (contexts : List (Option ContextView)). HasRoomFor run.plan (export_limits contexts)
-      (drop number (calls_of run lane)) p) (sym grows.contexts) t.room));
-}
-  where
-    same_calls : calls_of run lane ≡ calls_of later lane
-    same_calls = ap (λ (plan : Plan). slice_index_or plan.lanes lane []) (sym grows.plan)
 
 -- after the last call
 pub keeps_up_ended : (run : Run) (lane : ℕ) (p : Progress)

@@ -1,5 +1,5 @@
 -- What is written, reply by reply.
-use Rattle.std.proofs.Common.{◌≡◌, ◌≤◌, ◌<◌, ◌+◌, ℕ, false, List, [], ◌∷◌, ◌++◌, length, take, drop, Some, refl, sym, ap, ◌∙◌, subst, arith, append_assoc, length-append}
+use Rattle.std.proofs.Common.{◌≡◌, ◌≤◌, ◌<◌, ◌+◌, ℕ, false, List, [], ◌∷◌, ◌++◌, length, take, drop, Some, sym, ap, ◌∙◌, subst, arith, append_assoc, length-append}
 use Rattle.std.specs.List.{All, refill}
 use Rattle.std.proofs.lemmas.List.{take-take, map-append, take-append-le, take_all}
 use Rattle.std.proofs.lemmas.List.Elements.{All-append, All-weaker, All-nil, All-cons}
@@ -7,7 +7,6 @@ use Rattle.batch_plans.specs.declared.replies.Reply.{Reply}
 use Rattle.batch_plans.specs.declared.replies.Reply.TheVariants.{Blank, Sealed, Opened, Failed, Limit, Exported, Refused, Added, Retired}
 use Rattle.batch_plans.specs.Replies.{IsInRange}
 use Rattle.batch_plans.specs.Progress.{Progress, with_room, with_pool, with_reply}
-use Rattle.context_books.proofs.Lists.{append-nil}
 use Rattle.batch_plans.specs.Lines.{reply_line}
 use Rattle.batch_plans.specs.ReplyText.{is_refused}
 use Rattle.batch_plans.proofs.Pools.{reply_lines-same}
@@ -65,22 +64,6 @@ writes old one size start lent made reply line one_is lent_is count start_is kep
       batches = ap (λ (p : Progress). p.batches) one_is;
       batches_left = ap (λ (p : Progress). p.batches_left) one_is;
     }
-
--- nothing
-pub puts_none : (p : Progress) → PutsReplies p p 0 []
-puts_none p = record {
-  more = [];
-  replies = sym (append-nil p.replies);
-  left = omega arith;
-  lines_are = refl;
-  served = All-nil IsNoRefusal;
-  taken = omega arith;
-  range = All-nil (IsInRange p.taken);
-  pool = refl;
-  kept = refl;
-  batches = refl;
-  batches_left = refl;
-}
 
 -- a reply is written, and then it is put
 pub puts_one : (old mid new : Progress) (size : ℕ) (reply : Reply) (line : List ℕ)

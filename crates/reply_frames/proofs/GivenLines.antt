@@ -1,8 +1,7 @@
 -- The lines of a lane by the replies that were given.
-use Rattle.std.proofs.Common.{◌≡◌, ◌<◌, ◌≤◌, ◌+◌, ℕ, zero, suc, true, false, List, [], ◌∷◌, ◌++◌, length, map, filter, take, drop, get_or, refl, sym, ap, ◌∙◌, append_assoc, append-nil, add-one, arith}
+use Rattle.std.proofs.Common.{◌≡◌, ◌<◌, ◌≤◌, ◌+◌, ℕ, suc, true, false, List, [], ◌∷◌, ◌++◌, length, map, filter, take, drop, get_or, refl, sym, ap, ◌∙◌, append_assoc, append-nil, add-one, arith}
 use Rattle.std.specs.List.{concat}
 use Rattle.std.proofs.Math.Seq.{take-suc}
-use Rattle.std.proofs.lemmas.List.{drop_all}
 use Rattle.std.proofs.lemmas.List.Elements.{filter-append}
 use Rattle.batch_plans.specs.declared.replies.Reply.{Reply}
 use Rattle.batch_plans.specs.declared.replies.Reply.TheVariants.{Blank, Sealed, Opened, Failed, Limit, Exported, Refused, Added, Retired}
@@ -62,9 +61,6 @@ pub record Passed (replies : List Reply) (count next left : ℕ) : Type 0 where
       ≡ take count (given replies)
   pub later : drop left (given (drop next replies)) ≡ drop count (given replies)
 
-pub passed-none : (replies : List Reply) (count : ℕ) → Passed replies count 0 count
-passed-none replies count = record { within = omega arith; own = refl; later = refl }
-
 pub passed-blank : (replies : List Reply) (count next left : ℕ) (d reply : Reply)
     → next < length replies → reply ≡ get_or replies next d → is_given reply ≡ false
     → Passed replies count next left → Passed replies count (next + 1) left
@@ -109,37 +105,4 @@ passed-given replies count next left fewer d reply lt is there more before =
           ap (λ (rs : List Reply). drop (suc fewer) rs) (sym here)
           ∙ ap (λ (n : ℕ). drop n (given (drop next replies))) (sym more)
           ∙ before.later;
-    }
-
--- none is left to pass, or none is there
-pub record AllPassed (replies : List Reply) (count next : ℕ) : Type 0 where
-  pub own : given (take next replies) ≡ take count (given replies)
-  pub later : given (drop next replies) ≡ drop count (given replies)
-
-pub all-passed : (replies : List Reply) (count next : ℕ) → Passed replies count next 0
-    → AllPassed replies count next
-all-passed replies count next before = record {
-  own = sym (append-nil (given (take next replies))) ∙ before.own;
-  later = before.later;
-}
-
-take-nothing : (n : ℕ) → ◌≡◌ {A = List Reply} (take n []) []
-take-nothing zero = refl
-take-nothing (suc n) = refl
-
-drop-nothing : (n : ℕ) → ◌≡◌ {A = List Reply} (drop n []) []
-drop-nothing zero = refl
-drop-nothing (suc n) = refl
-
-pub no-more : (replies : List Reply) (count next left : ℕ) → length replies ≤ next
-    → Passed replies count next left → AllPassed replies count next
-no-more replies count next left le before =
-    let none : given (drop next replies) ≡ [] = ap given (drop_all next replies le) in
-    record {
-      own =
-          sym (ap (λ (rs : List Reply). given (take next replies) ++ take left rs) none
-          ∙ ap (λ (rs : List Reply). given (take next replies) ++ rs) (take-nothing left)
-          ∙ append-nil (given (take next replies)))
-          ∙ before.own;
-      later = none ∙ sym (ap (λ (rs : List Reply). drop left rs) none ∙ drop-nothing left) ∙ before.later;
     }

@@ -48,8 +48,8 @@ fn replies_of<'a>(call: &CallLine, replies: &'a [Reply]) -> (&'a [Reply], &'a [R
     (&replies[..count], &replies[count..])
 }
 
-/// The guess of a call whose replies come next, where it has one, and those behind it.
-pub fn guesses_of<'a>(
+// The guess of a call whose replies come next, where it has one, and those behind it.
+pub(crate) fn guesses_of<'a>(
     call: &CallLine,
     replies: &[Reply],
     batches: &'a [Batch],
@@ -88,8 +88,8 @@ fn is_refused(replies: &[Reply]) -> bool
     matches!(replies.first(), Some(Reply::Refused(_)))
 }
 
-/// Puts the line of each reply behind what is in the buffer.
-pub fn put_replies<K: Sink>(out: &mut Buffer, sink: &mut K, pool: &[u8], replies: &[Reply])
+// Puts the line of each reply behind what is in the buffer.
+pub(crate) fn put_replies<K: Sink>(out: &mut Buffer, sink: &mut K, pool: &[u8], replies: &[Reply])
     requires { All (IsInRange (length pool.now)) replies.now }
     ensures { Puts K.written K.faults sink.old sink.new out.old out.new
         (concat (map (reply_line pool.now) replies.now)) }
@@ -99,8 +99,8 @@ pub fn put_replies<K: Sink>(out: &mut Buffer, sink: &mut K, pool: &[u8], replies
     }
 }
 
-/// Puts the line of each guess behind what is in the buffer.
-pub fn put_guesses<K: Sink>(out: &mut Buffer, sink: &mut K, batches: &[Batch])
+// Puts the line of each guess behind what is in the buffer.
+pub(crate) fn put_guesses<K: Sink>(out: &mut Buffer, sink: &mut K, batches: &[Batch])
     ensures { Puts K.written K.faults sink.old sink.new out.old out.new
         (concat (map guess_line batches.now)) }
 {

@@ -124,8 +124,8 @@ fn put_answers<K: Sink>(out: &mut Buffer, sink: &mut K, plan: &Plan, answers: &A
     out.put_text(sink, b"end\n")
 }
 
-/// Puts the first line behind what is in the buffer.
-pub fn put_version<K: Sink>(out: &mut Buffer, sink: &mut K, version: u8)
+// Puts the first line behind what is in the buffer.
+pub(crate) fn put_version<K: Sink>(out: &mut Buffer, sink: &mut K, version: u8)
     ensures { Puts K.written K.faults sink.old sink.new out.old out.new (version_line version) }
 {
     put_numbered(out, sink, b"hpkebatch ", version as u64)
@@ -138,8 +138,8 @@ fn has_stamps(version: u8) -> bool
     version == 2
 }
 
-/// Puts the replies to the key lines and to the context lines behind what is in the buffer.
-pub fn put_setup<K: Sink>(
+// Puts the replies to the key lines and to the context lines behind what is in the buffer.
+pub(crate) fn put_setup<K: Sink>(
     out: &mut Buffer,
     sink: &mut K,
     keys: &[KeyReply],
@@ -206,9 +206,9 @@ fn put_lane<K: Sink>(
     }
 }
 
-/// Puts the journals of contexts, numbered from 0, behind what is in the buffer. `stamps` says
-/// whether a place tells its stamp.
-pub fn put_journals<K: Sink>(
+// Puts the journals of contexts, numbered from 0, behind what is in the buffer. `stamps` says
+// whether a place tells its stamp.
+pub(crate) fn put_journals<K: Sink>(
     out: &mut Buffer,
     sink: &mut K,
     stamps: bool,
@@ -251,8 +251,8 @@ fn put_journal<K: Sink>(
     put_marks(out, sink, stamps, marks)
 }
 
-/// Puts the places of a journal behind what is in the buffer.
-pub fn put_marks<K: Sink>(out: &mut Buffer, sink: &mut K, stamps: bool, marks: &[Mark])
+// Puts the places of a journal behind what is in the buffer.
+fn put_marks<K: Sink>(out: &mut Buffer, sink: &mut K, stamps: bool, marks: &[Mark])
     ensures { Puts K.written K.faults sink.old sink.new out.old out.new
         (concat (map (mark_line stamps) marks.now)) }
 {

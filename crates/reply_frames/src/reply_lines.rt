@@ -159,8 +159,8 @@ fn put_stamp<K: Sink>(out: &mut Buffer, sink: &mut K, stamps: bool, stamp: u64)
     out.put_number(sink, stamp)
 }
 
-/// Puts the line of a note of the table behind what is in the buffer.
-pub fn put_note<K: Sink>(out: &mut Buffer, sink: &mut K, note: &Entry)
+// Puts the line of a note of the table behind what is in the buffer.
+pub(crate) fn put_note<K: Sink>(out: &mut Buffer, sink: &mut K, note: &Entry)
     ensures { Puts K.written K.faults sink.old sink.new out.old out.new (note_line note.now) }
 {
     out.put_number(sink, note.place.lane as u64);
