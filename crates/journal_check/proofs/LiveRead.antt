@@ -18,10 +18,11 @@ use Rattle.result_lines.proofs.Growing.{batches}
 use Rattle.result_lines.proofs.TookLive.{told_live_took}
 use Rattle.result_lines.specs.declared.verdicts.Verdict.{Verdict}
 use Rattle.result_lines.specs.declared.verdicts.Verdict.TheVariants.{Form}
-use Rattle.result_lines.specs.LiveVerdicts.{live_told, live_verdict_on, live_by_form}
+use Rattle.result_lines.specs.LiveVerdicts.{live_told}
 use Rattle.result_lines.proofs.LookedLimits.{looked_lanes}
 use Rattle.journal_check.specs.Verdicts.{IsLiveVerdict}
 use Rattle.journal_check.proofs.ToldSizes.{Has}
+use Rattle.result_lines.specs.Computed.{live_verdict_on, live_by_form}
 
 -- how many lanes and journals a text tells
 pub live_has_of : (plan : Plan) (keys : List KeyReply) (replies : List ContextReply) (contexts : List (Option ContextView)) (notes : List Entry) (text : List ℕ) (found : ToldView)

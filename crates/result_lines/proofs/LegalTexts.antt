@@ -42,13 +42,14 @@ use Rattle.result_lines.specs.Journals.{broken_journal, is_one_history}
 use Rattle.result_lines.specs.OneRun.{PrintTheSame}
 use Rattle.result_lines.specs.Opened.{opened_with, opened}
 use Rattle.result_lines.specs.Replies.{all_replies, wrong_reply}
-use Rattle.result_lines.specs.Verdicts.{run_told, by_guess, by_reply, by_stamps, by_journal, verdict_on, by_form}
+use Rattle.result_lines.specs.Verdicts.{run_told}
 use Rattle.result_lines.proofs.Counting.{journal_few, number_low}
 use Rattle.result_lines.proofs.DueReplies.{due_told, told_due, replies_are_lines}
 use Rattle.result_lines.proofs.LegalJournals.{each_legal, legal_none, legal_one, opening_size, passed_legal, as_printed}
 use Rattle.result_lines.proofs.RightGuesses.{numbers_told, MayGuess, AllRight, skip_right, next_right, opened_numbers, all_right, none_wrong}
 use Rattle.result_lines.proofs.RunTexts.{length-block, all_kept, own_opened, all_opened, AreCounted, drop_step, run_complete, run_text_is, all_counted}
 use Rattle.result_lines.proofs.SameJournals.{other, replies_same, all_opened_same, guessed_same}
+use Rattle.result_lines.specs.Computed.{by_guess, by_reply, by_stamps, by_journal, verdict_on, by_form}
 
 -- ---- the parts of a verdict
 

@@ -40,10 +40,9 @@ use Rattle.result_lines.proofs.TookLive.{told_live_took}
 use Rattle.result_lines.specs.declared.verdicts.Verdict.TheVariants as verdicts
 use Rattle.result_lines.specs.Guesses.{wrong_guesses}
 use Rattle.result_lines.specs.Journals.{broken_journal, stamps_rise}
-use Rattle.result_lines.specs.LiveVerdicts.{live_told, is_table, live_replies, by_live_journal, by_table, live_verdict_on, live_by_form}
+use Rattle.result_lines.specs.LiveVerdicts.{live_told, live_replies}
 use Rattle.result_lines.specs.OneRun.{AreOneLiveRun}
 use Rattle.result_lines.specs.Replies.{wrong_reply}
-use Rattle.result_lines.specs.Verdicts.{by_stamps, by_reply, by_guess}
 use Rattle.result_lines.proofs.DueReplies.{due_told, told_due}
 use Rattle.result_lines.proofs.LegalJournals.{broken_none, rise}
 use Rattle.result_lines.proofs.LegalTexts.{guessed_of, right_of, guesses_fit, asks_at, index_sizes, sizes_of, kept_of, numbers_of, opened_guesses}
@@ -52,6 +51,7 @@ use Rattle.result_lines.proofs.LiveLines.{live_count, live_complete, live_text_i
 use Rattle.result_lines.proofs.LookedLimits.{looked_within, looked_lanes}
 use Rattle.result_lines.proofs.RightGuesses.{numbers_told, AllRight, all_right, none_wrong}
 use Rattle.result_lines.proofs.RunTexts.{all_opened, AreCounted}
+use Rattle.result_lines.specs.Computed.{by_stamps, by_reply, by_guess, is_table, by_live_journal, by_table, live_verdict_on, live_by_form}
 
 -- ---- the parts of a verdict
 

@@ -3,11 +3,11 @@ use Rattle.std.proofs.lemmas.Result.{IfOk-weaker}
 use Rattle.hpke_context.specs.Contexts.{ContextView}
 use Rattle.context_table.specs.ReplyTo.{IsReply}
 use Rattle.result_lines.specs.declared.verdicts.Verdict.TheVariants.{Legal, Form}
-use Rattle.result_lines.specs.Verdicts.{by_form, verdict_on}
 use Rattle.journal_check.specs.Verdicts.{IsVerdict}
 use Rattle.journal_check.proofs.LegalVerdicts.{legal_iff_reply}
 use Rattle.journal_check.proofs.ToldSizes.{read_as, read_wrong, has_of}
 use Rattle.journal_check.proofs.checking.check_result_by.Goals as goal
+use Rattle.result_lines.specs.Computed.{by_form, verdict_on}
 
 pub verdict_on-requires : goal.verdict_on-requires
 verdict_on-requires g c =

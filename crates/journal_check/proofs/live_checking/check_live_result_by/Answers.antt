@@ -11,12 +11,13 @@ use Rattle.result_lines.specs.Tables.{table_told}
 use Rattle.result_lines.specs.Told.{ToldView}
 use Rattle.result_lines.specs.ToldLive.{told_live_by}
 use Rattle.result_lines.specs.declared.verdicts.Verdict.TheVariants.{Legal, Form}
-use Rattle.result_lines.specs.LiveVerdicts.{live_told, live_verdict_on}
+use Rattle.result_lines.specs.LiveVerdicts.{live_told}
 use Rattle.journal_check.specs.Verdicts.{IsLiveVerdict}
 use Rattle.journal_check.proofs.LiveLegalVerdicts.{legal_iff_live_reply}
 use Rattle.journal_check.proofs.LiveRead.{live_has_of, told_verdict, form_verdict}
 use Rattle.journal_check.proofs.LiveSound.{table_acts}
 use Rattle.journal_check.proofs.live_checking.check_live_result_by.Goals as goal
+use Rattle.result_lines.specs.Computed.{live_verdict_on}
 
 pub verdict_as_served-requires-clause-lanes_size : goal.verdict_as_served-requires-clause-lanes_size
 verdict_as_served-requires-clause-lanes_size g c =
