@@ -8,8 +8,7 @@ use Rattle.std.proofs.lemmas.List.Elements.{All-head, All-tail, filter-append}
 use Rattle.std.proofs.Math.Seq.{take-append_seam, drop-append_seam}
 use Rattle.call_places.specs.declared.entries.Entry.{Entry}
 use Rattle.hpke_context.specs.Answers.{Answer, Sealed_at, Opened_at, Failed_at, At_limit}
-use Rattle.context_books.specs.Batches.{place, block, lane_of}
-use Rattle.context_books.specs.Guesses.{guess_at, missed_in}
+use Rattle.context_books.specs.Batches.{place}
 use Rattle.context_books.specs.Legal.{Legal, reply_of}
 use Rattle.batch_plans.specs.declared.plan.CallLine.{CallLine}
 use Rattle.batch_plans.specs.declared.plan.CallLine.TheVariants as calls
@@ -25,15 +24,15 @@ use Rattle.batch_plans.specs.Calls.{context_of, items_of}
 use Rattle.batch_plans.specs.Limits.{first_name, IsWithinLimits}
 use Rattle.batch_plans.specs.Names.{line_count, at_position}
 use Rattle.batch_plans.specs.Room.{served_or}
-use Rattle.batch_plans.specs.Lines.{reply_line, batch_line, refused_line}
+use Rattle.batch_plans.specs.Lines.{reply_line, refused_line}
 use Rattle.batch_plans.specs.LiveText.{is_given}
 use Rattle.batch_plans.specs.ReplyText.{is_refused, reply_count, guess_line, calls_lines, numbered, all_lines, HasReplies, UsesUp}
 use Rattle.batch_plans.specs.ReplyText.UsesUp.{none, call_and_more}
-use Rattle.batch_plans.proofs.Calls.{HasReplies-one, calls_lines-append, calls_lines-one}
+use Rattle.batch_plans.proofs.CallLines.{HasReplies-one, calls_lines-append, calls_lines-one}
 use Rattle.due_replies.specs.Asks.{cipher_at}
 use Rattle.due_replies.specs.Live.{LiveRun, run_of, was_live, looked_up, live_call_lines, add_line, retire_line}
 use Rattle.due_replies.specs.Lanes.{calls_of}
-use Rattle.due_replies.specs.Runs.{Run, asks_of, journal_of, guesses_of, answer_line, answer_line_of, place_line, lines_unless, served_lines, call_lines, item_lines}
+use Rattle.due_replies.specs.Runs.{Run, asks_of, journal_of, answer_line_of, place_line, lines_unless, served_lines, call_lines, item_lines, guess_lines, guessed_line}
 use Rattle.due_replies.specs.Standing.{call_refusal}
 use Rattle.result_lines.specs.PrintedLive.{IsReply}
 use Rattle.result_lines.specs.Replies.{reply_lines}
@@ -99,29 +98,16 @@ alike true n = refl
 alike false n = refl
 
 module _ (run : Run) (lane number : ℕ) where
-  -- the line of its guess
+  -- the line of a call's guess
   abbrev kept : Option CallRefusal → CallLine → List (List ℕ)
   kept (Some why) call = []
-  kept None (calls.Seal context item) = []
-  kept None (calls.Unseal context item) = []
-  kept None (calls.UnsealAll context first count) =
-      let guess = guess_at (lane_of (asks_of run) lane) (guesses_of run lane) number in
-      batch_line guess (missed_in (asks_of run) (cipher_at run.contexts context)
-      (journal_of run context) lane number count guess) ∷ []
-  kept None (calls.Export context exporter size) = []
-  kept None (calls.Add name) = []
-  kept None (calls.Retire name) = []
+  kept None call = guess_lines (guessed_line run) lane number call
 
   parted : (o : Option CallRefusal) (call : CallLine)
       → lines_unless o (served_lines run lane number call)
       ≡ lines_unless o (item_lines run lane number call) ++ kept o call
   parted (Some why) call = refl
-  parted None (calls.Seal context item) = refl
-  parted None (calls.Unseal context item) = refl
-  parted None (calls.UnsealAll context first count) = refl
-  parted None (calls.Export context exporter size) = refl
-  parted None (calls.Add name) = refl
-  parted None (calls.Retire name) = refl
+  parted None call = refl
 
   -- ---- the replies and the guess of a call are as many as it has lines
 

@@ -2,6 +2,6 @@ pub mod Rooms
 pub mod Counts
 pub mod Positions
 pub mod Numbering
-pub mod Calls
+pub mod CallLines
 pub mod Pools
 pub mod Lanes

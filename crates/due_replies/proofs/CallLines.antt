@@ -14,7 +14,7 @@ use Rattle.hpke_context.specs.Answers.{Item, Seal, Unseal, Cipher, Answer, answe
 use Rattle.hpke_context.specs.Contexts.{ContextView, exported_by}
 use Rattle.context_books.specs.Batches.{Ask, unseal, items_in, context_in, block, place, own_places, lane_of, lane_places}
 use Rattle.context_books.specs.Legal.{reply_of, number_of, due_after}
-use Rattle.context_books.specs.Guesses.{guess_at, missed}
+use Rattle.context_books.specs.Guesses.{guess_at, missed, missed_in}
 use Rattle.context_books.specs.Entries.{numbers_from}
 use Rattle.context_books.specs.Lists.{In}
 use Rattle.context_books.proofs.Places.{in_own}
@@ -26,8 +26,7 @@ use Rattle.batch_plans.specs.Limits.{items_from, IsCallWithin}
 use Rattle.batch_plans.specs.Lines.{batch_line, exported_line, refused_line}
 use Rattle.due_replies.specs.Standing.{call_refusal, standing_at}
 use Rattle.due_replies.specs.Asks.{asked_by, cipher_at}
-use Rattle.due_replies.specs.Runs.{Run, asks_of, journal_of, guesses_of, answer_line, answer_line_of, place_line, served_lines, opening_lines, export_line, lines_unless, call_lines}
-use Rattle.due_replies.specs.Lanes.{AllServed}
+use Rattle.due_replies.specs.Runs.{Run, asks_of, journal_of, guesses_of, answer_line, answer_line_of, place_line, served_lines, export_line, lines_unless, call_lines}
 use Rattle.due_replies.specs.Lanes.{calls_of, guesses_before}
 use Rattle.due_replies.proofs.Placed.{call_replies_are, call_numbers_are}
 use Rattle.due_replies.proofs.Done.{ask_served, length-messages, within_taken}
@@ -159,8 +158,8 @@ unseal_all_lines run lane number context first count guess front within at free 
     let here = ask_served run lane number call at free in
     let size = length-messages run.plan.items run.plan.pool first count within.3 in
     lines_served run lane number call free
-    ∙ ap (λ n. opening_lines run lane number context n
-    (guess_at (lane_of (asks_of run) lane) (guesses_of run lane) number)) (sym size)
-    ∙ ap (opening_lines run lane number context (length (items_in ask))) is
+    ∙ (λ i. map (place_line run context) (block lane number 0 (sym size i))
+    ++ batch_line (is i) (missed_in (asks_of run) (cipher_at run.contexts context)
+    (journal_of run context) lane number (sym size i) (is i)) ∷ [])
     ∙ (λ i. places_lines run lane number ask front here t i ++ batch_line guess
     (missed guess 0 (places_numbers run lane number ask front here t i)) ∷ [])

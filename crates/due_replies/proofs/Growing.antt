@@ -3,7 +3,7 @@ use Rattle.std.proofs.Common.{◌≡◌, ℕ, suc, Bool, true, false, cond, List
 use Rattle.call_places.specs.declared.entries.Place.{Place}
 use Rattle.hpke_context.specs.Answers.{Item, Cipher, Answer, answer, next, run, due}
 use Rattle.hpke_context.proofs.Runs.{run-append}
-use Rattle.context_books.specs.Batches.{Batch, items_of, item_or_none, IsServed}
+use Rattle.context_books.specs.Batches.{Batch, items_of, item_or_none}
 use Rattle.context_books.specs.Legal.{is_same_place, reply_in, reply_of, before, due_after, number_of}
 use Rattle.context_books.specs.Lists.{In}
 use Rattle.context_books.proofs.Places.{same_from}

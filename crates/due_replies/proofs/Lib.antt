@@ -7,5 +7,6 @@ pub mod CallLines
 pub mod LookedUp
 pub mod FoundLive
 pub mod NeverLive
+pub mod LiveParts
 pub mod OneLiveHistory
 pub mod LiveChecked

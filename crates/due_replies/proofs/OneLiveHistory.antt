@@ -1,26 +1,27 @@
 -- A table and journals are one history exactly where the notes, as one journal more, and the
 -- journals are a legal history of calls that are two each.
-use Rattle.std.proofs.Common.{◌≡◌, ◌≢◌, ℕ, zero, suc, ◌+◌, ◌*◌, ◌<◌, List, [], ◌∷◌, ◌++◌, length, map, Option, Some, None, sym, refl, ap, ◌∙◌, subst, arith, append_assoc, ◌⊎◌, inl, inr}
+use Rattle.std.proofs.Common.{◌≡◌, ◌≢◌, ℕ, zero, suc, ◌+◌, ◌*◌, ◌<◌, List, [], ◌∷◌, ◌++◌, length, map, Option, Some, None, sym, refl, ap, ◌∙◌, subst, arith, ◌⊎◌, inl, inr}
 use Rattle.std.specs.Prelude.{slice_get, slice_index_or, Contains, ◌↔◌}
 use Rattle.std.specs.List.{AllPairs}
 use Rattle.std.proofs.lemmas.Bool.{cases_eq}
-use Rattle.std.proofs.lemmas.List.{append-nil, get_or_past}
+use Rattle.std.proofs.lemmas.List.{append-nil, map-append, get_or_past}
 use Rattle.call_places.specs.declared.entries.Entry.{Entry}
 use Rattle.call_places.specs.declared.entries.Mark.{Mark}
 use Rattle.call_places.specs.declared.entries.Place.{Place}
-use Rattle.call_places.specs.Entries.{IsBefore, stamps_of, StampsRise}
+use Rattle.call_places.specs.Entries.{StampsRise}
 use Rattle.hpke_context.specs.Answers.{Item, Seal}
 use Rattle.hpke_context.specs.Contexts.{ContextView}
 use Rattle.context_books.specs.Batches.{Batch, Ask, Nothing, ToSeal, ToOpenAll, item_in_call, place, lane_of, IsServed}
 use Rattle.context_books.specs.Entries.{entry_places}
 use Rattle.context_books.specs.Histories.{mark, places, stamps, marks_at, all_stamps, HasLowerStamp, AreAllFrom0, LegalMarks, LegalHistory}
 use Rattle.context_books.specs.Legal.{OpensOn}
-use Rattle.context_books.proofs.Members.{contains_in, in_contains, in_map, map_in, RisesBy, pairs_rise, rises_pairs}
+use Rattle.context_books.proofs.Members.{contains_in, in_contains, in_map, map_in, In-left, In-right, In-append, RisesBy, pairs_rise, rises_pairs}
 use Rattle.context_books.specs.Lists.{In}
 use Rattle.context_books.proofs.Places.{same_place}
 use Rattle.batch_plans.specs.declared.plan.Plan.{Plan}
-use Rattle.due_replies.specs.Live.{Noting, noting_in, IsNoted, LiveHistory}
-use Rattle.due_replies.specs.LiveChecks.{note_ask, note_mark, call_mark}
+use Rattle.due_replies.specs.Live.{Noting, noting_in, IsNoted, LiveHistory, note_mark, call_mark, events}
+use Rattle.due_replies.specs.LiveChecks.{note_ask}
+use Rattle.due_replies.proofs.LiveParts.{more}
 
 -- ---- the numbers of the two calls
 
@@ -68,14 +69,6 @@ called_places (m ∷ ms) = ap (λ ps. call_place m.place ∷ ps) (called_places 
 noted_places : (es : List Entry) → places (map note_mark es) ≡ map note_place (entry_places es)
 noted_places [] = refl
 noted_places (e ∷ es) = ap (λ ps. note_place e.place ∷ ps) (noted_places es)
-
-called_stamps : (ms : List Mark) → stamps (map call_mark ms) ≡ stamps ms
-called_stamps [] = refl
-called_stamps (m ∷ ms) = ap (λ ss. m.stamp ∷ ss) (called_stamps ms)
-
-noted_stamps : (es : List Entry) → stamps (map note_mark es) ≡ stamps_of es
-noted_stamps [] = refl
-noted_stamps (e ∷ es) = ap (λ ss. e.stamp ∷ ss) (noted_stamps es)
 
 rises_map : {X Y : Type 0} (S : X → X → Type 0) (R : Y → Y → Type 0) (f : X → Y)
     → ((x y : X) → S x y → R (f x) (f y)) → (xs : List X) → RisesBy S xs → RisesBy R (map f xs)
@@ -145,12 +138,34 @@ at_table (ms ∷ journals) notes = at_table journals notes
 none_there : (journals : List (List Mark)) → marks_at journals (length journals) ≡ []
 none_there journals = get_or_past journals (length journals) [] (omega arith)
 
+-- these are the events of a live history
+
 stamps_are : (journals : List (List Mark)) (notes : List Entry)
-    → all_stamps (tabled journals notes) ≡ all_stamps journals ++ stamps_of notes
-stamps_are [] notes = append-nil (stamps (map note_mark notes)) ∙ noted_stamps notes
+    → all_stamps (tabled journals notes) ≡ stamps (events journals notes)
+stamps_are [] notes = append-nil (stamps (map note_mark notes))
 stamps_are (ms ∷ journals) notes =
-    (λ i. called_stamps ms i ++ stamps_are journals notes i)
-    ∙ sym (append_assoc (stamps ms) (all_stamps journals) (stamps_of notes))
+    ap (λ ss. stamps (map call_mark ms) ++ ss) (stamps_are journals notes)
+    ∙ sym (map-append (λ (m : Mark). m.stamp) (map call_mark ms) (events journals notes))
+    ∙ sym (ap stamps (more ms journals notes))
+
+tabled_event : (journals : List (List Mark)) (notes : List Entry) (c : ℕ) (m : Mark)
+    → In m (marks_at (tabled journals notes) c) → In m (events journals notes)
+tabled_event [] notes zero m i = i
+tabled_event [] notes (suc c) m i = absurd i
+tabled_event (ms ∷ journals) notes zero m i = subst (In m) (sym (more ms journals notes))
+    (In-left m (map call_mark ms) (events journals notes) i)
+tabled_event (ms ∷ journals) notes (suc c) m i = subst (In m) (sym (more ms journals notes))
+    (In-right m (map call_mark ms) (events journals notes) (tabled_event journals notes c m i))
+
+event_tabled : (journals : List (List Mark)) (notes : List Entry) (m : Mark)
+    → In m (events journals notes) → (c : ℕ) × In m (marks_at (tabled journals notes) c)
+event_tabled [] notes m i = (0, i)
+event_tabled (ms ∷ journals) notes m i =
+    elim (In-append m (map call_mark ms) (events journals notes)
+    (subst (In m) (more ms journals notes) i)) [
+      | inl a ↦ (0, a)
+      | inr b ↦ (let t = event_tabled journals notes m b in (suc t.0, t.1))
+    ]
 
 -- ---- both directions
 
@@ -327,76 +342,10 @@ module _ (plan : Plan) (standing : List (Option ContextView)) (batch both : Batc
             ];
           }
 
-      -- a mark is that of a call or of a note
-      abbrev Found : ℕ → Mark → Type 0
-      Found c m = ((x : Mark) × In x (marks_at journals c) × (call_mark x ≡ m))
-          ⊎ ((e : Entry) × In e notes × (note_mark e ≡ m))
-
-      found : (c : ℕ) (m : Mark) → Contains (marks_at (tabled journals notes) c) m → Found c m
-      found c m has = elim (cases_eq c table) [
-        | inl same ↦ inr (map_in note_mark m notes (subst (In m)
-            (ap (marks_at (tabled journals notes)) same ∙ at_table journals notes)
-            (in_contains (marks_at (tabled journals notes) c) m has)))
-        | inr ne ↦ inl (map_in call_mark m (marks_at journals c) (subst (In m)
-            (at_context journals notes c ne) (in_contains (marks_at (tabled journals notes) c) m has)))
-      ]
-
-      first_item : (e : Entry) → In e notes → e.place.item ≡ 0
-      first_item e i =
-          let n = (noted e.place).0 (contains_in (entry_places notes) e.place
-          (in_map (λ (f : Entry). f.place) e notes i)) in
-          n.1.first
-
-      abbrev Ordered : Mark → Mark → Type 0
-      Ordered m k = m.place.lane ≡ k.place.lane → IsBefore m.place k.place → HasLowerStamp m k
-
-      two_calls : (c d : ℕ) (x y : Mark) → In x (marks_at journals c) → In y (marks_at journals d)
-          → Ordered (call_mark x) (call_mark y)
-      two_calls c d x y i j lane before =
-          h.in_order c d x y (contains_in (marks_at journals c) x i)
-          (contains_in (marks_at journals d) y j) lane
-          (elim before [
-            | inl low ↦ inl (omega arith)
-            | inr t ↦ inr ((let e = t.0 in omega arith), t.1)
-          ])
-
-      two_notes : (e f : Entry) → In e notes → In f notes → Ordered (note_mark e) (note_mark f)
-      two_notes e f i j lane before = elim before [
-        | inl low ↦ h.noted_in_order e f (contains_in notes e i) (contains_in notes f j) lane (omega arith)
-        | inr t ↦ absurd (let a = t.1 in let z = first_item f j in omega arith)
-      ]
-
-      note_then_call : (d : ℕ) (e : Entry) (y : Mark) → In e notes → In y (marks_at journals d)
-          → Ordered (note_mark e) (call_mark y)
-      note_then_call d e y i j lane before = elim before [
-        | inl low ↦ h.noted_before d y e (contains_in (marks_at journals d) y j) (contains_in notes e i)
-            (sym lane) (omega arith)
-        | inr t ↦ absurd (let a = t.0 in omega arith)
-      ]
-
-      call_then_note : (c : ℕ) (x : Mark) (f : Entry) → In x (marks_at journals c) → In f notes
-          → Ordered (call_mark x) (note_mark f)
-      call_then_note c x f i j lane before = elim before [
-        | inl low ↦ h.noted_after c x f (contains_in (marks_at journals c) x i) (contains_in notes f j)
-            lane (omega arith)
-        | inr t ↦ absurd (let a = t.0 in omega arith)
-      ]
-
-      ordered : (c d : ℕ) (m k : Mark) → Found c m → Found d k → Ordered m k
-      ordered c d m k a b = elim a [
-        | inl x ↦ elim b [
-          | inl y ↦ subst (λ o. Ordered o k) x.2 (subst (Ordered (call_mark x.0)) y.2
-              (two_calls c d x.0 y.0 x.1 y.1))
-          | inr f ↦ subst (λ o. Ordered o k) x.2 (subst (Ordered (call_mark x.0)) f.2
-              (call_then_note c x.0 f.0 x.1 f.1))
-        ]
-        | inr e ↦ elim b [
-          | inl y ↦ subst (λ o. Ordered o k) e.2 (subst (Ordered (note_mark e.0)) y.2
-              (note_then_call d e.0 y.0 e.1 y.1))
-          | inr f ↦ subst (λ o. Ordered o k) e.2 (subst (Ordered (note_mark e.0)) f.2
-              (two_notes e.0 f.0 e.1 f.1))
-        ]
-      ]
+      event : (c : ℕ) (m : Mark) → Contains (marks_at (tabled journals notes) c) m
+          → Contains (events journals notes) m
+      event c m has = contains_in (events journals notes) m (tabled_event journals notes c m
+          (in_contains (marks_at (tabled journals notes) c) m has))
 
       pub forth : LegalHistory both (tabled journals notes)
       forth = record {
@@ -406,7 +355,7 @@ module _ (plan : Plan) (standing : List (Option ContextView)) (batch both : Batc
           | inr ne ↦ subst (LegalMarks both c) (sym (at_context journals notes c ne)) (called c ne)
         ];
         stamped = subst AreAllFrom0 (sym (stamps_are journals notes)) h.stamped;
-        in_order = λ c d m k has had. ordered c d m k (found c m has) (found d k had);
+        in_order = λ c d m k has had. h.in_order m k (event c m has) (event d k had);
       }
 
     -- ---- and back
@@ -488,19 +437,11 @@ module _ (plan : Plan) (standing : List (Option ContextView)) (batch both : Batc
                 );
           }
 
-      -- a mark of a call, and of a note, stands in what is legal
-      called_stands : (c : ℕ) (m : Mark) → Contains (marks_at journals c) m
-          → Contains (marks_at (tabled journals notes) c) (call_mark m)
-      called_stands c m has = elim (cases_eq c table) [
-        | inl same ↦ absurd (subst (In m) (ap (marks_at journals) same ∙ none_there journals) (in_contains (marks_at journals c) m has))
-        | inr ne ↦ contains_in (marks_at (tabled journals notes) c) (call_mark m) (subst (In (call_mark m)) (sym (at_context journals notes c ne))
-            (in_map call_mark m (marks_at journals c) (in_contains (marks_at journals c) m has)))
-      ]
-
-      noted_stands : (e : Entry) → Contains notes e
-          → Contains (marks_at (tabled journals notes) table) (note_mark e)
-      noted_stands e has = contains_in (marks_at (tabled journals notes) table) (note_mark e)
-          (subst (In (note_mark e)) (sym (at_table journals notes)) (in_map note_mark e notes (in_contains notes e has)))
+      stands : (m : Mark) → Contains (events journals notes) m
+          → (c : ℕ) × Contains (marks_at (tabled journals notes) c) m
+      stands m has =
+          let t = event_tabled journals notes m (in_contains (events journals notes) m has) in
+          (t.0, contains_in (marks_at (tabled journals notes) t.0) m t.1)
 
       pub history_back : LiveHistory batch journals notes
       history_back = record {
@@ -510,16 +451,8 @@ module _ (plan : Plan) (standing : List (Option ContextView)) (batch both : Batc
           | inr ne ↦ uncalled c (subst (LegalMarks both c) (at_context journals notes c ne) (h.each c))
         ];
         stamped = subst AreAllFrom0 (stamps_are journals notes) h.stamped;
-        in_order = λ c d m k has had lane before.
-            h.in_order c d (call_mark m) (call_mark k) (called_stands c m has) (called_stands d k had) lane
-            (elim before [ inl low ↦ inl (omega arith) | inr t ↦ inr ((let e = t.0 in omega arith), t.1) ]);
-        noted_in_order = λ e f has had lane low.
-            h.in_order table table (note_mark e) (note_mark f) (noted_stands e has) (noted_stands f had) lane
-            (inl (omega arith));
-        noted_after = λ c m e has had lane low.
-            h.in_order c table (call_mark m) (note_mark e) (called_stands c m has) (noted_stands e had) lane
-            (inl (omega arith));
-        noted_before = λ c m e has had lane low.
-            h.in_order table c (note_mark e) (call_mark m) (noted_stands e had) (called_stands c m has) (sym lane)
-            (inl (omega arith));
+        in_order = λ m k has had.
+            let a = stands m has in
+            let b = stands k had in
+            h.in_order a.0 b.0 m k a.1 b.1;
       }

@@ -14,7 +14,7 @@ use Rattle.batch_plans.specs.declared.replies.CallRefusal.{CallRefusal}
 use Rattle.batch_plans.specs.Lines.{batch_line}
 use Rattle.due_replies.specs.Standing.{call_refusal}
 use Rattle.due_replies.specs.Asks.{cipher_at}
-use Rattle.due_replies.specs.Runs.{Run, asks_of, journal_of, guesses_of, answer_line_of, place_line, opening_lines, served_lines, lines_unless, call_lines}
+use Rattle.due_replies.specs.Runs.{Run, run_along, asks_of, journal_of, guesses_of, answer_line_of, place_line, served_lines, lines_unless, call_lines}
 use Rattle.due_replies.specs.Lanes.{guesses_before}
 use Rattle.due_replies.proofs.Growing.{reply_of-append, number_of-append, map_same}
 use Rattle.due_replies.specs.Lanes.{AllServed}
@@ -45,21 +45,10 @@ module _ (lane : ℕ) (run later : Run) (grows : Grows lane run later)
     (served : JournalsAreServed run) where
   -- the later run, with the plan and the contexts of the first
   abbrev grown : Run
-  grown = record {
-    plan = run.plan;
-    contexts = run.contexts;
-    journals = later.journals;
-    guesses =
-        later.guesses;
-  }
+  grown = run_along run.plan run.contexts later.journals later.guesses
 
   same_run : grown ≡ later
-  same_run = (λ i. record {
-    plan = sym grows.plan i;
-    contexts = sym grows.contexts i;
-    journals = later.journals;
-    guesses = later.guesses;
-  })
+  same_run = (λ i. run_along (sym grows.plan i) (sym grows.contexts i) later.journals later.guesses)
 
   place_stays : (context : ℕ) (p : Place) → In p (journal_of run context)
       → place_line run context p ≡ place_line grown context p
@@ -89,20 +78,6 @@ module _ (lane : ℕ) (run later : Run) (grows : Grows lane run later)
       (guesses_before run lane number) few)
       ∙ ap (λ guesses. slice_index guesses (guesses_before run lane number)) grows.guesses.1
 
-  opening_stays : (number context count : ℕ) (guess now : ℕ) → guess ≡ now
-      → ((p : Place) → In p (block lane number 0 count) → In p (journal_of run context))
-      → opening_lines run lane number context count guess ≡ opening_lines grown lane number context
-      count now
-  opening_stays number context count guess now same has =
-      let b = block lane number 0 count in
-      let numbers = map_same
-      (number_of (asks_of run) (cipher_at run.contexts context) (journal_of run context))
-      (number_of (asks_of run) (cipher_at run.contexts context) (journal_of later context))
-      b (λ p i. number_stays context p (has p i)) in
-      (λ i. map_same (place_line run context) (place_line grown context) b
-      (λ p j. place_stays context p (has p j)) i
-      ++ batch_line (same i) (missed (same i) 0 (numbers i)) ∷ [])
-
   served_stay : (number : ℕ) (call : CallLine) → CallStands run lane number call
       → served_lines run lane number call ≡ served_lines grown lane number call
   served_stay number (Seal context item) stands =
@@ -110,10 +85,15 @@ module _ (lane : ℕ) (run later : Run) (grows : Grows lane run later)
   served_stay number (Unseal context item) stands =
       ap (λ l. l ∷ []) (place_stays context (place lane number 0) stands)
   served_stay number (UnsealAll context first count) stands =
-      opening_stays number context count
-      (guess_at (lane_of (asks_of run) lane) (guesses_of run lane) number)
-      (guess_at (lane_of (asks_of run) lane) (guesses_of later lane) number)
-      (guess_stays number stands.1) stands.0
+      let b = block lane number 0 count in
+      let numbers = map_same
+      (number_of (asks_of run) (cipher_at run.contexts context) (journal_of run context))
+      (number_of (asks_of run) (cipher_at run.contexts context) (journal_of later context))
+      b (λ p i. number_stays context p (stands.0 p i)) in
+      let same = guess_stays number stands.1 in
+      (λ i. map_same (place_line run context) (place_line grown context) b
+      (λ p j. place_stays context p (stands.0 p j)) i
+      ++ batch_line (same i) (missed (same i) 0 (numbers i)) ∷ [])
   served_stay number call stands = refl
 
   unless_stay : (number : ℕ) (call : CallLine) (refusal : Option CallRefusal)

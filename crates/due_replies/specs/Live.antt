@@ -2,7 +2,7 @@
 -- adds a context, retires it or looks it up for a call stands as a note in one list, the table, which
 -- tells whether the context could be called there. A call that finds its context is the call of a
 -- plan whose contexts stay; of the others no context serves any.
-use Rattle.std.specs.Prelude.{ℕ, ◌≡◌, ◌≢◌, ◌↔◌, ◌+◌, ◌-◌, ◌*◌, ◌<◌, ◌&&◌, ◌||◌, nat_lt, Bool, true, false, if◌then◌else◌, List, [], ◌∷◌, ◌++◌, length, map, Contains, Option, Some, None, slice_get, slice_index_or}
+use Rattle.std.specs.Prelude.{ℕ, ◌≡◌, ◌≢◌, ◌↔◌, ◌+◌, ◌-◌, ◌*◌, ◌<◌, ◌&&◌, ◌||◌, nat_lt, Bool, true, false, if◌then◌else◌, List, [], ◌∷◌, ◌++◌, length, map, flat_map, Contains, Option, Some, None, slice_get, slice_index_or}
 use Rattle.std.specs.List.{AllPairs, concat, list_any}
 use Rattle.call_places.specs.declared.entries.Act.{Act}
 use Rattle.call_places.specs.declared.entries.Act.TheVariants as acts
@@ -183,7 +183,7 @@ call_mark m = mark (place m.place.lane (2 * m.place.call + 1) m.place.item) m.st
 
 -- the places of all journals, and the notes of the table
 abbrev pub events : List (List Mark) → List Entry → List Mark
-events journals notes = map call_mark (concat journals) ++ map note_mark notes
+events journals notes = flat_map (map call_mark) journals ++ map note_mark notes
 
 -- The journals of all contexts and the table: the stamps merge them into one history.
 pub record LiveHistory (batch : Batch) (journals : List (List Mark)) (notes : List Entry)

@@ -11,8 +11,7 @@ use Rattle.call_places.specs.declared.entries.Entry.{Entry}
 use Rattle.call_places.specs.declared.entries.Mark.{Mark}
 use Rattle.call_places.specs.Notes.{live_at}
 use Rattle.hpke_context.specs.Contexts.{ContextView}
-use Rattle.context_books.specs.Batches.{Batch, Ask, Nothing, ToSeal, place}
-use Rattle.context_books.specs.Histories.{mark}
+use Rattle.context_books.specs.Batches.{Batch, Ask, Nothing, ToSeal}
 use Rattle.context_books.specs.Checks.{is_legal_history}
 use Rattle.batch_plans.specs.declared.plan.Plan.{Plan}
 use Rattle.batch_plans.specs.declared.plan.CallLine.{CallLine}

@@ -17,7 +17,7 @@ use Rattle.batch_plans.specs.Room.{served_batches}
 use Rattle.batch_plans.specs.Lines.{reply_line, refused_line}
 use Rattle.batch_plans.specs.ReplyText.{is_refused, guess_line, calls_lines, HasReplies, UsesUp}
 use Rattle.batch_plans.specs.ReplyText.UsesUp.{none}
-use Rattle.batch_plans.proofs.Calls.{HasReplies-one, HasReplies-refused, HasReplies-opening, UsesUp-push, UsesUp-push_replies, calls_lines-push, calls_lines-push_replies}
+use Rattle.batch_plans.proofs.CallLines.{HasReplies-one, HasReplies-refused, HasReplies-opening, UsesUp-push, UsesUp-push_replies, calls_lines-push, calls_lines-push_replies}
 use Rattle.batch_plans.proofs.Pools.{calls_lines-same}
 use Rattle.lane_replies.specs.Writing.{PutsReplies}
 use Rattle.lane_replies.specs.Answered.{HasAnswered}

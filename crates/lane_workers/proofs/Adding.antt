@@ -22,7 +22,7 @@ use Rattle.batch_plans.specs.Progress.{Progress, with_reply, with_batch}
 use Rattle.batch_plans.specs.Lines.{reply_line, exported_line}
 use Rattle.batch_plans.specs.LiveText.{is_given}
 use Rattle.batch_plans.specs.ReplyText.{is_refused, HasReplies}
-use Rattle.batch_plans.proofs.Calls.{HasReplies-one, HasReplies-refused, HasReplies-opening}
+use Rattle.batch_plans.proofs.CallLines.{HasReplies-one, HasReplies-refused, HasReplies-opening}
 use Rattle.due_replies.specs.Standing.{call_refusal}
 use Rattle.due_replies.specs.Runs.{answer_line}
 use Rattle.lane_replies.specs.Writing.{PutsReplies}

@@ -25,7 +25,7 @@ use Rattle.batch_plans.specs.Room.{served_batches, served_or}
 use Rattle.batch_plans.specs.Lines.{reply_line, batch_line, refused_line}
 use Rattle.batch_plans.specs.ReplyText.{guess_line, calls_lines, numbered, all_lines, HasReplies}
 use Rattle.batch_plans.specs.ReplyText.UsesUp.{none, call_and_more}
-use Rattle.batch_plans.proofs.Calls.{HasReplies-one, HasReplies-refused, calls_lines-append, calls_lines-one}
+use Rattle.batch_plans.proofs.CallLines.{HasReplies-one, HasReplies-refused, calls_lines-append, calls_lines-one}
 use Rattle.due_replies.specs.Asks.{batch_of}
 use Rattle.due_replies.specs.Live.{was_live, looked_up, looked_up_plan, retire_line}
 use Rattle.due_replies.specs.Runs.{answer_line, lines_unless}
