@@ -37,6 +37,7 @@ use Rattle.due_replies.specs.Live.{Noting, noting, noting_in, IsNoted, looked_up
 use Rattle.due_replies.specs.LiveChecks.{note_ask, pairs, asks_with_notes, note_mark, call_mark, with_table, tells_act, tells_live_at, is_live_history}
 use Rattle.due_replies.specs.Standing.{call_refusal}
 use Rattle.due_replies.specs.Runs.{asks_of}
+use Rattle.due_replies.proofs.LiveParts.{parts_of}
 use Rattle.due_replies.proofs.LiveChecked.{live_history_iff}
 use Rattle.due_replies.proofs.LookedUp.{calls_looked}
 use Rattle.result_lines.specs.PrintedLive.{note_told, IsNoteWithin}
@@ -106,7 +107,7 @@ live_alone batch journals notes context t =
             | inr e ↦ absurd (here.once i j d low few (p ∙ e ∙ sym q))
             | inl o ↦ elim o [
               | inl b ↦ b
-              | inr b ↦ absurd (let f : k.0.stamp < m.0.stamp = t.in_order context context k.0 m.0 (contains_at ms j k.0 k.1) (contains_at ms i m.0 m.1) (sym same) b in omega arith)
+              | inr b ↦ absurd (let f : k.0.stamp < m.0.stamp = (parts_of batch journals notes t).in_order context context k.0 m.0 (contains_at ms j k.0 k.1) (contains_at ms i m.0 m.1) (sym same) b in omega arith)
             ]
           ] in
           subst (λ x. IsBefore x (slice_index_or (places ms) j d)) (sym p) (subst (IsBefore m.0.place) (sym q) before);
