@@ -39,6 +39,7 @@ use Rattle.due_replies.specs.Standing.{call_refusal}
 use Rattle.due_replies.specs.Runs.{asks_of}
 use Rattle.due_replies.proofs.LiveParts.{parts_of}
 use Rattle.due_replies.proofs.LiveChecked.{live_history_iff}
+use Rattle.due_replies.proofs.OneLiveHistory.{at_table}
 use Rattle.due_replies.proofs.LookedUp.{calls_looked}
 use Rattle.result_lines.specs.PrintedLive.{note_told, IsNoteWithin}
 use Rattle.result_lines.specs.Printed.{IsPlaceWithin}
@@ -244,10 +245,6 @@ module _ (live : LiveRun) (within : IsWithinLimits live.plan) where
   journal_at (own ∷ js) rest zero m here = in_map call_mark m own here
   journal_at (own ∷ js) rest (suc c) m here = journal_at js rest c m here
 
-  table_at : (js : List (List Mark)) (marks : List Mark) → marks_at (map (map call_mark) js ++ (marks ∷ [])) (length js) ≡ marks
-  table_at [] marks = refl
-  table_at (own ∷ js) marks = table_at js marks
-
   all_marks : (P : Mark → Type 0) (marks : List Mark) → ((m : Mark) → In m marks → P m) → All P marks
   all_marks P [] each = All-nil P
   all_marks P (m ∷ marks) each = All-cons P m marks (each m (inl refl)) (all_marks P marks (λ k here. each k (inr here)))
@@ -308,7 +305,7 @@ module _ (live : LiveRun) (within : IsWithinLimits live.plan) where
           lane = low.0;
           call = low.1;
           stamp = stamp_few (one_list legal history) table (note_mark e)
-              (subst (In (note_mark e)) (sym (table_at live.journals (map note_mark live.notes))) (in_map note_mark e live.notes here));
+              (subst (In (note_mark e)) (sym (at_table live.journals live.notes)) (in_map note_mark e live.notes here));
           own = note_own e noted.0 noted.1 (legal.acts e noted.0 (contains_in live.notes e here) noted.1);
         })
       where

@@ -1,9 +1,12 @@
 -- The verdict on a result whose lanes add and retire contexts: the first thing that is wrong with it,
 -- or that it is one that the plan may be answered with.
 use Rattle.std.specs.Prelude.{ℕ, ◌≡◌, ◌+◌, ◌-◌, nat_lt, true, List, ◌∷◌, [], length, map, slice_get, Option, Some, None, Result, Ok, Err, if◌then◌else◌}
+use Rattle.std.specs.List.{AllPairs}
 use Rattle.call_places.specs.declared.entries.Entry.{Entry}
 use Rattle.hpke_context.specs.Contexts.{ContextView}
 use Rattle.context_books.specs.Batches.{place}
+use Rattle.context_books.specs.Entries.{entry_places}
+use Rattle.context_books.specs.Legal.{IsInLaneOrder}
 use Rattle.batch_plans.specs.declared.plan.Plan.{Plan}
 use Rattle.batch_plans.specs.declared.plan.CallLine.{CallLine}
 use Rattle.batch_plans.specs.declared.plan.CallLine.TheVariants.{Add, Retire}
@@ -55,6 +58,11 @@ abbrev pub AreLiveJournals : LiveRun → Type 0
 AreLiveJournals live =
     AreJournals true (asks_of (run_of live)) live.journals (length live.journals)
 
+-- the table is legal by itself, and each lane's notes stand in the order of its calls
+pub record IsTable (live : LiveRun) : Type 0 where
+  pub legal : LegalTable live.plan live.standing live.notes
+  pub in_order : AllPairs IsInLaneOrder (entry_places live.notes)
+
 -- the table is legal, and one history with the journals
 pub record IsLegalLive (live : LiveRun) : Type 0 where
   pub table : LegalTable live.plan live.standing live.notes
@@ -65,9 +73,9 @@ IsLiveVerdictOn live told (verdicts.Journal name) =
     (context : ℕ) × (name ≡ called (line_count live.plan) context)
     × IsFirstBroken true (asks_of (run_of live)) live.journals context
 IsLiveVerdictOn live told verdicts.Table =
-    AreLiveJournals live × ¬ LegalTable live.plan live.standing live.notes
+    AreLiveJournals live × ¬ IsTable live
 IsLiveVerdictOn live told verdicts.Stamps =
-    AreLiveJournals live × LegalTable live.plan live.standing live.notes
+    AreLiveJournals live × IsTable live
     × ¬ LiveHistory (asks_of (run_of live)) live.journals live.notes
 IsLiveVerdictOn live told (verdicts.Reply line) =
     IsLegalLive live × (wrong_reply told.replies (live_replies live) ≡ Some line)

@@ -87,7 +87,7 @@ pub fn the_verdict_is_the_first_that_is_wrong()
 pub fn the_live_verdict_is_the_first_that_is_wrong()
     ensures { (plan : Plan) (keys : List KeyReply) (replies : List ContextReply)
         (standing : List (Option ContextView)) (text : List ℕ) (verdict : Verdict)
-        → IsWithinLimits plan
+        → IsWithinLimits plan → length standing ≡ length plan.contexts
         → IsLiveVerdictBy plan replies standing (table_told plan standing text)
         (told_live_by plan keys replies standing (table_told plan standing text) text) verdict
         ↔ (verdict ≡ live_by_form plan replies standing (table_told plan standing text)

@@ -47,7 +47,7 @@ returns-in-Ok g c =
     let judged_by = c.deref_mut.ensures.value ∙ c.into_vec-contexts.ensures.items in
     let judged = IfOk-weaker c.verdict_as_served.result _ (IsLiveVerdict plan text)
     (λ verdict judged. told_verdict plan text setup.keys c.as_slice-keys.result.now setup.contexts c.as_slice-adds.result.now setup.standing c.deref-2.result.now c.as_slice-notes.result.now
-    c.in_ok-setup.ensures.set_up c.as_slice-keys.ensures.items c.as_slice-adds.ensures.items read_by notes c.in-Ok.told verdict tells
+    c.requires.within c.in_ok-setup.ensures.set_up c.as_slice-keys.ensures.items c.as_slice-adds.ensures.items read_by notes c.in-Ok.told verdict tells
     (judged ∙ ap (λ (cs : List (Option ContextView)). live_verdict_on (live_told plan c.as_slice-adds.result.now cs c.as_slice-notes.result.now c.in-Ok.told) c.in-Ok.told) (judged_by ∙ sym read_by)))
     c.verdict_as_served.ensures in
     record {
@@ -69,4 +69,4 @@ returns-in-Err-Wrong-clause-legal g c =
     subst (λ k. (Form k ≡ Legal) ↔ IsLiveReply plan text) (sym c.in-Err-Wrong.line-is)
     (legal_iff_live_reply plan text (Form line) c.requires.within (
     form_verdict plan text setup.keys c.as_slice-keys.result.now setup.contexts c.as_slice-adds.result.now setup.standing c.deref-2.result.now c.as_slice-notes.result.now
-    c.in_ok-setup.ensures.set_up c.as_slice-keys.ensures.items c.as_slice-adds.ensures.items read_by notes line wrong))
+    c.requires.within c.in_ok-setup.ensures.set_up c.as_slice-keys.ensures.items c.as_slice-adds.ensures.items read_by notes line wrong))
