@@ -299,7 +299,7 @@ module _ (plan : Plan) (contexts : List (Option ContextView)) (within : IsWithin
   }
 
   legal : (c : ℕ) → Legal (asks_of (run_of live)) c (journal_of (run_of live) c)
-  legal = each_legal live within both_legal.0 both_legal.1
+  legal = each_legal live both_legal.1
 
   -- ---- the same lines
 

@@ -2,18 +2,21 @@
 -- where they are.
 use Rattle.std.proofs.Common.{◌≡◌, ◌==◌, ◌&&◌, ℕ, zero, suc, ◌+◌, ◌*◌, Bool, true, false, List, [], ◌∷◌, length, map, take, Option, Some, None, sym, refl, ap, ◌∙◌, subst, arith, eqb-true, eq-eqb, inl, inr}
 use Rattle.std.specs.Prelude.{slice_get, slice_index_or, option_map, Contains, IsTrue, ◌↔◌}
-use Rattle.std.specs.List.{list_all, range_with_len}
+use Rattle.std.specs.List.{AllPairs, list_all, range_with_len}
 use Rattle.std.proofs.lemmas.List.{length-append, length-map}
 use Rattle.std.proofs.lemmas.Option.{slice_get-map, slice_get_within}
 use Rattle.call_places.specs.declared.entries.Act.{Act}
 use Rattle.call_places.specs.declared.entries.Act.TheVariants as acts
 use Rattle.call_places.specs.declared.entries.Entry.{Entry}
+use Rattle.call_places.specs.declared.entries.Place.{Place}
 use Rattle.call_places.specs.declared.entries.Step.{Step}
 use Rattle.call_places.specs.declared.entries.Step.TheVariants.{Sealed, SealLimit, Opened, Failed, OpenLimit, Note}
 use Rattle.call_places.specs.Notes.{live_at, TellsLive, AreLive}
-use Rattle.context_books.specs.Batches.{Ask, Spot, lane_of}
+use Rattle.context_books.specs.Batches.{Ask, Spot, lane_of, IsServed}
 use Rattle.context_books.specs.Checks.{is_legal_history}
-use Rattle.context_books.specs.Histories.{LegalHistory, IsHistory, journals_of}
+use Rattle.context_books.specs.Histories.{HasLowerStamp, LegalHistory, IsHistory, places, journals_of}
+use Rattle.context_books.specs.Entries.{entry_places}
+use Rattle.context_books.specs.Legal.{IsInLaneOrder, Legal}
 use Rattle.context_books.proofs.CheckingHistory.{legal_history_iff}
 use Rattle.context_books.proofs.Members.{contains_in, in_contains, in_range, in_map}
 use Rattle.context_books.proofs.OneHistory.{history_iff}
@@ -26,7 +29,7 @@ use Rattle.due_replies.specs.LiveChecks.{note_ask, pairs, note_mark, call_mark, 
 use Rattle.due_replies.specs.Runs.{asks_of}
 use Rattle.due_replies.proofs.Done.{lane_asks}
 use Rattle.due_replies.proofs.LookedUp.{call_looked}
-use Rattle.due_replies.proofs.OneLiveHistory.{AsksNote, forth, noted_back, once_back, rise_back, history_back}
+use Rattle.due_replies.proofs.OneLiveHistory.{AsksNote, forth, marks_legal, marks_rise, legal_marked, rise_marked, noted_back, once_back, rise_back, history_back}
 
 -- ---- each call as two
 
@@ -293,6 +296,10 @@ module _ (live : LiveRun) where
       here i (Some e) is =
           ap (tells_live_at live.notes i) is ∙ told_live (take i live.notes) e.step (t i e is)
 
+placed : (notes : List Entry) (e : Entry) → Contains notes e → Contains (entry_places notes) e.place
+placed notes e has = contains_in (entry_places notes) e.place
+    (in_map (λ (f : Entry). f.place) e notes (in_contains notes e has))
+
 pub live_history_iff : (live : LiveRun) → IsTrue (is_live_history live)
     ↔ (LegalTable live.plan live.standing live.notes
     × LiveHistory (asks_of (run_of live)) live.journals live.notes)
@@ -313,10 +320,42 @@ live_history_iff live =
           both_true (history_test && acts_tests) live_tests
           (both_true history_test acts_tests
           ((legal_history_iff (asks_with_notes live) (with_table live)).1 one.0)
-          (told_acts live (λ e has. (t.0.noted e.place).0 (placed e has)) one.1))
+          (told_acts live (λ e has. (t.0.noted e.place).0 (placed live.notes e has)) one.1))
           (live_all live one.2),
     )
-  where
-    placed : (e : Entry) → Contains live.notes e → Contains (map (λ (f : Entry). f.place) live.notes) e.place
-    placed e has = contains_in (map (λ (f : Entry). f.place) live.notes) e.place
-        (in_map (λ (f : Entry). f.place) e live.notes (in_contains live.notes e has))
+
+-- the same of the table by itself, where no call is served on the context behind all others
+pub legal_table_iff : (live : LiveRun)
+    → ((p : Place) → IsServed (asks_of (run_of live)) (length live.journals) p → ⊥)
+    → (LegalTable live.plan live.standing live.notes × AllPairs IsInLaneOrder (entry_places live.notes))
+    ↔ (Legal (asks_with_notes live) (length live.journals) (places (map note_mark live.notes))
+    × AllPairs HasLowerStamp (map note_mark live.notes)
+    × (list_all (tells_act live.plan live.standing) live.notes ≡ true)
+    × (list_all (λ i. tells_live_at live.notes i (slice_get live.notes i))
+    (range_with_len 0 (length live.notes)) ≡ true))
+legal_table_iff live nothing =
+    let plan = live.plan in
+    let standing = live.standing in
+    let batch = asks_of (run_of live) in
+    let both = asks_with_notes live in
+    let journals = live.journals in
+    let notes = live.notes in (
+      λ t. (
+        marks_legal plan standing batch both journals notes (evens live) (odds live) nothing
+            t.0.noted t.0.once t.1,
+        marks_rise plan standing batch both journals notes (evens live) (odds live) t.0.rise,
+        told_acts live (λ e has. (t.0.noted e.place).0 (placed notes e has)) t.0.acts,
+        live_all live t.0.live,
+      ),
+      λ t.
+          let own = legal_marked plan standing batch both journals notes (evens live) (odds live) t.0 in (
+            record {
+              noted = own.0;
+              once = own.1;
+              acts = acts_told live t.2;
+              live = all_live live t.3;
+              rise = rise_marked plan standing batch both journals notes (evens live) (odds live) t.1;
+            },
+            own.2,
+          ),
+    )

@@ -4,18 +4,18 @@ use Rattle.std.proofs.Common.{◌≡◌, ◌≢◌, ℕ, zero, suc, ◌+◌, ◌
 use Rattle.std.specs.Prelude.{slice_get, slice_index_or, Contains, ◌↔◌}
 use Rattle.std.specs.List.{AllPairs}
 use Rattle.std.proofs.lemmas.Bool.{cases_eq}
-use Rattle.std.proofs.lemmas.List.{append-nil, map-append, get_or_past}
+use Rattle.std.proofs.lemmas.List.{append-nil, map-append, get_or_past, length-map}
 use Rattle.call_places.specs.declared.entries.Entry.{Entry}
 use Rattle.call_places.specs.declared.entries.Mark.{Mark}
 use Rattle.call_places.specs.declared.entries.Place.{Place}
 use Rattle.call_places.specs.Entries.{StampsRise}
 use Rattle.hpke_context.specs.Answers.{Item, Seal}
 use Rattle.hpke_context.specs.Contexts.{ContextView}
-use Rattle.context_books.specs.Batches.{Batch, Ask, Nothing, ToSeal, ToOpenAll, item_in_call, place, lane_of, IsServed}
+use Rattle.context_books.specs.Batches.{Batch, Ask, Nothing, ToSeal, ToOpenAll, unseal, with_context, item_in_call, block, place, lane_of, IsServed}
 use Rattle.context_books.specs.Entries.{entry_places}
 use Rattle.context_books.specs.Histories.{mark, places, stamps, marks_at, all_stamps, HasLowerStamp, AreAllFrom0, LegalMarks, LegalHistory}
-use Rattle.context_books.specs.Legal.{OpensOn}
-use Rattle.context_books.proofs.Members.{contains_in, in_contains, in_map, map_in, In-left, In-right, In-append, RisesBy, pairs_rise, rises_pairs}
+use Rattle.context_books.specs.Legal.{OpensOn, IsInLaneOrder, Legal}
+use Rattle.context_books.proofs.Members.{contains_in, in_contains, in_map, map_in, In-left, In-right, In-append, RisesBy, pairs_rise, rises_pairs, got}
 use Rattle.context_books.specs.Lists.{In}
 use Rattle.context_books.proofs.Places.{same_place}
 use Rattle.batch_plans.specs.declared.plan.Plan.{Plan}
@@ -94,7 +94,7 @@ map_pairs : {X Y : Type 0} (S : X → X → Type 0) (R : Y → Y → Type 0) (f 
     → ((x y : X) → R (f x) (f y) → S x y) → (xs : List X) → AllPairs R (map f xs) → AllPairs S xs
 map_pairs S R f g xs t = pairs_rise S xs (map_rises S R f g xs (rises_pairs R (map f xs) t))
 
-abbrev Apart : Place → Place → Type 0
+abbrev pub Apart : Place → Place → Type 0
 Apart p q = p ≢ q
 
 abbrev Earlier : Entry → Entry → Type 0
@@ -130,7 +130,7 @@ at_context [] notes (suc c) ne = refl
 at_context (ms ∷ journals) notes zero ne = refl
 at_context (ms ∷ journals) notes (suc c) ne = at_context journals notes c (λ e. ne (ap suc e))
 
-at_table : (journals : List (List Mark)) (notes : List Entry)
+pub at_table : (journals : List (List Mark)) (notes : List Entry)
     → marks_at (tabled journals notes) (length journals) ≡ map note_mark notes
 at_table [] notes = refl
 at_table (ms ∷ journals) notes = at_table journals notes
@@ -261,10 +261,103 @@ module _ (plan : Plan) (standing : List (Option ContextView)) (batch both : Batc
         → OpensOn both c l other n
     opens_at c l call other n e o = subst (λ k. OpensOn both c l k n) e o
 
+    -- ---- the table by itself
+
+    -- each call that is noted has a note, and there is no other
+    abbrev pub AreNoted : Type 0
+    AreNoted = (p : Place) → Contains (entry_places notes) p ↔ ((n : Noting) × IsNoted plan standing p n)
+
+    marks_once : AllPairs Apart (entry_places notes) → AllPairs Apart (places (map note_mark notes))
+    marks_once once = subst (AllPairs Apart) (sym (noted_places notes))
+        (pairs_map Apart Apart note_place (λ p q ne e. ne (note_place_one p q e)) (entry_places notes) once)
+
+    pub marks_rise : StampsRise notes → AllPairs HasLowerStamp (map note_mark notes)
+    marks_rise rise = pairs_rise HasLowerStamp (map note_mark notes)
+        (rises_map Earlier HasLowerStamp note_mark (λ e f low. low) notes (notes_rise notes rise))
+
+    once_marked : AllPairs Apart (places (map note_mark notes)) → AllPairs Apart (entry_places notes)
+    once_marked once = map_pairs Apart Apart note_place (λ p q ne e. ne (ap note_place e))
+        (entry_places notes) (subst (AllPairs Apart) (noted_places notes) once)
+
+    pub rise_marked : AllPairs HasLowerStamp (map note_mark notes) → StampsRise notes
+    rise_marked rise = rises_notes notes (map_rises Earlier HasLowerStamp note_mark (λ e f low. low) notes
+        (rises_pairs HasLowerStamp (map note_mark notes) rise))
+
+    module _ (nothing : (p : Place) → IsServed batch table p → ⊥) where
+      none_opened : (lane call n : ℕ) → OpensOn both table lane call n → n ≡ 0
+      none_opened lane call zero o = refl
+      none_opened lane call (suc n) o = elim (half call) [
+        | inl k ↦ absurd (even_opens lane k.0 table (suc n) (opens_at table lane call (2 * k.0) (suc n) k.1 o))
+        | inr k ↦ absurd (
+            let own = call_opens table lane k.0 (suc n) (opens_at table lane call (2 * k.0 + 1) (suc n) k.1 o) in
+            let x = got (map unseal own.0) 0 (omega (arith, length-map own.0 unseal, own.2)) in
+            nothing (place lane k.0 0) (x.0, ap (λ a. item_in_call a 0) own.1 ∙ ap (with_context table) x.1))
+      ]
+
+      marks_served : AreNoted → (p : Place) → Contains (places (map note_mark notes)) p ↔ IsServed both table p
+      marks_served noted p =
+          let ps = entry_places notes in (
+            λ has.
+                let q = map_in note_place p ps
+                (subst (In p) (noted_places notes) (in_contains (places (map note_mark notes)) p has)) in
+                let n = (noted q.0).0 (contains_in ps q.0 q.1) in
+                subst (IsServed both table) q.2 (note_served q.0 n.0 n.1),
+            λ s. contains_in (places (map note_mark notes)) p (subst (In p) (sym (noted_places notes))
+                (elim (which p) [
+                  | inl q ↦ subst (λ r. In r (map note_place ps)) q.1
+                      (in_map note_place q.0 ps (in_contains ps q.0
+                      ((noted q.0).1 (served_note table q.0 (subst (IsServed both table) (sym q.1) s)).0)))
+                  | inr q ↦ absurd (nothing q.0
+                      (served_call table q.0 (subst (IsServed both table) (sym q.1) s)))
+                ])),
+          )
+
+      pub marks_legal : AreNoted → AllPairs Apart (entry_places notes)
+          → AllPairs IsInLaneOrder (entry_places notes) → Legal both table (places (map note_mark notes))
+      marks_legal noted once in_order =
+          let ps = places (map note_mark notes) in
+          record {
+            served = marks_served noted;
+            once = marks_once once;
+            in_order = subst (AllPairs IsInLaneOrder) (sym (noted_places notes))
+                (pairs_map IsInLaneOrder IsInLaneOrder note_place (λ p q o lane. elim (o lane) [
+                  | inl low ↦ inl (omega arith)
+                  | inr t ↦ inr ((let e = t.0 in omega arith), t.1)
+                ]) (entry_places notes) in_order);
+            together = λ lane call n o.
+                ([], ps, sym (ap (λ k. block lane call 0 k ++ ps) (none_opened lane call n o)));
+          }
+
+    stands_note : (p : Place) → Contains (places (map note_mark notes)) p
+        → (q : Place) × In q (entry_places notes) × (note_place q ≡ p)
+    stands_note p has = map_in note_place p (entry_places notes)
+        (subst (In p) (noted_places notes) (in_contains (places (map note_mark notes)) p has))
+
+    noted_marked : ((p : Place) → Contains (places (map note_mark notes)) p ↔ IsServed both table p) → AreNoted
+    noted_marked served p = (
+      λ has. (served_note table p ((served (note_place p)).0
+          (contains_in (places (map note_mark notes)) (note_place p) (subst (In (note_place p))
+          (sym (noted_places notes)) (in_map note_place p (entry_places notes)
+          (in_contains (entry_places notes) p has)))))).0,
+      λ n.
+          let q = stands_note (note_place p) ((served (note_place p)).1 (note_served p n.0 n.1)) in
+          contains_in (entry_places notes) p (subst (λ r. In r (entry_places notes)) (note_place_one q.0 p q.2) q.1),
+    )
+
+    pub legal_marked : Legal both table (places (map note_mark notes))
+        → AreNoted × AllPairs Apart (entry_places notes) × AllPairs IsInLaneOrder (entry_places notes)
+    legal_marked t = (
+      noted_marked t.served,
+      once_marked t.once,
+      map_pairs IsInLaneOrder IsInLaneOrder note_place (λ p q o lane. elim (o lane) [
+        | inl low ↦ inl (omega arith)
+        | inr t ↦ inr ((let e = t.0 in omega arith), t.1)
+      ]) (entry_places notes) (subst (AllPairs IsInLaneOrder) (noted_places notes) t.in_order),
+    )
+
     -- ---- from the table and the journals
 
-    module _ (noted : (p : Place)
-        → Contains (entry_places notes) p ↔ ((n : Noting) × IsNoted plan standing p n))
+    module _ (noted : AreNoted)
         (once : AllPairs Apart (entry_places notes)) (rise : StampsRise notes)
         (h : LiveHistory batch journals notes) where
       called : (c : ℕ) → c ≢ table → LegalMarks both c (map call_mark (marks_at journals c))
@@ -309,38 +402,13 @@ module _ (plan : Plan) (standing : List (Option ContextView)) (batch both : Batc
           (in_contains (places (marks_at journals table)) p (((h.each table).served p).1 s))
 
       noted_marks : LegalMarks both table (map note_mark notes)
-      noted_marks =
-          let ps = entry_places notes in
-          record {
-            served = λ p. (
-              λ has.
-                  let q = map_in note_place p ps
-                  (subst (In p) (noted_places notes) (in_contains (places (map note_mark notes)) p has)) in
-                  let n = (noted q.0).0 (contains_in ps q.0 q.1) in
-                  subst (IsServed both table) q.2 (note_served q.0 n.0 n.1),
-              λ s. contains_in (places (map note_mark notes)) p (subst (In p) (sym (noted_places notes))
-                  (elim (which p) [
-                    | inl q ↦ subst (λ r. In r (map note_place ps)) q.1
-                        (in_map note_place q.0 ps (in_contains ps q.0
-                        ((noted q.0).1 (served_note table q.0 (subst (IsServed both table) (sym q.1) s)).0)))
-                    | inr q ↦ absurd (nothing_called q.0
-                        (served_call table q.0 (subst (IsServed both table) (sym q.1) s)))
-                  ])),
-            );
-            once = subst (AllPairs Apart) (sym (noted_places notes))
-                (pairs_map Apart Apart note_place (λ p q ne e. ne (note_place_one p q e)) ps once);
-            rise = pairs_rise HasLowerStamp (map note_mark notes)
-                (rises_map Earlier HasLowerStamp note_mark (λ e f low. low) notes (notes_rise notes rise));
-            together = λ lane call n o. elim (half call) [
-              | inl k ↦ absurd (even_opens lane k.0 table n (opens_at table lane call (2 * k.0) n k.1 o))
-              | inr k ↦ (let b = (h.each table).together lane k.0 n
-                  (call_opens table lane k.0 n (opens_at table lane call (2 * k.0 + 1) n k.1 o)) in (
-                    b.0,
-                    λ i low. absurd (subst (In (mark (place lane k.0 i) (b.0 + i))) (none_there journals)
-                        (in_contains (marks_at journals table) (mark (place lane k.0 i) (b.0 + i)) (b.1 i low))),
-                  ))
-            ];
-          }
+      noted_marks = record {
+        served = marks_served nothing_called noted;
+        once = marks_once once;
+        rise = marks_rise rise;
+        together = λ lane call n o.
+            (0, λ i low. absurd (let none = none_opened nothing_called lane call n o in omega arith));
+      }
 
       event : (c : ℕ) (m : Mark) → Contains (marks_at (tabled journals notes) c) m
           → Contains (events journals notes) m
@@ -364,32 +432,14 @@ module _ (plan : Plan) (standing : List (Option ContextView)) (batch both : Batc
       the_table : LegalMarks both table (map note_mark notes)
       the_table = subst (LegalMarks both table) (at_table journals notes) (h.each table)
 
-      note_stands : (p : Place) → In p (entry_places notes) → Contains (places (map note_mark notes)) (note_place p)
-      note_stands p i = contains_in (places (map note_mark notes)) (note_place p)
-          (subst (In (note_place p)) (sym (noted_places notes)) (in_map note_place p (entry_places notes) i))
-
-      stands_note : (p : Place) → Contains (places (map note_mark notes)) p
-          → (q : Place) × In q (entry_places notes) × (note_place q ≡ p)
-      stands_note p has = map_in note_place p (entry_places notes)
-          (subst (In p) (noted_places notes) (in_contains (places (map note_mark notes)) p has))
-
-      pub noted_back : (p : Place)
-          → Contains (entry_places notes) p ↔ ((n : Noting) × IsNoted plan standing p n)
-      noted_back p = (
-        λ has. (served_note table p ((the_table.served (note_place p)).0
-            (note_stands p (in_contains (entry_places notes) p has)))).0,
-        λ n.
-            let q = stands_note (note_place p) ((the_table.served (note_place p)).1 (note_served p n.0 n.1)) in
-            contains_in (entry_places notes) p (subst (λ r. In r (entry_places notes)) (note_place_one q.0 p q.2) q.1),
-      )
+      pub noted_back : AreNoted
+      noted_back = noted_marked the_table.served
 
       pub once_back : AllPairs Apart (entry_places notes)
-      once_back = map_pairs Apart Apart note_place (λ p q ne e. ne (ap note_place e)) (entry_places notes)
-          (subst (AllPairs Apart) (noted_places notes) the_table.once)
+      once_back = once_marked the_table.once
 
       pub rise_back : StampsRise notes
-      rise_back = rises_notes notes (map_rises Earlier HasLowerStamp note_mark (λ e f low. low) notes
-          (rises_pairs HasLowerStamp (map note_mark notes) the_table.rise))
+      rise_back = rise_marked the_table.rise
 
       nothing : LegalMarks batch table []
       nothing = record {

@@ -15,10 +15,10 @@ use Rattle.result_lines.specs.declared.verdicts.Verdict.{Verdict}
 use Rattle.result_lines.specs.declared.verdicts.Verdict.TheVariants.{Legal, Journal}
 use Rattle.result_lines.specs.Guesses.{wrong_guesses}
 use Rattle.result_lines.specs.Journals.{broken_journal}
-use Rattle.result_lines.specs.LiveVerdicts.{live_told, is_table, by_live_journal, by_table, live_replies}
+use Rattle.result_lines.specs.LiveVerdicts.{live_told, live_replies}
 use Rattle.result_lines.specs.Replies.{wrong_reply}
 use Rattle.result_lines.specs.Told.{ToldView}
-use Rattle.result_lines.specs.Verdicts.{run_told, by_journal, by_stamps, by_reply, by_guess, or_later}
+use Rattle.result_lines.specs.Verdicts.{run_told}
 use Rattle.journal_check.specs.declared.runs.JournalRun.{JournalRun}
 use Rattle.journal_check.specs.declared.tables.Table.{Table}
 use Rattle.journal_check.specs.Piles.{IsKept}
@@ -28,6 +28,7 @@ use Rattle.journal_check.specs.Tables.{written}
 use Rattle.journal_check.specs.Walks.{WasRun}
 use Rattle.journal_check.proofs.LiveServed.{replies_served, replies_plain}
 use Rattle.journal_check.proofs.SoundRuns.{are_for, was_run}
+use Rattle.result_lines.specs.Computed.{by_journal, by_stamps, by_reply, by_guess, or_later, is_table, by_live_journal, by_table}
 
 -- ---- what is judged after the journals, the table and the stamps
 

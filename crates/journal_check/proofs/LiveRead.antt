@@ -18,10 +18,12 @@ use Rattle.result_lines.proofs.Growing.{batches}
 use Rattle.result_lines.proofs.TookLive.{told_live_took}
 use Rattle.result_lines.specs.declared.verdicts.Verdict.{Verdict}
 use Rattle.result_lines.specs.declared.verdicts.Verdict.TheVariants.{Form}
-use Rattle.result_lines.specs.LiveVerdicts.{live_told, live_verdict_on, live_by_form}
+use Rattle.result_lines.specs.LiveVerdicts.{live_told}
+use Rattle.result_lines.proofs.FirstWrongLive.{first_wrong_live}
 use Rattle.result_lines.proofs.LookedLimits.{looked_lanes}
 use Rattle.journal_check.specs.Verdicts.{IsLiveVerdict}
 use Rattle.journal_check.proofs.ToldSizes.{Has}
+use Rattle.result_lines.specs.Computed.{live_verdict_on, live_by_form}
 
 -- how many lanes and journals a text tells
 pub live_has_of : (plan : Plan) (keys : List KeyReply) (replies : List ContextReply) (contexts : List (Option ContextView)) (notes : List Entry) (text : List ℕ) (found : ToldView)
@@ -34,7 +36,7 @@ live_has_of plan keys replies contexts notes text found within is =
     )
 
 module _ (plan : Plan) (text : List ℕ) (keys found_keys : List KeyReply) (adds found_adds : List ContextReply) (standing found_contexts : List (Option ContextView)) (found_notes : List Entry)
-    (set_up : IsSetUp plan keys adds standing) (same_keys : found_keys ≡ keys) (same_adds : found_adds ≡ adds) (same_contexts : found_contexts ≡ standing)
+    (within : IsWithinLimits plan) (set_up : IsSetUp plan keys adds standing) (same_keys : found_keys ≡ keys) (same_adds : found_adds ≡ adds) (same_contexts : found_contexts ≡ standing)
     (same_notes : found_notes ≡ table_told plan standing text) where
   live_read : (read : Result ToldView ℕ) → told_live_by plan found_keys found_adds found_contexts found_notes text ≡ read
       → told_live_by plan keys adds standing (table_told plan standing text) text ≡ read
@@ -48,9 +50,9 @@ module _ (plan : Plan) (text : List ℕ) (keys found_keys : List KeyReply) (adds
     contexts = adds;
     standing = standing;
     set_up = set_up;
-    is = judged
+    is = (first_wrong_live plan keys adds standing text verdict within set_up.standing_count).1 (judged
         ∙ (λ i. live_verdict_on (live_told plan (same_adds i) (same_contexts i) (same_notes i) told) told)
-        ∙ ap (live_by_form plan adds standing (table_told plan standing text)) (sym (live_read (Ok told) tells));
+        ∙ ap (live_by_form plan adds standing (table_told plan standing text)) (sym (live_read (Ok told) tells)));
   }
 
   -- and on a line without a form
@@ -60,5 +62,6 @@ module _ (plan : Plan) (text : List ℕ) (keys found_keys : List KeyReply) (adds
     contexts = adds;
     standing = standing;
     set_up = set_up;
-    is = ap (live_by_form plan adds standing (table_told plan standing text)) (sym (live_read (Err line) tells));
+    is = (first_wrong_live plan keys adds standing text (Form line) within set_up.standing_count).1
+        (ap (live_by_form plan adds standing (table_told plan standing text)) (sym (live_read (Err line) tells)));
   }

@@ -13,12 +13,12 @@ use Rattle.batch_plans.specs.declared.plan.CallLine.{CallLine}
 use Rattle.due_replies.specs.Live.{LiveRun, looked_up_plan}
 use Rattle.due_replies.specs.LiveChecks.{asks_with_notes, with_table, note_mark, tells_act, tells_live_at, is_live_history}
 use Rattle.result_lines.specs.Journals.{is_journal}
-use Rattle.result_lines.specs.LiveVerdicts.{is_table}
 use Rattle.journal_check.specs.declared.asks.Asked.{Asked}
 use Rattle.journal_check.specs.Asks.{AreFew, batch_from}
 use Rattle.journal_check.specs.Tables.{written, live_along, all_pairs_by, lane_lengths, is_low_note, are_low, with_marks}
 use Rattle.journal_check.proofs.Alike.{made, journal_same, history_same}
 use Rattle.journal_check.proofs.NotedCalls.{paired, as_long, pairs_few, low_notes, low_all, fails_with, both_hold}
+use Rattle.result_lines.specs.Computed.{is_table}
 
 module _ (plan : Plan) (contexts : List (Option ContextView)) (calls : List (List CallLine)) (journals : List (List Mark)) (notes : List Entry)
     (within : IsWithinLimits plan) (served : plan.lanes ≡ (looked_up_plan (written plan calls) notes).lanes) where

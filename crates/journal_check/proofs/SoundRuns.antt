@@ -25,7 +25,7 @@ use Rattle.journal_check.specs.Passing.{AreNumbersOf, AreLegal}
 use Rattle.journal_check.specs.Runs.{items_at, AreRuns, AreFor}
 use Rattle.journal_check.specs.Walks.{AreRepliesOf, HaveLanes, WasRun}
 use Rattle.result_lines.proofs.Limited.{IsLine, lines_of_limits}
-use Rattle.result_lines.proofs.LegalJournals.{none_broken}
+use Rattle.result_lines.proofs.LegalJournals.{first_iff}
 use Rattle.journal_check.proofs.Asking.{from_asked, asks_of_lane}
 use Rattle.journal_check.proofs.ServedPlaces.{asked_served, items_same}
 use Rattle.journal_check.proofs.LegalRuns.{all_served, lines_of_run, numbers_of_run}
@@ -66,7 +66,7 @@ module _ (run : Run) (runs : List JournalRun) (are : AreRuns run.plan run.contex
 module _ (plan : Plan) (contexts : List (Option ContextView)) (journals : List (List Mark)) (stamps : Bool) (within : IsWithinLimits plan)
     (none : broken_journal stamps (batch_of plan contexts) 0 journals ≡ None) where
   pub each_legal : (c : ℕ) → c < length journals → Legal (batch_of plan contexts) c (places (marks_at journals c))
-  each_legal c low = (legal_iff (batch_of plan contexts) c (places (marks_at journals c))).0 (none_broken stamps (batch_of plan contexts) 0 journals none c c low (omega arith))
+  each_legal c low = ((first_iff stamps (batch_of plan contexts) journals None).0 none c low).legal
 
   lines_of : (lane : ℕ) → All (IsLine plan) (slice_index_or plan.lanes lane [])
   lines_of lane = elim (cases_lt lane (length plan.lanes)) [

@@ -16,12 +16,12 @@ use Rattle.due_replies.specs.Runs.{Run}
 use Rattle.result_lines.specs.declared.verdicts.Verdict.{Verdict}
 use Rattle.result_lines.specs.declared.verdicts.Verdict.TheVariants as verdicts
 use Rattle.result_lines.specs.Journals.{broken_journal, is_one_history}
-use Rattle.result_lines.specs.LiveVerdicts.{called, is_table, by_table, live_told, live_verdict_on}
+use Rattle.result_lines.specs.LiveVerdicts.{called, live_told}
 use Rattle.result_lines.specs.Replies.{reply_lines}
 use Rattle.result_lines.specs.Told.{ToldView}
-use Rattle.result_lines.specs.Verdicts.{by_stamps, verdict_on}
 use Rattle.journal_check.specs.declared.tables.Table.{Table}
 use Rattle.journal_check.specs.Tables.{written, live_along}
+use Rattle.result_lines.specs.Computed.{by_stamps, verdict_on, is_table, by_table, live_verdict_on}
 
 -- the plan's calls are those of the table as they were served, and its notes say what the calls do
 pub record IsServedBy (plan : Plan) (contexts : List (Option ContextView)) (table : Table) : Type 0 where

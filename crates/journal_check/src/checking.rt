@@ -6,10 +6,10 @@ ghost use Rattle.context_table.specs.ReplyTo.{IsReply};
 ghost use Rattle.result_lines.specs.declared.verdicts.Verdict.{Verdict};
 ghost use Rattle.result_lines.specs.Replies.{wrong_reply as wrong_reply_of};
 ghost use Rattle.result_lines.specs.Guesses.{wrong_guesses as wrong_guesses_of};
-ghost use Rattle.result_lines.specs.Verdicts.{by_reply, by_guess};
 ghost use Rattle.journal_check.specs.Served.{IsServed, all_due, verdict_by};
 ghost use Rattle.journal_check.specs.Verdicts.{IsVerdict};
 ghost use Rattle.journal_check.specs.Walks.{IsRun, run_in};
+ghost use Rattle.result_lines.specs.Computed.{by_reply, by_guess};
 
 use crate::guesses::wrong_guesses;
 use crate::kept::kept_journals;

@@ -7,8 +7,9 @@ ghost use Rattle.context_table.specs.ReplyTo.{IsLiveReply};
 ghost use Rattle.due_replies.specs.Live.{looked_up_plan};
 ghost use Rattle.due_replies.specs.LiveChecks.{tells_act};
 ghost use Rattle.result_lines.specs.declared.verdicts.Verdict.{Verdict};
-ghost use Rattle.result_lines.specs.LiveVerdicts.{live_told, live_verdict_on as verdict_of};
+ghost use Rattle.result_lines.specs.LiveVerdicts.{live_told};
 ghost use Rattle.journal_check.specs.Verdicts.{IsLiveVerdict};
+ghost use Rattle.result_lines.specs.Computed.{live_verdict_on as verdict_of};
 
 use crate::checking::verdict_on;
 use crate::tables::Table;

@@ -7,11 +7,10 @@ ghost use Rattle.due_replies.specs.Asks.{batch_of};
 ghost use Rattle.due_replies.specs.LiveChecks.{is_live_history as is_live_history_of};
 ghost use Rattle.result_lines.specs.declared.verdicts.Verdict.{Verdict};
 ghost use Rattle.result_lines.specs.Journals.{is_one_history as is_one_history_of};
-ghost use Rattle.result_lines.specs.LiveVerdicts.{called as called_of, is_table as is_table_of};
-ghost use Rattle.result_lines.specs.LiveVerdicts.{by_table};
-ghost use Rattle.result_lines.specs.Verdicts.{by_stamps, or_later};
+ghost use Rattle.result_lines.specs.LiveVerdicts.{called as called_of};
 ghost use Rattle.journal_check.specs.Served.{IsServed, IsServedBy, table_along};
 ghost use Rattle.journal_check.specs.Served.{stamps_by, named_by, by_order};
+ghost use Rattle.result_lines.specs.Computed.{by_stamps, or_later, is_table as is_table_of, by_table};
 
 use crate::histories::is_one_history;
 use crate::journals::broken_journal;

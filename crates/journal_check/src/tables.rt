@@ -14,11 +14,11 @@ ghost use Rattle.due_replies.specs.LiveChecks.{note_ask, note_mark, call_mark};
 ghost use Rattle.due_replies.specs.LiveChecks.{is_live_history as is_live_history_of};
 ghost use Rattle.due_replies.specs.Standing.{standing_at};
 ghost use Rattle.result_lines.specs.Journals.{is_journal as is_journal_of};
-ghost use Rattle.result_lines.specs.LiveVerdicts.{is_table as is_table_of};
 ghost use Rattle.journal_check.specs.Asks.{size_of as size_of_ask, AreFew, batch_from};
 ghost use Rattle.journal_check.specs.Tables.{is_standing, is_noting, pairs_by, all_pairs_by};
 ghost use Rattle.journal_check.specs.Tables.{lane_lengths, is_low, is_low_note, are_low, with_marks};
 ghost use Rattle.journal_check.specs.Served.{IsServedBy, table_along};
+ghost use Rattle.result_lines.specs.Computed.{is_table as is_table_of};
 
 use crate::asks::{Asked, size_of};
 use crate::dealing::{places_asked, places_told};

@@ -1,6 +1,6 @@
 -- The tests of journals pass exactly where the journals are legal, by themselves or as one history.
 use Rattle.std.proofs.Common.{◌≡◌, ℕ, zero, suc, ◌+◌, ◌≤◌, ◌<◌, Bool, true, false, cond, List, [], ◌∷◌, ◌⊎◌, length, map, Option, Some, None, refl, sym, ap, ◌∙◌, subst, inl, inr, arith}
-use Rattle.std.specs.Prelude.{nat_lt, slice_get, slice_index_or}
+use Rattle.std.specs.Prelude.{nat_lt, not, ◌||◌, slice_get, slice_index_or, IsTrue, ◌↔◌}
 use Rattle.std.specs.List.{All, AllPairs}
 use Rattle.std.specs.Option.{option_map}
 use Rattle.std.proofs.lemmas.Bool.{cases_lt}
@@ -19,9 +19,9 @@ use Rattle.context_books.specs.Legal.{Legal}
 use Rattle.context_books.proofs.Checking.{legal_iff}
 use Rattle.context_books.proofs.CheckingHistory.{legal_history_iff}
 use Rattle.context_books.proofs.Marks.{legal_alone}
-use Rattle.context_books.proofs.Members.{got, contains_in, in_map, map_in, pairs_tail}
+use Rattle.context_books.proofs.Members.{got, contains_in, in_map, map_in, pairs_tail, RisesBy, pairs_rise}
 use Rattle.context_books.specs.Lists.{In}
-use Rattle.context_books.proofs.Truths.{and_left, both_true, true_lt}
+use Rattle.context_books.proofs.Truths.{and_left, and_right, both_true, lt_true, true_lt}
 use Rattle.batch_plans.specs.Calls.{context_of}
 use Rattle.batch_plans.specs.Limits.{IsWithinLimits, most_opening, items_from}
 use Rattle.batch_plans.specs.declared.plan.Plan.{Plan}
@@ -32,6 +32,7 @@ use Rattle.due_replies.specs.Standing.{standing_at, call_refusal}
 use Rattle.due_replies.specs.Asks.{asked_by, ask_unless, ask_of, batch_of}
 use Rattle.due_replies.specs.Runs.{LegalFor}
 use Rattle.result_lines.specs.Printed.{IsMarkWithin}
+use Rattle.result_lines.specs.Verdicts.{IsJournal, AreJournals, IsFirstBroken}
 use Rattle.result_lines.specs.Journals.{stamps_rise, is_journal, broken_journal, is_one_history}
 use Rattle.result_lines.proofs.Counting.{asks_are, served_low, stamp_low}
 use Rattle.result_lines.proofs.DueReplies.{stands_for}
@@ -40,42 +41,112 @@ use Rattle.result_lines.proofs.RunTexts.{messages_size}
 
 -- ---- each journal by itself
 
-not_some : (k : ℕ) → Some k ≡ None → ⊥
-not_some k e = cc
-
--- where none is broken each is legal
-pub none_broken : (stamps : Bool) (batch : Batch) (k : ℕ) (journals : List (List Mark)) → broken_journal stamps batch k journals ≡ None
-    → (c at : ℕ) → c < length journals → k + c ≡ at → is_legal batch at (places (marks_at journals c)) ≡ true
-none_broken stamps batch k [] none c at low is = absurd (omega arith)
-none_broken stamps batch k (marks ∷ more) none c at low is =
-    step (is_journal stamps batch k marks) refl none c low is (λ later d there same. none_broken stamps batch (k + 1) more later d at there same)
-  where
-    step : (b : Bool) → is_journal stamps batch k marks ≡ b → cond b (broken_journal stamps batch (k + 1) more) (Some k) ≡ None
-        → (d : ℕ) → d < length (marks ∷ more) → k + d ≡ at
-        → (broken_journal stamps batch (k + 1) more ≡ None → (e : ℕ) → e < length more → (k + 1) + e ≡ at → is_legal batch at (places (marks_at more e)) ≡ true)
-        → is_legal batch at (places (marks_at (marks ∷ more) d)) ≡ true
-    step false e clash d there same later = absurd (not_some k clash)
-    step true e rest zero there same later =
-        subst (λ (j : ℕ). is_legal batch j (places marks) ≡ true) (let here : k ≡ at = omega arith in here) (and_left (is_legal batch k (places marks)) _ e)
-    step true e rest (suc d) there same later = later rest d (omega arith) (omega arith)
-
--- and where each passes none is broken
-pub broken_none : (stamps : Bool) (batch : Batch) (k : ℕ) (journals : List (List Mark))
-    → ((c : ℕ) → c < length journals → is_journal stamps batch (k + c) (marks_at journals c) ≡ true) → broken_journal stamps batch k journals ≡ None
-broken_none stamps batch k [] each = refl
-broken_none stamps batch k (marks ∷ more) each =
-    let here : is_journal stamps batch k marks ≡ true =
-    subst (λ (j : ℕ). is_journal stamps batch j marks ≡ true) (let z : k + 0 ≡ k = omega arith in z) (each 0 (omega arith)) in
-    ap (λ (b : Bool). cond b (broken_journal stamps batch (k + 1) more) (Some k)) here
-    ∙ broken_none stamps batch (k + 1) more
-    (λ c low. subst (λ (j : ℕ). is_journal stamps batch j (marks_at more c) ≡ true) (let z : k + suc c ≡ (k + 1) + c = omega arith in z) (each (suc c) (omega arith)))
-
-pub rise : (marks : List Mark) → AllPairs HasLowerStamp marks → stamps_rise marks ≡ true
+rise : (marks : List Mark) → AllPairs HasLowerStamp marks → stamps_rise marks ≡ true
 rise [] pairs = refl
 rise (m ∷ []) pairs = refl
 rise (m ∷ k ∷ marks) pairs =
     both_true (nat_lt m.stamp k.stamp) (stamps_rise (k ∷ marks)) (true_lt m.stamp k.stamp (pairs 0 1 m (omega arith) (omega arith)))
     (rise (k ∷ marks) (pairs_tail HasLowerStamp m (k ∷ marks) pairs))
+
+rising : (marks : List Mark) → stamps_rise marks ≡ true → RisesBy HasLowerStamp marks
+rising [] e = tt
+rising (m ∷ []) e = (λ k i. absurd i, tt)
+rising (m ∷ k ∷ marks) e =
+    let first : m.stamp < k.stamp = lt_true m.stamp k.stamp (and_left (nat_lt m.stamp k.stamp) (stamps_rise (k ∷ marks)) e) in
+    let later = rising (k ∷ marks) (and_right (nat_lt m.stamp k.stamp) (stamps_rise (k ∷ marks)) e) in (
+      λ n i. elim i [
+        | inl is ↦ subst (λ (x : Mark). m.stamp < x.stamp) is first
+        | inr more ↦ (let up : k.stamp < n.stamp = later.0 n more in omega arith)
+      ],
+      later,
+    )
+
+-- the test of a journal
+pub journal_iff : (stamps : Bool) (batch : Batch) (context : ℕ) (marks : List Mark) → IsTrue (is_journal stamps batch context marks) ↔ IsJournal stamps batch context marks
+journal_iff stamps batch context marks =
+    let own = is_legal batch context (places marks) in
+    let up = not stamps || stamps_rise marks in
+    let iff = legal_iff batch context (places marks) in (
+      λ e. record { legal = iff.0 (and_left own up e); rise = λ is. stamped stamps is (and_right own up e) },
+      λ t. both_true own up (iff.1 t.legal) (risen stamps t.rise),
+    )
+  where
+    stamped : (b : Bool) → b ≡ true → (not b || stamps_rise marks) ≡ true → AllPairs HasLowerStamp marks
+    stamped true is e = pairs_rise HasLowerStamp marks (rising marks e)
+    stamped false is e = absurd (let f : false ≡ true = is in cc)
+
+    risen : (b : Bool) → (b ≡ true → AllPairs HasLowerStamp marks) → (not b || stamps_rise marks) ≡ true
+    risen true pairs = rise marks (pairs refl)
+    risen false pairs = refl
+
+-- ---- the first that is broken
+
+-- those of so many contexts, from the one of this number on
+abbrev AreFrom : Bool → Batch → ℕ → List (List Mark) → ℕ → Type 0
+AreFrom stamps batch k journals n = (c at : ℕ) → c < n → at ≡ k + c → IsJournal stamps batch at (marks_at journals c)
+
+abbrev FirstFrom : Bool → Batch → ℕ → List (List Mark) → Option ℕ → Type 0
+FirstFrom stamps batch k journals None = AreFrom stamps batch k journals (length journals)
+FirstFrom stamps batch k journals (Some at) =
+    (c : ℕ) × (at ≡ k + c) × (c < length journals) × AreFrom stamps batch k journals c × (IsJournal stamps batch at (marks_at journals c) → ⊥)
+
+first_from : (stamps : Bool) (batch : Batch) (k : ℕ) (journals : List (List Mark)) → FirstFrom stamps batch k journals (broken_journal stamps batch k journals)
+first_from stamps batch k [] = λ c at low same. absurd (omega arith)
+first_from stamps batch k (marks ∷ more) = step (is_journal stamps batch k marks) refl (first_from stamps batch (k + 1) more)
+  where
+    and_more : (n : ℕ) → is_journal stamps batch k marks ≡ true → AreFrom stamps batch (k + 1) more n → AreFrom stamps batch k (marks ∷ more) (suc n)
+    and_more n e are zero at low same =
+        subst (λ (j : ℕ). IsJournal stamps batch j marks) (let here : k ≡ at = omega arith in here) ((journal_iff stamps batch k marks).0 e)
+    and_more n e are (suc c) at low same = are c at (omega arith) (omega arith)
+
+    later : (o : Option ℕ) → is_journal stamps batch k marks ≡ true → FirstFrom stamps batch (k + 1) more o → FirstFrom stamps batch k (marks ∷ more) o
+    later None e are = and_more (length more) e are
+    later (Some at) e (c, same, low, are, broken) = (suc c, omega arith, omega arith, and_more c e are, broken)
+
+    step : (b : Bool) → is_journal stamps batch k marks ≡ b → FirstFrom stamps batch (k + 1) more (broken_journal stamps batch (k + 1) more)
+        → FirstFrom stamps batch k (marks ∷ more) (cond b (broken_journal stamps batch (k + 1) more) (Some k))
+    step true e rest = later (broken_journal stamps batch (k + 1) more) e rest
+    step false e rest = (
+      0,
+      omega arith,
+      omega arith,
+      λ c at low same. absurd (omega arith),
+      λ is. absurd (let clash : true ≡ false = sym ((journal_iff stamps batch k marks).1 is) ∙ e in cc),
+    )
+
+module _ (stamps : Bool) (batch : Batch) (journals : List (List Mark)) where
+  -- this context is the first whose journal is broken, or there is none
+  abbrev pub First : Option ℕ → Type 0
+  First None = AreJournals stamps batch journals (length journals)
+  First (Some context) = IsFirstBroken stamps batch journals context
+
+  first : (o : Option ℕ) → FirstFrom stamps batch 0 journals o → First o
+  first None are = λ c low. are c c low (omega arith)
+  first (Some at) (c, same, low, are, broken) =
+      let is : c ≡ at = omega arith in
+      record {
+        there = omega arith;
+        before = λ d few. are d d (omega arith) (omega arith);
+        broken = subst (λ (j : ℕ). IsJournal stamps batch at (marks_at journals j) → ⊥) is broken;
+      }
+
+  only : (o p : Option ℕ) → First o → First p → o ≡ p
+  only None None are also = refl
+  only None (Some c) are broken = absurd (broken.broken (are c broken.there))
+  only (Some c) None broken are = absurd (broken.broken (are c broken.there))
+  only (Some c) (Some d) one two = elim (cases_lt c d) [
+    | inl low ↦ absurd (one.broken (two.before c low))
+    | inr high ↦ elim (cases_lt d c) [
+      | inl low ↦ absurd (two.broken (one.before d low))
+      | inr same ↦ ap Some (let is : c ≡ d = omega arith in is)
+    ]
+  ]
+
+  -- the test of all journals finds it
+  pub first_iff : (o : Option ℕ) → (broken_journal stamps batch 0 journals ≡ o) ↔ First o
+  first_iff o =
+      let found = first (broken_journal stamps batch 0 journals) (first_from stamps batch 0 journals) in
+      (λ is. subst First is found, only (broken_journal stamps batch 0 journals) o found)
 
 -- ---- each journal of legal ones
 
@@ -83,19 +154,10 @@ pub each_legal : (stamps : Bool) (batch : Batch) (journals : List (List Mark)) �
 each_legal true batch journals legal context = legal_alone batch journals context legal
 each_legal false batch journals legal context = legal context
 
-passes : (stamps : Bool) (batch : Batch) (journals : List (List Mark)) → LegalFor stamps batch journals → (context : ℕ) → is_journal stamps batch context (marks_at journals context) ≡ true
-passes true batch journals legal context =
-    both_true (is_legal batch context (places (marks_at journals context))) (stamps_rise (marks_at journals context))
-    ((legal_iff batch context (places (marks_at journals context))).1 (legal_alone batch journals context legal)) (rise (marks_at journals context) (legal.each context).rise)
-passes false batch journals legal context =
-    both_true (is_legal batch context (places (marks_at journals context))) true
-    ((legal_iff batch context (places (marks_at journals context))).1 (legal context)) refl
-
--- legal journals pass
-pub legal_none : (stamps : Bool) (batch : Batch) (journals : List (List Mark)) → LegalFor stamps batch journals → broken_journal stamps batch 0 journals ≡ None
-legal_none stamps batch journals legal =
-    broken_none stamps batch 0 journals
-    (λ c low. subst (λ (j : ℕ). is_journal stamps batch j (marks_at journals c) ≡ true) (let z : c ≡ 0 + c = omega arith in z) (passes stamps batch journals legal c))
+-- and its stamps rise
+pub are_journals : (stamps : Bool) (batch : Batch) (journals : List (List Mark)) → LegalFor stamps batch journals → AreJournals stamps batch journals (length journals)
+are_journals true batch journals legal context low = record { legal = legal_alone batch journals context legal; rise = λ is. (legal.each context).rise }
+are_journals false batch journals legal context low = record { legal = legal context; rise = λ is. absurd (let f : false ≡ true = is in cc) }
 
 pub legal_one : (stamps : Bool) (batch : Batch) (journals : List (List Mark)) → LegalFor stamps batch journals → is_one_history stamps batch journals ≡ true
 legal_one true batch journals legal = (legal_history_iff batch journals).1 legal
@@ -162,7 +224,7 @@ module _ (plan : Plan) (contexts : List (Option ContextView)) (within : IsWithin
   context_asked None (calls.Retire name) i context x is = absurd cc
 
   -- a context that isn't there serves nothing
-  unserved : (context : ℕ) (p : Place) → length contexts ≤ context → IsServed batch context p → ⊥
+  pub unserved : (context : ℕ) (p : Place) → length contexts ≤ context → IsServed batch context p → ⊥
   unserved context p high served = go (slice_get (lane_of batch p.lane) p.call) refl served.1
     where
       go : (o : Option Ask) → slice_get (lane_of batch p.lane) p.call ≡ o → item_in_call o p.item ≡ Some (context, served.0) → ⊥
@@ -189,11 +251,11 @@ module _ (plan : Plan) (contexts : List (Option ContextView)) (within : IsWithin
 
   -- ---- journals that pass are legal
 
-  pub passed_legal : (stamps : Bool) (journals : List (List Mark)) → length contexts ≡ length journals → broken_journal stamps batch 0 journals ≡ None
+  pub passed_legal : (stamps : Bool) (journals : List (List Mark)) → length contexts ≡ length journals → AreJournals stamps batch journals (length journals)
       → is_one_history stamps batch journals ≡ true → LegalFor stamps batch journals
-  passed_legal true journals size none one = (legal_history_iff batch journals).0 one
-  passed_legal false journals size none one = λ context. elim (cases_lt context (length journals)) [
-    | inl low ↦ (legal_iff batch context (places (marks_at journals context))).0 (none_broken false batch 0 journals none context context low (omega arith))
+  passed_legal true journals size are one = (legal_history_iff batch journals).0 one
+  passed_legal false journals size are one = λ context. elim (cases_lt context (length journals)) [
+    | inl low ↦ (are context low).legal
     | inr high ↦ subst (λ (ms : List Mark). Legal batch context (places ms)) (sym (get_or_past journals context [] high)) (nothing_legal context (omega arith))
   ]
 

@@ -1,5 +1,5 @@
 -- A text is legal exactly where it is that of an allowed run.
-use Rattle.std.proofs.Common.{◌≡◌, ℕ, zero, suc, ◌+◌, ◌≤◌, ◌<◌, ◌⊎◌, nat_le, Bool, true, false, cond, List, [], ◌∷◌, ◌++◌, length, map, drop, codes, decimal, Option, Some, None, Result, Ok, Err, refl, sym, ap, ◌∙◌, subst, inl, inr, arith}
+use Rattle.std.proofs.Common.{◌≡◌, ℕ, zero, suc, ◌+◌, ◌≤◌, ◌<◌, ◌⊎◌, nat_le, Bool, true, false, cond, List, [], ◌∷◌, ◌++◌, length, map, drop, codes, decimal, Option, Some, Result, Ok, Err, refl, sym, ap, ◌∙◌, subst, inl, inr, arith}
 use Rattle.std.specs.Prelude.{slice_get, slice_index_or}
 use Rattle.std.specs.List.{All, concat}
 use Rattle.std.proofs.lemmas.List.{length-map}
@@ -24,7 +24,7 @@ use Rattle.batch_plans.specs.declared.replies.ContextReply.{ContextReply}
 use Rattle.batch_plans.specs.ReplyText.{all_lines, numbered, has_stamps, lane_lines, mark_line, journal_lines, version_line}
 use Rattle.batch_plans.specs.Lines.{key_line, context_line}
 use Rattle.due_replies.specs.Asks.{ask_of, batch_of, cipher_at}
-use Rattle.due_replies.specs.Runs.{Run, asks_of, journal_of, guesses_of, IsAllowed, run_text, run_along}
+use Rattle.due_replies.specs.Runs.{Run, asks_of, journal_of, guesses_of, IsAllowed, run_text, run_along, LegalFor}
 use Rattle.due_replies.proofs.Done.{lane_asks}
 use Rattle.result_lines.specs.declared.told.GuessLine.{GuessLine}
 use Rattle.result_lines.specs.Told.{ToldView, told_by}
@@ -35,43 +35,23 @@ use Rattle.result_lines.proofs.Growing.{batches}
 use Rattle.result_lines.proofs.FirstLines.{ok_is}
 use Rattle.result_lines.proofs.Took.{told_took, text_parts}
 use Rattle.result_lines.proofs.Gave.{told_back}
-use Rattle.result_lines.specs.declared.verdicts.Verdict.{Verdict}
 use Rattle.result_lines.specs.declared.verdicts.Verdict.TheVariants as verdicts
 use Rattle.result_lines.specs.Guesses.{wrong_guesses}
-use Rattle.result_lines.specs.Journals.{broken_journal, is_one_history}
 use Rattle.result_lines.specs.OneRun.{PrintTheSame}
 use Rattle.result_lines.specs.Opened.{opened_with, opened}
 use Rattle.result_lines.specs.Replies.{all_replies, wrong_reply}
-use Rattle.result_lines.specs.Verdicts.{run_told, by_guess, by_reply, by_stamps, by_journal, verdict_on, by_form}
+use Rattle.result_lines.specs.Verdicts.{run_told, IsVerdictOn, IsVerdictBy}
 use Rattle.result_lines.proofs.Counting.{journal_few, number_low}
 use Rattle.result_lines.proofs.DueReplies.{due_told, told_due, replies_are_lines}
-use Rattle.result_lines.proofs.LegalJournals.{each_legal, legal_none, legal_one, opening_size, passed_legal, as_printed}
+use Rattle.result_lines.proofs.LegalJournals.{each_legal, opening_size, as_printed}
 use Rattle.result_lines.proofs.RightGuesses.{numbers_told, MayGuess, AllRight, skip_right, next_right, opened_numbers, all_right, none_wrong}
 use Rattle.result_lines.proofs.RunTexts.{length-block, all_kept, own_opened, all_opened, AreCounted, drop_step, run_complete, run_text_is, all_counted}
 use Rattle.result_lines.proofs.SameJournals.{other, replies_same, all_opened_same, guessed_same}
 
--- ---- the parts of a verdict
-
-some_is : (verdict : Verdict) (line : ℕ) → verdicts.Guess line ≡ verdicts.Legal → ⊥
-some_is verdict line e = cc
-
--- a verdict that is legal passed each part
-legal_parts : (journal : Option ℕ) (one : Bool) (reply guess : Option ℕ) → by_journal journal (by_stamps one (by_reply reply (by_guess guess))) ≡ verdicts.Legal
-    → (journal ≡ None) × (one ≡ true) × (reply ≡ None) × (guess ≡ None)
-legal_parts (Some context) one reply guess e = absurd cc
-legal_parts None false reply guess e = absurd cc
-legal_parts None true (Some line) guess e = absurd cc
-legal_parts None true None (Some line) e = absurd cc
-legal_parts None true None None e = (refl, refl, refl, refl)
-
-parts_legal : (journal : Option ℕ) (one : Bool) (reply guess : Option ℕ) → journal ≡ None → one ≡ true → reply ≡ None → guess ≡ None
-    → by_journal journal (by_stamps one (by_reply reply (by_guess guess))) ≡ verdicts.Legal
-parts_legal journal one reply guess a b c d = (λ i. by_journal (a i) (by_stamps (b i) (by_reply (c i) (by_guess (d i)))))
-
-legal_form : (plan : Plan) (contexts : List (Option ContextView)) (read : Result ToldView ℕ) → by_form plan contexts read ≡ verdicts.Legal
-    → (told : ToldView) × (read ≡ Ok told) × (verdict_on plan contexts told ≡ verdicts.Legal)
-legal_form plan contexts (Ok told) e = (told, refl, e)
-legal_form plan contexts (Err line) e = absurd cc
+legal_form : (plan : Plan) (contexts : List (Option ContextView)) (read : Result ToldView ℕ) → IsVerdictBy plan contexts read verdicts.Legal
+    → (told : ToldView) × (read ≡ Ok told) × IsVerdictOn (run_told plan contexts told) (has_stamps plan.version) told verdicts.Legal
+legal_form plan contexts (Ok told) legal = (told, refl, legal)
+legal_form plan contexts (Err line) legal = absurd cc
 
 -- ---- guesses, as they are kept and as they are tested
 
@@ -229,23 +209,20 @@ opened_guesses run counted k (calls ∷ lanes) (own ∷ guesses) lanes_are guess
     opened_numbers run k 0 (map (ask_of run.plan run.contexts) calls) (guesses_of run k) (counted k low ∙ ap guess_count asks) ∙ own_is in
     (λ i. here i ∷ opened_guesses run counted (k + 1) lanes guesses s.1 g.1 (omega arith) i)
 
-module _ (plan : Plan) (keys : List KeyReply) (replies : List ContextReply) (contexts : List (Option ContextView)) (text : List ℕ) (within : IsWithinLimits plan)
-    (standing : length contexts ≡ length plan.contexts) where
+module _ (plan : Plan) (keys : List KeyReply) (replies : List ContextReply) (contexts : List (Option ContextView)) (text : List ℕ) (within : IsWithinLimits plan) where
   abbrev Replies : Type 0
   Replies = (journals : List (List Mark)) × (guesses : List (List ℕ)) × IsAllowed (run_along plan contexts journals guesses)
       × (text ≡ run_text keys replies (run_along plan contexts journals guesses))
 
-  pub sound : by_form plan contexts (told_by plan keys replies contexts text) ≡ verdicts.Legal → Replies
-  sound e =
-      let form = legal_form plan contexts (told_by plan keys replies contexts text) e in
+  pub sound : IsVerdictBy plan contexts (told_by plan keys replies contexts text) verdicts.Legal → Replies
+  sound is =
+      let form = legal_form plan contexts (told_by plan keys replies contexts text) is in
       let told : ToldView = form.0 in
       let run = run_told plan contexts told in
       let stamps = has_stamps plan.version in
       let of = told_took plan keys replies contexts text told form.1 in
-      let parts = legal_parts (broken_journal stamps (asks_of run) 0 told.journals) (is_one_history stamps (asks_of run) told.journals) (wrong_reply told.replies (all_replies run))
-      (wrong_guesses run 0 told.lanes) form.2 in
-      let journals_size : length told.journals ≡ length plan.contexts = of.complete.size in
-      let legal = passed_legal plan contexts within stamps told.journals (standing ∙ sym journals_size) parts.0 parts.1 in
+      let parts = form.2 in
+      let legal = parts.0 in
       let each = each_legal stamps (asks_of run) told.journals legal in
       let sizes : map (length {A = GuessLine}) told.lanes ≡ map (λ (calls : List CallLine). guess_count (map (ask_of plan contexts) calls)) plan.lanes =
       sym (sizes_of told.lanes) ∙ of.complete.kept ∙ sym (kept_of plan contexts plan.lanes) in
@@ -253,13 +230,13 @@ module _ (plan : Plan) (keys : List KeyReply) (replies : List ContextReply) (con
       let calls = got plan.lanes lane low in
       index_sizes (λ (cs : List CallLine). guess_count (map (ask_of plan contexts) cs)) told.lanes plan.lanes sizes lane calls.0 calls.1
       ∙ ap guess_count (sym (asks_at run within each lane calls.0 calls.1))) in
-      let right = all_right run told.lanes refl sizes parts.3 in
+      let right = all_right run told.lanes refl sizes parts.2 in
       let lines : lines_told told ≡ all_replies run =
-      due_told told.replies (all_replies run) (sym (length-map told.replies _) ∙ of.complete.count ∙ sym (all_counted run within counted)) parts.2 in (
+      due_told told.replies (all_replies run) (sym (length-map told.replies _) ∙ of.complete.count ∙ sym (all_counted run within counted)) parts.1 in (
         told.journals,
         run.guesses,
         record {
-          journals = journals_size;
+          journals = of.complete.size;
           lanes = length-map told.lanes numbers_told ∙ sym (length-map told.lanes (length {A = GuessLine})) ∙ ap length sizes ∙ length-map plan.lanes _;
           legal = legal;
           guessed = λ lane low.
@@ -291,7 +268,7 @@ module _ (plan : Plan) (keys : List KeyReply) (replies : List ContextReply) (con
     numbers : map numbers_told told.lanes ≡ guesses
     places_are : (context : ℕ) → places (marks_at told.journals context) ≡ places (marks_at journals context)
     stamps_are : has_stamps plan.version ≡ true → told.journals ≡ journals
-    legal : verdict_on plan contexts told ≡ verdicts.Legal
+    legal : IsVerdictOn (run_told plan contexts told) (has_stamps plan.version) told verdicts.Legal
 
   back : (journals : List (List Mark)) (guesses : List (List ℕ)) → IsAllowed (run_along plan contexts journals guesses)
       → text ≡ run_text keys replies (run_along plan contexts journals guesses) → Back journals guesses
@@ -325,19 +302,17 @@ module _ (plan : Plan) (keys : List KeyReply) (replies : List ContextReply) (con
           | inl same ↦ same
           | inr bare ↦ absurd (let clash : true ≡ false = sym stamped ∙ bare.0 in cc)
         ];
-        legal =
-            parts_legal (broken_journal stamps batch 0 told.journals) (is_one_history stamps batch told.journals) (wrong_reply told.replies (all_replies (run_told plan contexts told)))
-            (wrong_guesses (run_told plan contexts told) 0 told.lanes)
-            (ap (broken_journal stamps batch 0) again.journals_are ∙ legal_none stamps batch p.own p.legal)
-            (ap (is_one_history stamps batch) again.journals_are ∙ legal_one stamps batch p.own p.legal)
-            (ap (λ (r : Run). wrong_reply told.replies (all_replies r)) run_is ∙ told_due told.replies (all_replies run) again.lines_are)
-            (ap (λ (r : Run). wrong_guesses r 0 told.lanes) run_is ∙ none_wrong run 0 plan.lanes told.lanes refl again.guesses_are counted right);
+        legal = (
+          subst (LegalFor stamps batch) (sym again.journals_are) p.legal,
+          ap (λ (r : Run). wrong_reply told.replies (all_replies r)) run_is ∙ told_due told.replies (all_replies run) again.lines_are,
+          ap (λ (r : Run). wrong_guesses r 0 told.lanes) run_is ∙ none_wrong run 0 plan.lanes told.lanes refl again.guesses_are counted right,
+        );
       }
 
-  pub complete : Replies → by_form plan contexts (told_by plan keys replies contexts text) ≡ verdicts.Legal
+  pub complete : Replies → IsVerdictBy plan contexts (told_by plan keys replies contexts text) verdicts.Legal
   complete (journals, guesses, allowed, is) =
       let b = back journals guesses allowed is in
-      ap (by_form plan contexts) b.read ∙ b.legal
+      subst (λ (read : Result ToldView ℕ). IsVerdictBy plan contexts read verdicts.Legal) (sym b.read) b.legal
 
   -- ---- a text is that of one run
 

@@ -23,7 +23,9 @@ pub mod Counting
 pub mod SameJournals
 pub mod LegalJournals
 pub mod LegalTexts
+pub mod FirstWrong
 pub mod LookedLimits
 pub mod LiveLines
 pub mod LiveLegal
 pub mod LiveTexts
+pub mod FirstWrongLive

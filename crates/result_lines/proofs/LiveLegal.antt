@@ -37,7 +37,9 @@ use Rattle.due_replies.specs.Live.{Noting, noting, noting_in, IsNoted, looked_up
 use Rattle.due_replies.specs.LiveChecks.{note_ask, pairs, asks_with_notes, note_mark, call_mark, with_table, tells_act, tells_live_at, is_live_history}
 use Rattle.due_replies.specs.Standing.{call_refusal}
 use Rattle.due_replies.specs.Runs.{asks_of}
+use Rattle.due_replies.proofs.LiveParts.{parts_of}
 use Rattle.due_replies.proofs.LiveChecked.{live_history_iff}
+use Rattle.due_replies.proofs.OneLiveHistory.{at_table}
 use Rattle.due_replies.proofs.LookedUp.{calls_looked}
 use Rattle.result_lines.specs.PrintedLive.{note_told, IsNoteWithin}
 use Rattle.result_lines.specs.Printed.{IsPlaceWithin}
@@ -106,7 +108,7 @@ live_alone batch journals notes context t =
             | inr e ↦ absurd (here.once i j d low few (p ∙ e ∙ sym q))
             | inl o ↦ elim o [
               | inl b ↦ b
-              | inr b ↦ absurd (let f : k.0.stamp < m.0.stamp = t.in_order context context k.0 m.0 (contains_at ms j k.0 k.1) (contains_at ms i m.0 m.1) (sym same) b in omega arith)
+              | inr b ↦ absurd (let f : k.0.stamp < m.0.stamp = (parts_of batch journals notes t).in_order context context k.0 m.0 (contains_at ms j k.0 k.1) (contains_at ms i m.0 m.1) (sym same) b in omega arith)
             ]
           ] in
           subst (λ x. IsBefore x (slice_index_or (places ms) j d)) (sym p) (subst (IsBefore m.0.place) (sym q) before);
@@ -243,10 +245,6 @@ module _ (live : LiveRun) (within : IsWithinLimits live.plan) where
   journal_at (own ∷ js) rest zero m here = in_map call_mark m own here
   journal_at (own ∷ js) rest (suc c) m here = journal_at js rest c m here
 
-  table_at : (js : List (List Mark)) (marks : List Mark) → marks_at (map (map call_mark) js ++ (marks ∷ [])) (length js) ≡ marks
-  table_at [] marks = refl
-  table_at (own ∷ js) marks = table_at js marks
-
   all_marks : (P : Mark → Type 0) (marks : List Mark) → ((m : Mark) → In m marks → P m) → All P marks
   all_marks P [] each = All-nil P
   all_marks P (m ∷ marks) each = All-cons P m marks (each m (inl refl)) (all_marks P marks (λ k here. each k (inr here)))
@@ -307,7 +305,7 @@ module _ (live : LiveRun) (within : IsWithinLimits live.plan) where
           lane = low.0;
           call = low.1;
           stamp = stamp_few (one_list legal history) table (note_mark e)
-              (subst (In (note_mark e)) (sym (table_at live.journals (map note_mark live.notes))) (in_map note_mark e live.notes here));
+              (subst (In (note_mark e)) (sym (at_table live.journals live.notes)) (in_map note_mark e live.notes here));
           own = note_own e noted.0 noted.1 (legal.acts e noted.0 (contains_in live.notes e here) noted.1);
         })
       where

@@ -1,33 +1,23 @@
 -- A text is legal, as a result whose lanes add and retire contexts, exactly where it is that of an
 -- allowed run.
-use Rattle.std.proofs.Common.{◌≡◌, ◌&&◌, ℕ, ◌+◌, ◌<◌, Bool, true, false, List, [], ◌∷◌, ◌++◌, length, map, Option, Some, None, Result, Ok, Err, refl, sym, ap, ◌∙◌, subst, arith}
-use Rattle.std.specs.Prelude.{slice_get}
-use Rattle.std.specs.List.{list_all, range_with_len}
+use Rattle.std.proofs.Common.{◌≡◌, ℕ, ◌<◌, List, length, map, Option, Result, Ok, Err, refl, sym, ap, ◌∙◌, subst, arith}
 use Rattle.std.proofs.lemmas.List.{length-map}
 use Rattle.call_places.specs.declared.entries.Entry.{Entry}
 use Rattle.call_places.specs.declared.entries.Mark.{Mark}
 use Rattle.hpke_context.specs.Contexts.{ContextView}
 use Rattle.context_books.specs.Batches.{lane_of}
-use Rattle.context_books.specs.Checks.{is_legal, is_legal_history}
 use Rattle.context_books.specs.Guesses.{guess_count}
-use Rattle.context_books.specs.Histories.{marks_at, places}
 use Rattle.context_books.specs.Legal.{Legal}
-use Rattle.context_books.proofs.Checking.{legal_iff}
-use Rattle.context_books.proofs.Marks.{legal_alone}
 use Rattle.context_books.proofs.Members.{got}
-use Rattle.context_books.proofs.Truths.{and_left, and_right, both_true}
 use Rattle.batch_plans.specs.Limits.{IsWithinLimits}
-use Rattle.batch_plans.specs.Names.{line_count}
 use Rattle.batch_plans.specs.declared.plan.Plan.{Plan}
 use Rattle.batch_plans.specs.declared.plan.CallLine.{CallLine}
 use Rattle.batch_plans.specs.declared.replies.Batch.{Batch}
 use Rattle.batch_plans.specs.declared.replies.KeyReply.{KeyReply}
 use Rattle.batch_plans.specs.declared.replies.ContextReply.{ContextReply}
 use Rattle.due_replies.specs.Asks.{ask_of}
-use Rattle.due_replies.specs.Live.{LiveRun, run_of, LegalTable, LiveHistory, IsAllowedLive, live_run_text, live_run_along}
-use Rattle.due_replies.specs.LiveChecks.{asks_with_notes, with_table, note_mark, call_mark, tells_act, tells_live_at, is_live_history}
+use Rattle.due_replies.specs.Live.{LiveRun, run_of, LiveHistory, IsAllowedLive, live_run_text, live_run_along}
 use Rattle.due_replies.specs.Runs.{asks_of, journal_of, guesses_of}
-use Rattle.due_replies.proofs.LiveChecked.{live_history_iff}
 use Rattle.result_lines.specs.declared.told.GuessLine.{GuessLine}
 use Rattle.result_lines.specs.Printed.{lines_told}
 use Rattle.result_lines.specs.PrintedLive.{told_live_text}
@@ -38,89 +28,24 @@ use Rattle.result_lines.proofs.BackLive.{live_back}
 use Rattle.result_lines.proofs.FirstLines.{ok_is}
 use Rattle.result_lines.proofs.TookLive.{told_live_took}
 use Rattle.result_lines.specs.declared.verdicts.Verdict.TheVariants as verdicts
-use Rattle.result_lines.specs.Guesses.{wrong_guesses}
-use Rattle.result_lines.specs.Journals.{broken_journal, stamps_rise}
-use Rattle.result_lines.specs.LiveVerdicts.{live_told, is_table, live_replies, by_live_journal, by_table, live_verdict_on, live_by_form}
+use Rattle.result_lines.specs.LiveVerdicts.{live_told, live_replies, IsLiveVerdictOn, IsLiveVerdictBy}
 use Rattle.result_lines.specs.OneRun.{AreOneLiveRun}
-use Rattle.result_lines.specs.Replies.{wrong_reply}
-use Rattle.result_lines.specs.Verdicts.{by_stamps, by_reply, by_guess}
 use Rattle.result_lines.proofs.DueReplies.{due_told, told_due}
-use Rattle.result_lines.proofs.LegalJournals.{broken_none, rise}
 use Rattle.result_lines.proofs.LegalTexts.{guessed_of, right_of, guesses_fit, asks_at, index_sizes, sizes_of, kept_of, numbers_of, opened_guesses}
-use Rattle.result_lines.proofs.LiveLegal.{live_alone, one_list, live_marks_fit, live_notes_fit}
+use Rattle.result_lines.proofs.LiveLegal.{live_alone, live_marks_fit, live_notes_fit}
 use Rattle.result_lines.proofs.LiveLines.{live_count, live_complete, live_text_is, live_replies_are_lines}
 use Rattle.result_lines.proofs.LookedLimits.{looked_within, looked_lanes}
 use Rattle.result_lines.proofs.RightGuesses.{numbers_told, AllRight, all_right, none_wrong}
 use Rattle.result_lines.proofs.RunTexts.{all_opened, AreCounted}
 
--- ---- the parts of a verdict
-
-live_parts : (lines : ℕ) (journal : Option ℕ) (table one : Bool) (reply guess : Option ℕ) → by_live_journal lines journal (by_table table (by_stamps one (by_reply reply (by_guess guess)))) ≡ verdicts.Legal
-    → (journal ≡ None) × (table ≡ true) × (one ≡ true) × (reply ≡ None) × (guess ≡ None)
-live_parts lines (Some at) table one reply guess e = absurd cc
-live_parts lines None false one reply guess e = absurd cc
-live_parts lines None true false reply guess e = absurd cc
-live_parts lines None true true (Some line) guess e = absurd cc
-live_parts lines None true true None (Some line) e = absurd cc
-live_parts lines None true true None None e = (refl, refl, refl, refl, refl)
-
-parts_legal : (lines : ℕ) (journal : Option ℕ) (table one : Bool) (reply guess : Option ℕ) → journal ≡ None → table ≡ true → one ≡ true → reply ≡ None → guess ≡ None
-    → by_live_journal lines journal (by_table table (by_stamps one (by_reply reply (by_guess guess)))) ≡ verdicts.Legal
-parts_legal lines journal table one reply guess a b c d e = (λ i. by_live_journal lines (a i) (by_table (b i) (by_stamps (c i) (by_reply (d i) (by_guess (e i))))))
-
 legal_form : (plan : Plan) (replies : List ContextReply) (standing : List (Option ContextView)) (notes : List Entry) (read : Result ToldView ℕ)
-    → live_by_form plan replies standing notes read ≡ verdicts.Legal
-    → (told : ToldView) × (read ≡ Ok told) × (live_verdict_on (live_told plan replies standing notes told) told ≡ verdicts.Legal)
-legal_form plan replies standing notes (Ok told) e = (told, refl, e)
-legal_form plan replies standing notes (Err line) e = absurd cc
+    → IsLiveVerdictBy plan replies standing notes read verdicts.Legal
+    → (told : ToldView) × (read ≡ Ok told) × IsLiveVerdictOn (live_told plan replies standing notes told) told verdicts.Legal
+legal_form plan replies standing notes (Ok told) legal = (told, refl, legal)
+legal_form plan replies standing notes (Err line) legal = absurd cc
 
--- ---- tables and journals that pass
-
-module _ (live : LiveRun) (within : IsWithinLimits live.plan) (legal : LegalTable live.plan live.standing live.notes) (history : LiveHistory (asks_of (run_of live)) live.journals live.notes) where
-  abbrev acts : Bool
-  acts = list_all (tells_act live.plan live.standing) live.notes
-
-  abbrev lives : Bool
-  lives = list_all (λ i. tells_live_at live.notes i (slice_get live.notes i)) (range_with_len 0 (length live.notes))
-
-  abbrev one : Bool
-  one = is_legal_history (asks_with_notes live) (with_table live)
-
-  pub live_passes : is_live_history live ≡ true
-  live_passes = (live_history_iff live).1 (legal, history)
-
-  table_at : (js : List (List Mark)) (marks : List Mark) → marks_at (map (map call_mark) js ++ (marks ∷ [])) (length js) ≡ marks
-  table_at [] marks = refl
-  table_at (own ∷ js) marks = table_at js marks
-
-  pub table_passes : is_table live ≡ true
-  table_passes =
-      let t = one_list live within legal history in
-      let at : marks_at (with_table live) (length live.journals) ≡ map note_mark live.notes = table_at live.journals (map note_mark live.notes) in
-      let marks = marks_at (with_table live) (length live.journals) in
-      let good : (is_legal (asks_with_notes live) (length live.journals) (places marks) && stamps_rise marks) ≡ true =
-      both_true (is_legal (asks_with_notes live) (length live.journals) (places marks)) (stamps_rise marks)
-      ((legal_iff (asks_with_notes live) (length live.journals) (places marks)).1 (legal_alone (asks_with_notes live) (with_table live) (length live.journals) t))
-      (rise marks (t.each (length live.journals)).rise) in
-      let journal : (is_legal (asks_with_notes live) (length live.journals) (places (map note_mark live.notes)) && stamps_rise (map note_mark live.notes)) ≡ true =
-      subst (λ (ms : List Mark). (is_legal (asks_with_notes live) (length live.journals) (places ms) && stamps_rise ms) ≡ true) at good in
-      both_true ((is_legal (asks_with_notes live) (length live.journals) (places (map note_mark live.notes)) && stamps_rise (map note_mark live.notes)) && acts) lives
-      (both_true (is_legal (asks_with_notes live) (length live.journals) (places (map note_mark live.notes)) && stamps_rise (map note_mark live.notes)) acts journal
-      (and_right one acts (and_left (one && acts) lives live_passes)))
-      (and_right (one && acts) lives live_passes)
-
-  pub each_legal : (context : ℕ) → Legal (asks_of (run_of live)) context (journal_of (run_of live) context)
-  each_legal context = live_alone (asks_of (run_of live)) live.journals live.notes context history
-
-  pub none_broken : broken_journal true (asks_of (run_of live)) 0 live.journals ≡ None
-  none_broken =
-      broken_none true (asks_of (run_of live)) 0 live.journals
-      (λ c low.
-      let marks = marks_at live.journals c in
-      let z : c ≡ 0 + c = omega arith in
-      subst (λ (k : ℕ). (is_legal (asks_of (run_of live)) k (places marks) && stamps_rise marks) ≡ true) z
-      (both_true (is_legal (asks_of (run_of live)) c (places marks)) (stamps_rise marks)
-      ((legal_iff (asks_of (run_of live)) c (places marks)).1 (each_legal c)) (rise marks (history.each c).rise)))
+pub each_legal : (live : LiveRun) → LiveHistory (asks_of (run_of live)) live.journals live.notes → (context : ℕ) → Legal (asks_of (run_of live)) context (journal_of (run_of live) context)
+each_legal live history context = live_alone (asks_of (run_of live)) live.journals live.notes context history
 
 -- ---- texts
 
@@ -135,37 +60,36 @@ module _ (plan : Plan) (keys : List KeyReply) (replies : List ContextReply) (sta
   abbrev notes_of : List Entry
   notes_of = table_told plan standing text
 
-  pub live_sound : live_by_form plan replies standing notes_of (told_live_by plan keys replies standing notes_of text) ≡ verdicts.Legal → Replies
-  live_sound e =
+  pub live_sound : IsLiveVerdictBy plan replies standing notes_of (told_live_by plan keys replies standing notes_of text) verdicts.Legal → Replies
+  live_sound is =
       let notes = notes_of in
-      let form = legal_form plan replies standing notes (told_live_by plan keys replies standing notes text) e in
+      let form = legal_form plan replies standing notes (told_live_by plan keys replies standing notes text) is in
       let told : ToldView = form.0 in
       let live = live_told plan replies standing notes told in
       let run = run_of live in
       let of = told_live_took plan keys replies standing notes text told form.1 in
-      let parts = live_parts (line_count plan) (broken_journal true (asks_of run) 0 told.journals) (is_table live) (is_live_history live) (wrong_reply told.replies (live_replies live))
-      (wrong_guesses run 0 told.lanes) form.2 in
-      let both = (live_history_iff live).0 parts.2 in
+      let parts = form.2 in
+      let legal = parts.0 in
       let fits = looked_within plan notes within in
       let lanes : length run.plan.lanes ≡ length plan.lanes = looked_lanes plan notes within in
-      let each = each_legal live within both.0 both.1 in
+      let each = each_legal live legal.history in
       let sizes : map (length {A = GuessLine}) told.lanes ≡ map (λ (calls : List CallLine). guess_count (map (ask_of run.plan standing) calls)) run.plan.lanes =
       sym (sizes_of told.lanes) ∙ of.complete.kept ∙ sym (kept_of run.plan standing run.plan.lanes) in
       let counted : AreCounted run = (λ lane low.
       let calls = got run.plan.lanes lane low in
       index_sizes (λ (cs : List CallLine). guess_count (map (ask_of run.plan standing) cs)) told.lanes run.plan.lanes sizes lane calls.0 calls.1
       ∙ ap guess_count (sym (asks_at run fits each lane calls.0 calls.1))) in
-      let right = all_right run told.lanes refl sizes parts.4 in
+      let right = all_right run told.lanes refl sizes parts.2 in
       let lines : lines_told told ≡ live_replies live =
-      due_told told.replies (live_replies live) (sym (length-map told.replies _) ∙ of.complete.count ∙ sym (live_count live within)) parts.3 in (
+      due_told told.replies (live_replies live) (sym (length-map told.replies _) ∙ of.complete.count ∙ sym (live_count live within)) parts.1 in (
         told.journals,
         live.guesses,
         notes,
         record {
           journals = of.complete.size;
           lanes = length-map told.lanes numbers_told ∙ sym (length-map told.lanes (length {A = GuessLine})) ∙ ap length sizes ∙ length-map run.plan.lanes _ ∙ lanes;
-          table = both.0;
-          history = both.1;
+          table = legal.table;
+          history = legal.history;
           guessed = λ lane low.
               let less : lane < length run.plan.lanes = omega arith in
               let calls = got run.plan.lanes lane less in
@@ -181,7 +105,7 @@ module _ (plan : Plan) (keys : List KeyReply) (replies : List ContextReply) (sta
     read : told_live_by plan keys replies standing notes text ≡ Ok told
     numbers : map numbers_told told.lanes ≡ guesses
     marks : told.journals ≡ journals
-    legal : live_verdict_on (live_told plan replies standing notes told) told ≡ verdicts.Legal
+    legal : IsLiveVerdictOn (live_told plan replies standing notes told) told verdicts.Legal
 
   back : (journals : List (List Mark)) (guesses : List (List ℕ)) (notes : List Entry) → IsAllowedLive (live_at journals guesses notes)
       → text ≡ live_run_text keys (live_at journals guesses notes) → Back journals guesses notes
@@ -190,7 +114,7 @@ module _ (plan : Plan) (keys : List KeyReply) (replies : List ContextReply) (sta
       let run = run_of live in
       let fits = looked_within plan notes within in
       let lanes : length run.plan.lanes ≡ length plan.lanes = looked_lanes plan notes within in
-      let each = each_legal live within allowed.table allowed.history in
+      let each = each_legal live allowed.history in
       let counted : AreCounted run = (λ lane low. (allowed.guessed lane (omega arith)).count) in
       let right : (lane : ℕ) → lane < length run.plan.lanes → AllRight run lane 0 (lane_of (asks_of run) lane) (guesses_of run lane) =
       (λ lane low. right_of run fits each lane (allowed.guessed lane (omega arith))) in
@@ -208,22 +132,18 @@ module _ (plan : Plan) (keys : List KeyReply) (replies : List ContextReply) (sta
         read = ap (told_live_by plan keys replies standing notes) text_is ∙ again.is;
         numbers = guesses_are;
         marks = again.journals_are;
-        legal =
-            ap (λ (l : LiveRun). live_verdict_on l told) live_is
-            ∙ parts_legal (line_count plan) (broken_journal true (asks_of run) 0 journals) (is_table live) (is_live_history live) (wrong_reply told.replies (live_replies live))
-            (wrong_guesses run 0 told.lanes)
-            (none_broken live within allowed.table allowed.history)
-            (table_passes live within allowed.table allowed.history)
-            (live_passes live within allowed.table allowed.history)
-            (told_due told.replies (live_replies live) again.lines_are)
-            (none_wrong run 0 run.plan.lanes told.lanes refl again.guesses_are counted right);
+        legal = subst (λ (l : LiveRun). IsLiveVerdictOn l told verdicts.Legal) (sym live_is) (
+          record { table = allowed.table; history = allowed.history },
+          told_due told.replies (live_replies live) again.lines_are,
+          none_wrong run 0 run.plan.lanes told.lanes refl again.guesses_are counted right,
+        );
       }
 
-  pub live_complete_texts : Replies → live_by_form plan replies standing notes_of (told_live_by plan keys replies standing notes_of text) ≡ verdicts.Legal
+  pub live_complete_texts : Replies → IsLiveVerdictBy plan replies standing notes_of (told_live_by plan keys replies standing notes_of text) verdicts.Legal
   live_complete_texts (journals, guesses, notes, allowed, is) =
       let b = back journals guesses notes allowed is in
-      ap (λ (ns : List Entry). live_by_form plan replies standing ns (told_live_by plan keys replies standing ns text)) b.table
-      ∙ ap (live_by_form plan replies standing notes) b.read ∙ b.legal
+      subst (λ (ns : List Entry). IsLiveVerdictBy plan replies standing ns (told_live_by plan keys replies standing ns text) verdicts.Legal) (sym b.table)
+      (subst (λ (read : Result ToldView ℕ). IsLiveVerdictBy plan replies standing notes read verdicts.Legal) (sym b.read) b.legal)
 
   -- ---- a text is that of one run
 

@@ -2,16 +2,15 @@
 use Rattle.std.proofs.Common.{◌≡◌, ℕ, ◌+◌, List, [], ◌∷◌, length, map, refl, sym, ap, subst}
 use Rattle.call_places.specs.declared.entries.Place.{Place}
 use Rattle.call_places.specs.declared.entries.Mark.{Mark}
-use Rattle.context_books.specs.Batches.{Ask, Nothing, ToSeal, ToOpen, ToOpenAll, block, place}
+use Rattle.context_books.specs.Batches.{Ask, Nothing, ToSeal, ToOpen, ToOpenAll}
 use Rattle.context_books.specs.Guesses.{AllGuessed, missed_in}
 use Rattle.context_books.specs.Histories.{marks_at, places}
 use Rattle.context_books.specs.Legal.{reply_of}
 use Rattle.batch_plans.specs.declared.plan.CallLine.{CallLine}
-use Rattle.batch_plans.specs.declared.plan.CallLine.TheVariants as calls
 use Rattle.batch_plans.specs.ReplyText.{all_lines, numbered}
 use Rattle.due_replies.specs.Standing.{call_refusal}
 use Rattle.due_replies.specs.Asks.{ask_of, cipher_at}
-use Rattle.due_replies.specs.Runs.{Run, asks_of, journal_of, guesses_of, answer_line_of, place_line, lines_unless, item_lines}
+use Rattle.due_replies.specs.Runs.{Run, run_along, asks_of, journal_of, guesses_of, answer_line_of, place_line, lines_of_items, item_lines, lines_unless}
 use Rattle.result_lines.specs.Opened.{opened}
 use Rattle.result_lines.specs.Replies.{reply_lines, all_replies}
 use Rattle.result_lines.proofs.RunTexts.{all_opened}
@@ -19,18 +18,13 @@ use Rattle.result_lines.proofs.RunTexts.{all_opened}
 module _ (run : Run) (journals : List (List Mark)) (same : (context : ℕ) → places (marks_at journals context) ≡ journal_of run context) where
   -- the same run along other journals with the same places
   abbrev pub other : Run
-  other = record { plan = run.plan; contexts = run.contexts; journals = journals; guesses = run.guesses }
+  other = run_along run.plan run.contexts journals run.guesses
 
   place_same : (context : ℕ) (p : Place) → place_line other context p ≡ place_line run context p
   place_same context p = ap (λ (ps : List Place). answer_line_of (reply_of (asks_of run) (cipher_at run.contexts context) ps p)) (same context)
 
   items_same : (lane number : ℕ) (call : CallLine) → item_lines other lane number call ≡ item_lines run lane number call
-  items_same lane number (calls.Seal context item) = ap (λ (l : List ℕ). l ∷ []) (place_same context (place lane number 0))
-  items_same lane number (calls.Unseal context item) = ap (λ (l : List ℕ). l ∷ []) (place_same context (place lane number 0))
-  items_same lane number (calls.UnsealAll context first count) = (λ i. map (λ (p : Place). place_same context p i) (block lane number 0 count))
-  items_same lane number (calls.Export context exporter size) = refl
-  items_same lane number (calls.Add name) = refl
-  items_same lane number (calls.Retire name) = refl
+  items_same lane number call = (λ i. lines_of_items (λ (context : ℕ) (p : Place). place_same context p i) run.plan run.contexts lane number call)
 
   reply_same : (lane number : ℕ) (call : CallLine) → reply_lines other lane number call ≡ reply_lines run lane number call
   reply_same lane number call = ap (lines_unless (call_refusal run.contexts call)) (items_same lane number call)

@@ -1,8 +1,7 @@
 -- Which guesses a result may tell.
-use Rattle.std.specs.Prelude.{ℕ, ◌+◌, ◌==◌, ◌&&◌, Bool, List, [], ◌∷◌, length, Option, Some, None, if◌then◌else◌}
+use Rattle.std.specs.Prelude.{ℕ, ◌+◌, ◌==◌, ◌&&◌, nat_le, Bool, List, [], ◌∷◌, length, Option, Some, None, if◌then◌else◌}
 use Rattle.context_books.specs.Batches.{Ask, Nothing, ToSeal, ToOpen, ToOpenAll, lane_of}
-use Rattle.context_books.specs.Guesses.{missed_in}
-use Rattle.context_books.specs.Checks.{is_guessed}
+use Rattle.context_books.specs.Guesses.{least_guess, greatest_guess, missed_in}
 use Rattle.batch_plans.specs.declared.replies.Batch.{Batch}
 use Rattle.due_replies.specs.Asks.{cipher_at}
 use Rattle.due_replies.specs.Runs.{Run, asks_of, journal_of}
@@ -11,11 +10,10 @@ use Rattle.result_lines.specs.declared.told.GuessLine.{GuessLine}
 -- the guess of an opening of so many messages may have been made, and it missed so many of them
 abbrev pub is_right : Run → ℕ → ℕ → ℕ → ℕ → Batch → Bool
 is_right run context lane number n told =
-    is_guessed (asks_of run) (cipher_at run.contexts context) (journal_of run context) lane number
-    told.guess
-    && (told.missed
-    == missed_in (asks_of run) (cipher_at run.contexts context) (journal_of run context) lane number
-    n told.guess)
+    let c = cipher_at run.contexts context in
+    nat_le (least_guess (asks_of run) c (journal_of run context) lane number) told.guess
+    && nat_le told.guess (greatest_guess (asks_of run) c (journal_of run context) lane number)
+    && (told.missed == missed_in (asks_of run) c (journal_of run context) lane number n told.guess)
 
 -- the line of the first guess that isn't right of these calls of a lane, from this number on
 abbrev pub wrong_guess : Run → ℕ → ℕ → List Ask → List GuessLine → Option ℕ

@@ -1,4 +1,4 @@
--- Which journals a result may tell.
+-- Tests of the journals that a result tells, which compute.
 use Rattle.std.specs.Prelude.{ℕ, ◌+◌, ◌&&◌, ◌||◌, not, nat_lt, Bool, true, List, [], ◌∷◌, Option, Some, None, if◌then◌else◌}
 use Rattle.call_places.specs.declared.entries.Mark.{Mark}
 use Rattle.context_books.specs.Batches.{Batch}

@@ -10,6 +10,7 @@ pub mod Replies
 pub mod Guesses
 pub mod Verdicts
 pub mod LiveVerdicts
+pub mod Computed
 pub mod OneRun
 pub mod VerdictText
 pub mod Opened

@@ -1,12 +1,9 @@
 -- The replies that are due along the journals of a run, without what openings guessed.
-use Rattle.std.specs.Prelude.{ℕ, List, [], ◌∷◌, map, Option, Some, None, if◌then◌else◌}
+use Rattle.std.specs.Prelude.{ℕ, List, [], ◌∷◌, Option, Some, None, if◌then◌else◌}
 use Rattle.std.specs.Str.{bytes_eq}
-use Rattle.call_places.specs.Spans.{span_bytes}
-use Rattle.context_books.specs.Batches.{block, place}
 use Rattle.batch_plans.specs.declared.plan.CallLine.{CallLine}
-use Rattle.batch_plans.specs.declared.plan.CallLine.TheVariants as calls
 use Rattle.batch_plans.specs.ReplyText.{all_lines, numbered}
-use Rattle.due_replies.specs.Standing.{standing_at, call_refusal}
+use Rattle.due_replies.specs.Standing.{call_refusal}
 use Rattle.due_replies.specs.Runs.{Run, item_lines, lines_unless}
 use Rattle.result_lines.specs.Places.{with_feed}
 use Rattle.result_lines.specs.Told.{ReplyView}

@@ -12,13 +12,14 @@
 //! A contract sees a text as the lines that are left of it. Of a journal the lines are tested and no
 //! place is kept: [`JournalLines`] reads its first places again, so many as its reader wants.
 //!
-//! `verdict_on` of `specs/Verdicts.antt` is the verdict: the first thing that is wrong with the
+//! `IsVerdictOn` of `specs/Verdicts.antt` is the verdict: the first thing that is wrong with the
 //! journals, their stamps, the replies and the guesses. The law
 //! [`legal_texts_are_those_of_allowed_runs`] says what it is worth: a text is legal if it is the text of
-//! some allowed journals and guesses, and only then. `live_verdict_on` of `specs/LiveVerdicts.antt` is
+//! some allowed journals and guesses, and only then. `IsLiveVerdictOn` of `specs/LiveVerdicts.antt` is
 //! the verdict on a result whose lanes add and retire contexts, with the table besides, and
-//! [`legal_live_texts_are_those_of_allowed_runs`] its law. [`print_verdict`] prints a verdict. How a
-//! verdict is found is not known here.
+//! [`legal_live_texts_are_those_of_allowed_runs`] its law. `specs/Computed.antt` has tests that compute
+//! it, and [`the_verdict_is_the_first_that_is_wrong`] says that they do. [`print_verdict`] prints a
+//! verdict. How a verdict is found is not known here.
 //!
 //! Tests: `check_tests` (through `journal_check`).
 #![tactic(auto)]
@@ -54,6 +55,7 @@ pub use tables::{NamedAct, NoteLine, noting, read_table};
 pub use told::{GuessLine, ReplyLine, Told};
 pub use verdict_laws::{
     a_live_text_tells_one_run, a_text_tells_one_run, legal_live_texts_are_those_of_allowed_runs,
-    legal_texts_are_those_of_allowed_runs,
+    legal_texts_are_those_of_allowed_runs, the_live_verdict_is_the_first_that_is_wrong,
+    the_verdict_is_the_first_that_is_wrong,
 };
 pub use verdicts::Verdict;

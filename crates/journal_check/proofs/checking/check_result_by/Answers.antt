@@ -3,11 +3,12 @@ use Rattle.std.proofs.lemmas.Result.{IfOk-weaker}
 use Rattle.hpke_context.specs.Contexts.{ContextView}
 use Rattle.context_table.specs.ReplyTo.{IsReply}
 use Rattle.result_lines.specs.declared.verdicts.Verdict.TheVariants.{Legal, Form}
-use Rattle.result_lines.specs.Verdicts.{by_form, verdict_on}
 use Rattle.journal_check.specs.Verdicts.{IsVerdict}
 use Rattle.journal_check.proofs.LegalVerdicts.{legal_iff_reply}
 use Rattle.journal_check.proofs.ToldSizes.{read_as, read_wrong, has_of}
 use Rattle.journal_check.proofs.checking.check_result_by.Goals as goal
+use Rattle.result_lines.specs.Computed.{by_form, verdict_on}
+use Rattle.result_lines.proofs.FirstWrong.{first_wrong}
 
 pub verdict_on-requires : goal.verdict_on-requires
 verdict_on-requires g c =
@@ -36,9 +37,9 @@ returns-in-Ok g c =
       contexts = setup.contexts;
       standing = setup.standing;
       set_up = c.in_ok-setup.ensures.set_up;
-      is = judged
+      is = (first_wrong plan setup.keys setup.contexts setup.standing text verdict c.requires.within c.in_ok-setup.ensures.set_up.standing_count).1 (judged
           ∙ ap (λ (cs : List (Option ContextView)). verdict_on plan cs c.in-Ok.told) (c.deref_mut.ensures.value ∙ c.into_vec-contexts.ensures.items)
-          ∙ ap (by_form plan setup.standing) (sym is);
+          ∙ ap (by_form plan setup.standing) (sym is));
     })
     c.verdict_on.ensures in
     record {
@@ -61,5 +62,6 @@ returns-in-Err-Wrong-clause-legal g c =
       contexts = setup.contexts;
       standing = setup.standing;
       set_up = c.in_ok-setup.ensures.set_up;
-      is = ap (by_form plan setup.standing) (sym is);
+      is = (first_wrong plan setup.keys setup.contexts setup.standing text (Form line) c.requires.within c.in_ok-setup.ensures.set_up.standing_count).1
+          (ap (by_form plan setup.standing) (sym is));
     }))

@@ -11,12 +11,13 @@ use Rattle.result_lines.specs.Tables.{table_told}
 use Rattle.result_lines.specs.Told.{ToldView}
 use Rattle.result_lines.specs.ToldLive.{told_live_by}
 use Rattle.result_lines.specs.declared.verdicts.Verdict.TheVariants.{Legal, Form}
-use Rattle.result_lines.specs.LiveVerdicts.{live_told, live_verdict_on}
+use Rattle.result_lines.specs.LiveVerdicts.{live_told}
 use Rattle.journal_check.specs.Verdicts.{IsLiveVerdict}
 use Rattle.journal_check.proofs.LiveLegalVerdicts.{legal_iff_live_reply}
 use Rattle.journal_check.proofs.LiveRead.{live_has_of, told_verdict, form_verdict}
 use Rattle.journal_check.proofs.LiveSound.{table_acts}
 use Rattle.journal_check.proofs.live_checking.check_live_result_by.Goals as goal
+use Rattle.result_lines.specs.Computed.{live_verdict_on}
 
 pub verdict_as_served-requires-clause-lanes_size : goal.verdict_as_served-requires-clause-lanes_size
 verdict_as_served-requires-clause-lanes_size g c =
@@ -46,7 +47,7 @@ returns-in-Ok g c =
     let judged_by = c.deref_mut.ensures.value ∙ c.into_vec-contexts.ensures.items in
     let judged = IfOk-weaker c.verdict_as_served.result _ (IsLiveVerdict plan text)
     (λ verdict judged. told_verdict plan text setup.keys c.as_slice-keys.result.now setup.contexts c.as_slice-adds.result.now setup.standing c.deref-2.result.now c.as_slice-notes.result.now
-    c.in_ok-setup.ensures.set_up c.as_slice-keys.ensures.items c.as_slice-adds.ensures.items read_by notes c.in-Ok.told verdict tells
+    c.requires.within c.in_ok-setup.ensures.set_up c.as_slice-keys.ensures.items c.as_slice-adds.ensures.items read_by notes c.in-Ok.told verdict tells
     (judged ∙ ap (λ (cs : List (Option ContextView)). live_verdict_on (live_told plan c.as_slice-adds.result.now cs c.as_slice-notes.result.now c.in-Ok.told) c.in-Ok.told) (judged_by ∙ sym read_by)))
     c.verdict_as_served.ensures in
     record {
@@ -68,4 +69,4 @@ returns-in-Err-Wrong-clause-legal g c =
     subst (λ k. (Form k ≡ Legal) ↔ IsLiveReply plan text) (sym c.in-Err-Wrong.line-is)
     (legal_iff_live_reply plan text (Form line) c.requires.within (
     form_verdict plan text setup.keys c.as_slice-keys.result.now setup.contexts c.as_slice-adds.result.now setup.standing c.deref-2.result.now c.as_slice-notes.result.now
-    c.in_ok-setup.ensures.set_up c.as_slice-keys.ensures.items c.as_slice-adds.ensures.items read_by notes line wrong))
+    c.requires.within c.in_ok-setup.ensures.set_up c.as_slice-keys.ensures.items c.as_slice-adds.ensures.items read_by notes line wrong))

@@ -2,9 +2,10 @@ use Rattle.std.proofs.Common.{List, length, subst, sym, ap, ◌∙◌}
 use Rattle.std.proofs.lemmas.Result.{IfOk-weaker}
 use Rattle.batch_plans.specs.Limits.{IsWithinLimits}
 use Rattle.batch_plans.specs.declared.plan.CallLine.{CallLine}
-use Rattle.result_lines.specs.LiveVerdicts.{live_told, live_verdict_on}
+use Rattle.result_lines.specs.LiveVerdicts.{live_told}
 use Rattle.result_lines.proofs.LookedLimits.{looked_within, looked_lanes}
 use Rattle.journal_check.proofs.live_checking.verdict_as_served.Goals as goal
+use Rattle.result_lines.specs.Computed.{live_verdict_on}
 
 pub verdict_on-verdict-requires-clause-within : goal.verdict_on-verdict-requires-clause-within
 verdict_on-verdict-requires-clause-within c =

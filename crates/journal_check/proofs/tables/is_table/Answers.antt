@@ -3,12 +3,12 @@ use Rattle.std.specs.Option.{MatchOption}
 use Rattle.std.specs.List.{list_all}
 use Rattle.std.proofs.lemmas.Result.{IfOk-weaker}
 use Rattle.due_replies.specs.LiveChecks.{note_mark}
-use Rattle.result_lines.specs.LiveVerdicts.{is_table}
 use Rattle.journal_check.specs.Asks.{AreFew}
 use Rattle.journal_check.specs.Served.{table_along}
 use Rattle.journal_check.specs.Tables.{is_low_note}
 use Rattle.journal_check.proofs.NotedTables.{same_lengths, few_pairs, no_low_table, journal_found, no_table, table_is}
 use Rattle.journal_check.proofs.tables.is_table.Goals as goal
+use Rattle.result_lines.specs.Computed.{is_table}
 
 pub returns-in_default : goal.returns-in_default
 returns-in_default c =

@@ -1,0 +1,5 @@
+use Rattle.result_lines.proofs.FirstWrong.{first_wrong}
+use Rattle.result_lines.proofs.verdict_laws.the_verdict_is_the_first_that_is_wrong.Goals as goal
+
+pub returns : goal.returns
+returns c = first_wrong
