@@ -29,10 +29,12 @@ use Rattle.due_replies.proofs.Done.{lane_asks}
 use Rattle.lane_replies.specs.Answered.{HasAnswered, HasRoomFor}
 use Rattle.lane_replies.proofs.Answering.{answered_begun}
 use Rattle.lane_replies.proofs.Rooms.{room_begun, room_ended}
+use Rattle.lane_replies.proofs.Writing.{all_in_more}
 use Rattle.lane_workers.specs.declared.works.LaneWork.{LaneWork}
 use Rattle.lane_workers.specs.Served.{Told, seen_of, LaneIsServed}
 use Rattle.lane_workers.specs.Turns.{views}
 use Rattle.lane_replies.specs.LaneCalls as lanes
+use Rattle.lane_workers.specs.Groups.{answers_in}
 use Rattle.lane_workers.specs.Lanes.{asks_of, Says, LaneIsAt}
 use Rattle.lane_workers.specs.Returned.{IsGiven, IsReturned}
 use Rattle.lane_workers.specs.LiveReturned.{HasAllAnswers}
@@ -137,35 +139,42 @@ module _ (plan : Plan) (contexts : List (Option SharedView)) (counter : Option (
     all_asks : take (length calls) asks ≡ asks
     all_asks = ap (λ i. take i asks) (sym same_count) ∙ take-length asks
 
-    pub ends : (answers : LaneAnswers) → answers.pool ≡ w.progress.pool
-        → answers.replies ≡ w.progress.replies → answers.batches ≡ w.progress.batches
-        → IsPrintable answers
-        → IsReturned plan contexts counter lane w.passes.items w.seat answers
-    ends answers pool replies batches printable = record {
-      served = record {
-        told = told;
-        shows = λ c. lane_shows (batch_of plan stand) c (cipher_at stand c) lane told.replies
-            (seen_of w.passes.items c)
-            (subst (λ done. LaneIs (batch_of plan stand) c (cipher_at stand c) lane told.replies done
-            (seen_of w.passes.items c)) all_asks (says.shows c));
-        openings = record {
-          count = t.guesses_given
-              ∙ ap Rattle.context_books.specs.Guesses.guess_count all_asks;
-          each = λ c call messages is. says.openings c call messages
-              (let low = slice_get_within asks call (ToOpenAll c messages) is in
-              let same = same_count in omega arith) is;
-        };
-        in_order = stamps_show lane (length calls) (seen_of w.passes.items) t.low t.stamps;
-        lines = (λ i. calls_lines (pool i) calls (replies i) (batches i))
-            ∙ ap (λ cs. calls_lines w.progress.pool cs w.progress.replies w.progress.batches)
-            (sym (take-length calls))
-            ∙ says.answered.lines_are
-            ∙ ap (λ cs. Rattle.std.specs.List.flat_map (λ (lines : List (List ℕ)). lines)
-            (Rattle.batch_plans.specs.ReplyText.numbered
-            (Rattle.lane_workers.specs.Served.told_lines plan stand told lane) 0 cs))
-            (take-length calls);
-        printable = printable;
+    printable : IsPrintable (answers_in w)
+    printable =
+        let room = t.room.room in
+        all_in_more w.progress.taken (length w.progress.pool) w.progress.replies (omega arith)
+        says.answered.range
+
+    -- what the lane shows
+    pub is_served : LaneIsServed plan stand lane w.passes.items (answers_in w)
+    is_served = record {
+      told = told;
+      shows = λ c. lane_shows (batch_of plan stand) c (cipher_at stand c) lane told.replies
+          (seen_of w.passes.items c)
+          (subst (λ done. LaneIs (batch_of plan stand) c (cipher_at stand c) lane told.replies done
+          (seen_of w.passes.items c)) all_asks (says.shows c));
+      openings = record {
+        count = t.guesses_given
+            ∙ ap Rattle.context_books.specs.Guesses.guess_count all_asks;
+        each = λ c call messages is. says.openings c call messages
+            (let low = slice_get_within asks call (ToOpenAll c messages) is in
+            let same = same_count in omega arith) is;
       };
+      in_order = stamps_show lane (length calls) (seen_of w.passes.items) t.low t.stamps;
+      lines = ap (λ cs. calls_lines w.progress.pool cs w.progress.replies w.progress.batches)
+          (sym (take-length calls))
+          ∙ says.answered.lines_are
+          ∙ ap (λ cs. Rattle.std.specs.List.flat_map (λ (lines : List (List ℕ)). lines)
+          (Rattle.batch_plans.specs.ReplyText.numbered
+          (Rattle.lane_workers.specs.Served.told_lines plan stand told lane) 0 cs))
+          (take-length calls);
+      printable = printable;
+    }
+
+    pub ends : (answers : LaneAnswers) → answers ≡ answers_in w
+        → IsReturned plan contexts counter lane w.passes.items w.seat answers
+    ends answers same = record {
+      served = subst (LaneIsServed plan stand lane w.passes.items) (sym same) is_served;
       count = t.count;
       passes_are = λ c s is. let p = t.passes c s is in (p.0, p.1, p.2.of, p.2.number);
       absent = t.absent;

@@ -22,7 +22,7 @@ use Rattle.due_replies.specs.Runs.{answer_line}
 use Rattle.lane_replies.specs.LaneCalls.{opening_items}
 use Rattle.lane_replies.specs.Writing.{PutsReplies}
 use Rattle.lane_workers.specs.declared.works.LaneWork.{LaneWork}
-use Rattle.lane_workers.specs.Turns.{with_table, with_progress, CanTurn, Draws, Peeks, Commits, Opens}
+use Rattle.lane_workers.specs.Turns.{with_table, with_progress, CanTurn, Draws, Guesses, Commits, Opens}
 use Rattle.lane_workers.specs.Readings.{Reading, as_it_is, heard, hears, with_more, HasBytesOf}
 
 -- ---- answers
@@ -135,13 +135,13 @@ draws_heard r old new number call drawn d = record {
   checks = d.checks;
 }
 
-pub peeks_heard : (r : Reading) (old new : LaneWork) (number guess : ℕ)
-    → Peeks old new number guess → Peeks (hears r old) (hears r new) number guess
-peeks_heard r old new number guess d = record {
+pub guesses_heard : (r : Reading) (old new : LaneWork) (line : CallLine) (number guess : ℕ)
+    → Guesses old new line number guess → Guesses (hears r old) (hears r new) line number guess
+guesses_heard r old new line number guess d = record {
   pass = d.pass;
   was = d.was;
   after = d.after;
-  has_peeked = d.has_peeked;
+  has_guessed = d.has_guessed;
   passes = d.passes;
   seat = d.seat;
   same = record {
@@ -212,16 +212,16 @@ opens_of plan other bytes s old new call line guess missed o =
     let items = sym (items_same plan other line bytes) in
     let pool = sym bytes.pool in
     record {
-      peeked = o.peeked;
+      guessed = o.guessed;
       table = o.table;
       committed = o.committed;
       first = o.first;
-      peeks = o.peeks;
+      guesses = o.guesses;
       guess_is = o.guess_is;
       rows = o.rows;
-      commits = subst (λ (xs : List Spans). Commits (with_table o.peeked o.table) o.committed s.context
+      commits = subst (λ (xs : List Spans). Commits (with_table o.guessed o.table) o.committed s.context
           (context_of line) call plan.pool xs o.first missed) items
-          (subst (λ (bs : List ℕ). Commits (with_table o.peeked o.table) o.committed s.context
+          (subst (λ (bs : List ℕ). Commits (with_table o.guessed o.table) o.committed s.context
           (context_of line) call bs (opening_items other line) o.first missed) pool o.commits);
       progress = o.progress;
       puts = subst (λ (xs : List Spans). PutsReplies old.progress o.progress (sum_by opened_room xs)
@@ -240,14 +240,14 @@ abbrev pub opens_heard : (r : Reading) (s : SharedView) (old new : LaneWork) (ca
 opens_heard r s old new call line guess missed o enough =
     let later = with_more r o.puts.more in
     record {
-      peeked = hears r o.peeked;
+      guessed = hears r o.guessed;
       table = o.table;
       committed = hears r o.committed;
       first = o.first;
-      peeks = peeks_heard r old o.peeked (context_of line) guess o.peeks;
+      guesses = guesses_heard r old o.guessed line (context_of line) guess o.guesses;
       guess_is = o.guess_is;
       rows = o.rows;
-      commits = commits_heard r o.peeked o.committed o.table s.context (context_of line) call
+      commits = commits_heard r o.guessed o.committed o.table s.context (context_of line) call
           r.plan.pool (opening_items r.plan line) o.first missed o.commits;
       progress = heard later o.progress;
       puts = puts_heard r old.progress o.progress (sum_by opened_room (opening_items r.plan line))

@@ -25,7 +25,7 @@ use Rattle.batch_plans.specs.declared.plan.CallLine.{CallLine}
 use Rattle.batch_plans.specs.Calls.{context_of}
 use Rattle.lane_workers.specs.declared.works.LaneWork.{LaneWork}
 use Rattle.lane_workers.specs.Served.{seen_of, seen_by}
-use Rattle.lane_workers.specs.Turns.{pass_at, with_table, Draws, Peeks, Commits, Opens}
+use Rattle.lane_workers.specs.Turns.{pass_at, with_table, Draws, Guesses, Commits, Opens}
 use Rattle.lane_workers.specs.Lanes.{IsPassAt, HasSeat, MayServe}
 use Rattle.lane_workers.specs.Readings.{AddsLater}
 use Rattle.lane_workers.proofs.Answering.{one_counter, one_pass, one_seat}
@@ -179,10 +179,11 @@ module _ (counter : Option (Bor CounterView)) (low call : ℕ) where
       (subst (HasSeat counter low) (sym d.seat_is) (seat_later counter low old.lane d.pass old.seat d.seat d.back
       h.before h.stamp 1 of has d.had h.stamps))
 
-  peeks_later : (old new : LaneWork) (number guess : ℕ) → (d : Peeks old new number guess)
+  guesses_later : (old new : LaneWork) (line : CallLine) (number guess : ℕ)
+      → (d : Guesses old new line number guess)
       → d.pass.number ≡ old.lane → HasSeat counter low old.seat → AddsLater counter low call old new
-  peeks_later old new number guess d is has =
-      let h = d.has_peeked in
+  guesses_later old new line number guess d is has =
+      let h = d.has_guessed in
       turn_later old new number d.pass d.after h.others.0 [] d.was d.passes
       (h.others.1 ∙ sym (append-nil (d.pass.seen ++ h.others.0)))
       (subst (λ i. own i h.others.0 ≡ []) is h.others.2) (λ e none. absurd none)
@@ -208,30 +209,30 @@ module _ (counter : Option (Bor CounterView)) (low call : ℕ) where
 
   pub opens_later : (plan : Plan) (s : SharedView) (old new : LaneWork) (line : CallLine)
       (guess missed : ℕ) → (o : Opens plan s old new call line guess missed)
-      → IsPassOf counter old.lane o.peeks.pass → HasSeat counter low old.seat
+      → IsPassOf counter old.lane o.guesses.pass → HasSeat counter low old.seat
       → AddsLater counter low call old new
   opens_later plan s old new line guess missed o of has =
       let number = context_of line in
-      let after = o.peeks.has_peeked.after in
-      let mid = with_table o.peeked o.table in
-      let same : o.peeks.after ≡ o.commits.pass = one_pass o.peeks.after o.commits.pass
-      (sym (pass_same old.passes.items number o.peeks.after
-      (pass_within old.passes.items number o.peeks.pass o.peeks.was))
-      ∙ sym (ap (λ ps. pass_at ps number) o.peeks.passes) ∙ o.commits.was) in
+      let after = o.guesses.has_guessed.after in
+      let mid = with_table o.guessed o.table in
+      let same : o.guesses.after ≡ o.commits.pass = one_pass o.guesses.after o.commits.pass
+      (sym (pass_same old.passes.items number o.guesses.after
+      (pass_within old.passes.items number o.guesses.pass o.guesses.was))
+      ∙ sym (ap (λ ps. pass_at ps number) o.guesses.passes) ∙ o.commits.was) in
       let of_then : IsPassOf counter mid.lane o.commits.pass =
       subst (IsPassOf counter mid.lane) same (record {
-        number = after.number ∙ of.number ∙ sym o.peeks.same.lane;
+        number = after.number ∙ of.number ∙ sym o.guesses.same.lane;
         counted = (
           of.counted.0,
           of.counted.1,
           ap (λ (l : LockId). l.terms.counter) after.lock ∙ of.counted.2,
         );
       }) in
-      let looked = peeks_later old o.peeked number guess o.peeks of.number has in
+      let looked = guesses_later old o.guessed line number guess o.guesses of.number has in
       let done = commits_later mid o.committed s.context number plan.pool _ o.first missed
       o.commits of_then looked.seat in
-      later_twice old o.peeked new o.peeks.same.lane looked
-      (later_twice o.peeked o.committed new o.commits.same.lane
+      later_twice old o.guessed new o.guesses.same.lane looked
+      (later_twice o.guessed o.committed new o.commits.same.lane
       (record { seat = done.seat; later = done.later })
       (same_later o.committed new (ap (λ (x : LaneWork). x.passes.items) o.new_is)
       (ap (λ (x : LaneWork). x.seat) o.new_is) done.seat))

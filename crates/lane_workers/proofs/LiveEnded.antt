@@ -1,9 +1,9 @@
 -- A lane whose calls add and retire contexts, after its last.
-use Rattle.std.proofs.Common.{◌≡◌, ◌+◌, ℕ, zero, suc, Bool, true, false, cond, List, [], ◌∷◌, ◌++◌, length, filter, Option, Some, None, sym, refl, ap, ◌∙◌, subst, arith, if◌then◌else◌, append-nil}
+use Rattle.std.proofs.Common.{◌≡◌, ◌+◌, ℕ, zero, suc, Bool, true, false, cond, List, [], ◌∷◌, ◌++◌, length, filter, Option, Some, None, sym, refl, ap, ◌∙◌, subst, if◌then◌else◌, append-nil}
 use Rattle.std.specs.Prelude.{replicate, slice_index_or}
 use Rattle.std.specs.List.{All}
 use Rattle.std.proofs.Math.Seq.{take-length}
-use Rattle.std.proofs.lemmas.List.Elements.{All-head, All-tail, All-nil, filter-append}
+use Rattle.std.proofs.lemmas.List.Elements.{All-head, All-tail, All-nil, All-cons, All-append, filter-append}
 use Rattle.call_places.specs.declared.entries.Entry.{Entry}
 use Rattle.turn_lock.specs.Passes.{PassView}
 use Rattle.stamp_counter.specs.Seats.{SeatView}
@@ -19,28 +19,27 @@ use Rattle.batch_plans.specs.declared.replies.LaneAnswers.{LaneAnswers}
 use Rattle.batch_plans.specs.declared.replies.Reply.{Reply}
 use Rattle.batch_plans.specs.declared.replies.Reply.TheVariants.{Blank, Refused}
 use Rattle.batch_plans.specs.Progress.{Progress}
-use Rattle.batch_plans.specs.Replies.{IsPrintable}
+use Rattle.batch_plans.specs.Replies.{IsInRange, IsPrintable}
 use Rattle.batch_plans.specs.Room.{blank_batch}
 use Rattle.batch_plans.specs.LiveText.{is_given, given_lines}
 use Rattle.batch_plans.specs.ReplyText.{calls_lines, numbered, all_lines}
 use Rattle.batch_plans.proofs.Numbering.{length-numbered}
 use Rattle.due_replies.specs.Live.{was_live, looked_up, looked_up_plan}
 use Rattle.due_replies.proofs.LookedUp.{calls_looked}
-use Rattle.lane_replies.proofs.Writing.{all_in_more}
 use Rattle.lane_replies.specs.LaneCalls.{lane_calls}
 use Rattle.lane_workers.specs.declared.live_lane.LiveLane.{LiveLane}
 use Rattle.lane_workers.specs.declared.works.LaneWork.{LaneWork}
+use Rattle.lane_workers.specs.Groups.{answers_in}
 use Rattle.lane_workers.specs.Lanes.{LaneIsAt}
 use Rattle.lane_workers.specs.LiveLanes.{LiveView, standing, AreSharedLive, AddsAre, AddsOneOf, Chunk, all_given, all_heard, all_guesses, add_refusal, add_reply, retire_reply, finds, own_reply, IsHeardAs, AreHeard, ReadsAs}
 use Rattle.lane_workers.specs.LiveReturned.{IsDoneLive, IsReturnedLive, MayReturnLive}
-use Rattle.lane_workers.specs.LiveServed.{noted_from, live_told_lines}
+use Rattle.lane_workers.specs.LiveServed.{noted_from, live_told_lines, LiveLaneIsServed}
 use Rattle.lane_workers.specs.Readings.{hears}
 use Rattle.lane_workers.specs.Returned.{IsReturned}
 use Rattle.lane_workers.specs.Served.{told_lines}
 use Rattle.lane_workers.specs.Turns.{with_progress}
 use Rattle.lane_workers.proofs.Ended.{ends}
 use Rattle.lane_workers.proofs.LiveLines.{some_else, live_lines}
-use Rattle.lane_workers.proofs.Told.{told_now, tells_now}
 
 -- ---- the replies that were given
 
@@ -64,6 +63,20 @@ added_given (Some refusal) = refl
 retired_given : (live : Bool) → is_given (retire_reply live) ≡ true
 retired_given true = refl
 retired_given false = refl
+
+added_range : (size : ℕ) (refusal : Option CallRefusal) → IsInRange size (add_reply refusal)
+added_range size None = tt
+added_range size (Some refusal) = tt
+
+retired_range : (size : ℕ) (live : Bool) → IsInRange size (retire_reply live)
+retired_range size true = tt
+retired_range size false = tt
+
+All-parts : {X : Type 0} (P : X → Type 0) (xs ys : List X) → All P (xs ++ ys) → All P xs × All P ys
+All-parts P [] ys all = (All-nil P, all)
+All-parts P (x ∷ xs) ys all =
+    let rest = All-parts P xs ys (All-tail P x (xs ++ ys) all) in
+    (All-cons P x xs (All-head P x (xs ++ ys) all) rest.0, rest.1)
 
 module _ (v : LiveView) (notes : List Entry) (lane : ℕ) where
   missed_given : (number : ℕ) (call : CallLine) (reply : Reply)
@@ -115,6 +128,45 @@ module _ (v : LiveView) (notes : List Entry) (lane : ℕ) where
       ∙ (λ i. chunks_given number calls chunks heard i ++ no_blanks blanks i)
       ∙ append-nil (all_given chunks)
 
+  -- ---- the bytes that they name
+
+  own_range : (size number : ℕ) (call : CallLine) (reply : Reply)
+      → own_reply v.plan notes lane number call ≡ Some reply → IsInRange size reply
+  own_range size number (calls.Add name) reply is =
+      let some : Some (add_reply (add_refusal v.plan name)) ≡ Some reply = is in
+      let same : add_reply (add_refusal v.plan name) ≡ reply = cc in
+      subst (IsInRange size) same (added_range size (add_refusal v.plan name))
+  own_range size number (calls.Retire name) reply is =
+      let live = was_live notes (place lane number 0) in
+      let some : Some (retire_reply live) ≡ Some reply = is in
+      let same : retire_reply live ≡ reply = cc in
+      subst (IsInRange size) same (retired_range size live)
+  own_range size number call reply is =
+      subst (IsInRange size)
+      (sym (some_else (finds notes lane number call) (Refused NoContext) reply is).1) tt
+
+  chunk_range : (size number : ℕ) (call : CallLine) (c : Chunk) (own : Option Reply)
+      → own_reply v.plan notes lane number call ≡ own → IsHeardAs v call own c
+      → All (IsInRange size) c.heard → All (IsInRange size) c.given
+  chunk_range size number call c None is t all = subst (All (IsInRange size)) t.heard all
+  chunk_range size number call c (Some reply) is t all =
+      subst (λ (d : Chunk). All (IsInRange size) d.given) (sym t)
+      (All-cons (IsInRange size) reply [] (own_range size number call reply is)
+      (All-nil (IsInRange size)))
+
+  -- as far as those lie in the pool that are heard
+  chunks_range : (size number : ℕ) (calls : List CallLine) (chunks : List Chunk)
+      → AreHeard v notes lane number calls chunks → All (IsInRange size) (all_heard chunks)
+      → All (IsInRange size) (all_given chunks)
+  chunks_range size number [] [] heard all = all
+  chunks_range size number [] (c ∷ chunks) heard all = absurd heard
+  chunks_range size number (call ∷ calls) [] heard all = absurd heard
+  chunks_range size number (call ∷ calls) (c ∷ chunks) heard all =
+      let parts = All-parts (IsInRange size) c.heard (all_heard chunks) all in
+      All-append (IsInRange size) c.given (all_given chunks)
+      (chunk_range size number call c (own_reply v.plan notes lane number call) refl heard.0 parts.0)
+      (chunks_range size (number + 1) calls chunks heard.1 parts.1)
+
 -- ---- the lane
 
 -- the calls of a lane add contexts of the plan
@@ -164,20 +216,9 @@ module _ (v : LiveView) (shared : AreSharedLive v) (l : LiveLane) (t : IsDoneLiv
   at_end : LaneIsAt plan v.contexts v.counter lane (length (lane_calls plan lane)) heard_work
   at_end = subst (λ n. LaneIsAt plan v.contexts v.counter lane n heard_work) same_count reads.is_at
 
-  abbrev heard_answers : LaneAnswers
-  heard_answers = record { pool = p.pool; replies = all_heard t.chunks; batches = p.batches }
-
-  heard_printable : IsPrintable heard_answers
-  heard_printable =
-      let told = told_now at_end.given at_end.guesses at_end.misses in
-      let says = at_end.says told (tells_now lane at_end.given at_end.guesses at_end.misses) in
-      let room = at_end.room.room in
-      all_in_more p.taken (length p.pool) (all_heard t.chunks) (omega arith) says.answered.range
-
   heard_returned : IsReturned plan v.contexts v.counter lane l.work.passes.items l.work.seat
-      heard_answers
-  heard_returned = ends plan v.contexts v.counter lane heard_work at_end heard_answers refl refl refl
-      heard_printable
+      (answers_in heard_work)
+  heard_returned = ends plan v.contexts v.counter lane heard_work at_end (answers_in heard_work) refl
 
   are_heard : AreHeard v seen lane 0 lines t.chunks
   are_heard = subst (λ cs. AreHeard v seen lane 0 cs t.chunks) (take-length lines) reads.are_heard
@@ -203,6 +244,32 @@ module _ (v : LiveView) (shared : AreSharedLive v) (l : LiveLane) (t : IsDoneLiv
       ∙ live_lines v shared replies adds seen lane told p.pool 0 lines t.chunks spare
       (adds_named v shared lane) are_heard served
 
+  -- what the lane shows, with so many blanks and guesses behind its answers
+  shows : (answers : LaneAnswers) (blanks : ℕ) (spare : List Batch) → answers.pool ≡ p.pool
+      → answers.replies ≡ p.replies ++ replicate blanks Blank → answers.batches ≡ p.batches ++ spare
+      → IsPrintable answers → (replies : List ContextReply) → AddsAre v.plan replies
+      → LiveLaneIsServed v.plan replies (standing v) lane seen l.work.passes.items answers
+  shows answers blanks spare pool given guesses printable replies adds = record {
+    told = heard_returned.served.told;
+    places = t.places ∙ ap (noted_from v.plan (standing v) lane 0) (take-length lines);
+    acts = t.acts;
+    shows = heard_returned.served.shows;
+    openings = heard_returned.served.openings;
+    in_order = heard_returned.served.in_order;
+    noted_in_order = t.noted;
+    lines = own_lines replies adds answers blanks spare pool given guesses;
+    printable = printable;
+  }
+
+  -- what it shows as it stands
+  pub is_served : (replies : List ContextReply) → AddsAre v.plan replies
+      → LiveLaneIsServed v.plan replies (standing v) lane seen l.work.passes.items (answers_in l.work)
+  is_served = shows (answers_in l.work) 0 [] refl (sym (append-nil p.replies))
+      (sym (append-nil p.batches))
+      (subst (All (IsInRange (length p.pool))) (sym t.given)
+      (chunks_range v seen lane (length p.pool) 0 lines t.chunks are_heard
+      heard_returned.served.printable))
+
   -- the lane's parts, with blanks behind its answers, are what it gives back
   pub returns : (progress : Progress)
       → progress ≡ record p {
@@ -220,20 +287,10 @@ module _ (v : LiveView) (shared : AreSharedLive v) (l : LiveLane) (t : IsDoneLiv
     };
     returns = λ passes seat answers g.
         let back : IsReturnedLive v lane t.pass l.work.passes.items l.work.seat answers = record {
-          served = λ replies adds. record {
-            told = heard_returned.served.told;
-            places = t.places ∙ ap (noted_from v.plan (standing v) lane 0) (take-length lines);
-            acts = t.acts;
-            shows = heard_returned.served.shows;
-            openings = heard_returned.served.openings;
-            in_order = heard_returned.served.in_order;
-            noted_in_order = t.noted;
-            lines = own_lines replies adds answers p.left (replicate p.batches_left blank_batch)
-                (g.pool ∙ ap (λ (q : Progress). q.pool) is)
-                (g.replies ∙ ap (λ (q : Progress). q.replies) is)
-                (g.batches ∙ ap (λ (q : Progress). q.batches) is);
-            printable = g.printable;
-          };
+          served = shows answers p.left (replicate p.batches_left blank_batch)
+              (g.pool ∙ ap (λ (q : Progress). q.pool) is)
+              (g.replies ∙ ap (λ (q : Progress). q.replies) is)
+              (g.batches ∙ ap (λ (q : Progress). q.batches) is) g.printable;
           of = t.of;
           number = t.number;
           count = heard_returned.count;

@@ -31,8 +31,9 @@ use Rattle.batch_plans.specs.LiveText.{given_lines, lanes_given}
 use Rattle.batch_plans.specs.ReplyText.{numbered, all_lines}
 use Rattle.batch_plans.proofs.Numbering.{length-numbered}
 use Rattle.due_replies.specs.Asks.{batch_of, cipher_at}
-use Rattle.due_replies.specs.Live.{looked_up, looked_up_plan, LiveRun, run_of, retire_line, live_call_lines, live_lane_lines, LegalTable, LiveHistory, IsAllowedLive}
+use Rattle.due_replies.specs.Live.{looked_up, looked_up_plan, LiveRun, run_of, retire_line, live_call_lines, live_lane_lines, LegalTable, IsAllowedLive}
 use Rattle.due_replies.specs.Runs.{call_lines}
+use Rattle.due_replies.proofs.LiveParts.{LiveParts, of_parts}
 use Rattle.due_replies.proofs.LookedUp.{live_same, looked_same}
 use Rattle.lane_replies.specs.LaneCalls.{lane_calls}
 use Rattle.lane_replies.proofs.Within.{line_within}
@@ -158,9 +159,9 @@ module _ (plan : Plan) (replies : List ContextReply) (standing : List (Option Co
           ap (λ (x : Mark). x.stamp) t.3,
         )
 
-    history : AreAllFrom0 (all_stamps live.journals ++ stamps_of notes)
-        → LiveHistory batch live.journals notes
-    history stamped = record {
+    parts : AreAllFrom0 (all_stamps live.journals ++ stamps_of notes)
+        → LiveParts batch live.journals notes
+    parts stamped = record {
       each = showing.marks_are_legal looked standing told seen books tells closed;
       stamped = stamped;
       in_order = shown.marks_in_order batch (cipher_at standing)
@@ -190,7 +191,7 @@ module _ (plan : Plan) (replies : List ContextReply) (standing : List (Option Co
       journals = length-map books (map mark_of) ∙ count;
       lanes = length-map-range_with_len _ 0 (length looked.lanes) ∙ lane_count;
       table = table are_live rise;
-      history = history stamped;
+      history = of_parts batch live.journals notes (table are_live rise) (parts stamped);
       guessed = λ lane low. showing.guessed_so looked standing told seen books tells closed lane
           (subst (λ n. lane < n) (sym lane_count) low);
     }

@@ -22,7 +22,6 @@ use Rattle.due_replies.specs.Live.{was_live, looked_up, looked_up_plan}
 use Rattle.due_replies.specs.Runs.{answer_line, lines_unless}
 use Rattle.due_replies.specs.Standing.{call_refusal}
 use Rattle.due_replies.proofs.Done.{lane_asks}
-use Rattle.due_replies.proofs.Growing.{map_same}
 use Rattle.due_replies.proofs.LookedUp.{looked_same, calls_looked, call_looked}
 use Rattle.lane_replies.specs.LaneCalls.{lane_calls}
 use Rattle.lane_workers.specs.Served.{Told, told_lines}
@@ -74,8 +73,8 @@ lane_same plan contexts n m lane same =
     (λ k call at. looked_same plan n m lane same (0 + k) call)
     ∙ sym (calls_looked plan m lane) in
     lane_of_batch p contexts lane
-    ∙ map_same (ask_of p contexts) (ask_of q contexts) (lane_calls p lane)
-    (λ call has. ap (ask_unless (call_refusal contexts call)) (asked_same plan n m call))
+    ∙ (λ i. map (λ call. ap (ask_unless (call_refusal contexts call)) (asked_same plan n m call) i)
+    (lane_calls p lane))
     ∙ ap (map (ask_of q contexts)) lines ∙ sym (lane_of_batch q contexts lane)
 
 -- ---- what a lane shows of them

@@ -1,5 +1,5 @@
 -- Openings, from what their functions say.
-use Rattle.std.proofs.Common.{◌≡◌, ℕ, ◌+◌, ◌<◌, ◌≤◌, List, [], ◌∷◌, ◌++◌, length, map, take, drop, Option, Some, None, sym, refl, ap, ◌∙◌, subst, arith, append_assoc, Bor}
+use Rattle.std.proofs.Common.{◌≡◌, ℕ, ◌+◌, ◌<◌, ◌≤◌, Bool, true, false, List, [], ◌∷◌, ◌++◌, length, map, take, drop, Option, Some, None, sym, refl, ap, ◌∙◌, subst, arith, append_assoc, Bor}
 use Rattle.std.specs.Prelude.{slice_set}
 use Rattle.std.proofs.lemmas.List.{length-map, set-set}
 use Rattle.call_places.specs.declared.entries.Entry.{Entry}
@@ -27,7 +27,7 @@ use Rattle.batch_plans.specs.declared.plan.CallLine.{CallLine}
 use Rattle.batch_plans.specs.declared.plan.CallLine.TheVariants as calls
 use Rattle.batch_plans.specs.declared.replies.Batch.{Batch}
 use Rattle.batch_plans.specs.Limits.{items_of, items_from, IsCallWithin}
-use Rattle.batch_plans.specs.Calls.{context_of}
+use Rattle.batch_plans.specs.Calls.{context_of, keeps_guess}
 use Rattle.batch_plans.specs.Room.{served_room, served_batches}
 use Rattle.batch_plans.specs.Progress.{Progress, with_batch}
 use Rattle.batch_plans.specs.Lines.{batch_line}
@@ -61,6 +61,16 @@ replied_lines replies (p ∷ ps) (x ∷ xs) t =
     let first = ap answer_line t.0 in
     let rest = replied_lines replies ps xs t.1 in
     (λ i. first i ∷ rest i)
+
+abbrev is_several : Ask → Bool
+is_several (ToOpenAll context messages) = true
+is_several ask = false
+
+-- an opening of several messages keeps its guess
+keeps_several : (plan : Plan) (call : CallLine)
+    → keeps_guess call ≡ is_several (asked_by plan call)
+keeps_several plan (calls.UnsealAll context first count) = refl
+keeps_several plan call = refl
 
 module _ (plan : Plan) (contexts : List (Option SharedView)) (counter : Option (Bor CounterView))
     (k : ℕ) (call : CallLine) (w : LaneWork) (may : MayAnswer plan contexts counter k call w)
@@ -117,23 +127,23 @@ module _ (plan : Plan) (contexts : List (Option SharedView)) (counter : Option (
   -- ---- the passes
 
   abbrev old : PassView
-  old = o.peeks.pass
+  old = o.guesses.pass
 
   abbrev seen_then : PassView
-  seen_then = o.peeks.after
+  seen_then = o.guesses.after
 
   was : pass_at w.passes.items n ≡ Some old
-  was = ap (pass_at w.passes.items) n_is ∙ o.peeks.was
+  was = ap (pass_at w.passes.items) n_is ∙ o.guesses.was
 
   of : IsPassAt s lane k old
   of = answering.pass_known plan contexts counter k call w may free s stands old was
 
   low : context_of call < length w.passes.items
-  low = pass_within w.passes.items (context_of call) old o.peeks.was
+  low = pass_within w.passes.items (context_of call) old o.guesses.was
 
   same_pass : o.commits.pass ≡ seen_then
   same_pass = one_pass o.commits.pass seen_then
-      (sym o.commits.was ∙ ap (λ ps. pass_at ps (context_of call)) o.peeks.passes
+      (sym o.commits.was ∙ ap (λ ps. pass_at ps (context_of call)) o.guesses.passes
       ∙ pass_same w.passes.items (context_of call) seen_then low)
 
   committed : HasCommitted seen_then o.commits.after o.commits.seat o.commits.back k
@@ -142,21 +152,21 @@ module _ (plan : Plan) (contexts : List (Option SharedView)) (counter : Option (
       (opening_steps s.context first plan.pool items) first) same_pass o.commits.has_committed
 
   abbrev os : List Entry
-  os = o.peeks.has_peeked.others.0 ++ committed.others.0
+  os = o.guesses.has_guessed.others.0 ++ committed.others.0
 
   number_then : seen_then.number ≡ lane
-  number_then = o.peeks.has_peeked.after.number ∙ of.number
+  number_then = o.guesses.has_guessed.after.number ∙ of.number
 
-  first_none : own lane o.peeks.has_peeked.others.0 ≡ []
-  first_none = subst (λ i. own i o.peeks.has_peeked.others.0 ≡ []) of.number
-      o.peeks.has_peeked.others.2
+  first_none : own lane o.guesses.has_guessed.others.0 ≡ []
+  first_none = subst (λ i. own i o.guesses.has_guessed.others.0 ≡ []) of.number
+      o.guesses.has_guessed.others.2
 
   last_none : own lane committed.others.0 ≡ []
   last_none = subst (λ i. own i committed.others.0 ≡ []) number_then committed.others.2
 
   both_seen : seen_then.seen ++ committed.others.0 ≡ old.seen ++ os
-  both_seen = ap (λ es. es ++ committed.others.0) o.peeks.has_peeked.others.1
-      ∙ append_assoc old.seen o.peeks.has_peeked.others.0 committed.others.0
+  both_seen = ap (λ es. es ++ committed.others.0) o.guesses.has_guessed.others.1
+      ∙ append_assoc old.seen o.guesses.has_guessed.others.0 committed.others.0
 
   due_is : first ≡ seq_of (old.seen ++ os)
   due_is = committed.due ∙ ap seq_of (committed.others.1 ∙ both_seen)
@@ -176,6 +186,7 @@ module _ (plan : Plan) (contexts : List (Option SharedView)) (counter : Option (
       (map unseal messages) guess misses
   opens messages is =
       let ms = map unseal messages in
+      let keeps = keeps_several plan call ∙ ap is_several (sym ask_is ∙ is) in
       let fs = committed.first in
       let peeked = seen_then.seen in
       let base = opening_shows c peeked committed.others.0 lane k fs ms last_none in
@@ -187,7 +198,7 @@ module _ (plan : Plan) (contexts : List (Option SharedView)) (counter : Option (
       (missed (seq_of peeked) 0 (numbers_from c d ms))) (sym due_is) one in
       let three = subst (λ g. OpeningShows c
       ((old.seen ++ os) ++ entries_from lane k 0 fs (steps_from c first ms)) lane k ms g
-      (missed g 0 (numbers_from c first ms))) (sym o.peeks.has_peeked.due) two in
+      (missed g 0 (numbers_from c first ms))) (sym (o.guesses.has_guessed.due keeps)) two in
       let four = subst (λ xs. OpeningShows c
       ((old.seen ++ os) ++ entries_from lane k 0 fs (steps_from c first xs)) lane k ms guess
       (missed guess 0 (numbers_from c first xs))) (sym (ap items_in is)) three in
@@ -207,8 +218,8 @@ module _ (plan : Plan) (contexts : List (Option SharedView)) (counter : Option (
       → LaneIsAt plan contexts counter lane (k + 1) (with_progress o.committed p)
   opened_on p answered room =
       let cm = committed in
-      let seat_had : w.seat ≡ Some o.commits.seat = sym o.peeks.seat ∙ o.commits.had in
-      let lock_then : seen_then.lock ≡ s.lock = o.peeks.has_peeked.after.lock ∙ of.of in
+      let seat_had : w.seat ≡ Some o.commits.seat = sym o.guesses.seat ∙ o.commits.had in
+      let lock_then : seen_then.lock ≡ s.lock = o.guesses.has_guessed.after.lock ∙ of.of in
       let size : length (opening_steps s.context first plan.pool items)
       ≡ length (steps_from c first (items_in a)) = ap length steps_is in
       turned plan contexts counter lane k call may.at w t (with_progress o.committed p) old
@@ -216,10 +227,10 @@ module _ (plan : Plan) (contexts : List (Option SharedView)) (counter : Option (
         stands = stands;
         was = was;
         passes = o.commits.passes
-            ∙ ap (λ ps. slice_set ps (context_of call) (Some o.commits.after)) o.peeks.passes
+            ∙ ap (λ ps. slice_set ps (context_of call) (Some o.commits.after)) o.guesses.passes
             ∙ set-set w.passes.items (context_of call) (Some seen_then) (Some o.commits.after)
             ∙ ap (λ j. slice_set w.passes.items j (Some o.commits.after)) (sym n_is);
-        of_others = own-append lane o.peeks.has_peeked.others.0 cm.others.0
+        of_others = own-append lane o.guesses.has_guessed.others.0 cm.others.0
             ∙ (λ i. first_none i ++ last_none i);
         due_is = due_is;
         enough = (let known = answering.low_known plan contexts counter k call w may free s stands
@@ -230,9 +241,9 @@ module _ (plan : Plan) (contexts : List (Option SharedView)) (counter : Option (
         pass_is = record {
           of = cm.after.lock ∙ lock_then;
           number = cm.after.number ∙ number_then;
-          turns = (let x = cm.after.turns in let y = o.peeks.has_peeked.after.turns in
+          turns = (let x = cm.after.turns in let y = o.guesses.has_guessed.after.turns in
               let z = of.turns in omega arith);
-          next = (let before = o.peeks.has_peeked.next_call in let late = of.next in
+          next = (let before = o.guesses.has_guessed.next_call in let late = of.next in
               let x = cm.next_call in
               let most = next_within seen_then.number k 0 cm.first seen_then.next_call
               (opening_steps s.context first plan.pool items) (omega arith) in omega arith);
@@ -240,7 +251,7 @@ module _ (plan : Plan) (contexts : List (Option SharedView)) (counter : Option (
         opens = opens;
         answered = answered;
         room = room;
-        lane_same = o.commits.same.lane ∙ o.peeks.same.lane;
+        lane_same = o.commits.same.lane ∙ o.guesses.same.lane;
         seat = subst (HasSeat counter (cm.first + length (steps_from c first (items_in a))))
             (sym o.commits.seat_is)
             (subst (λ i. HasSeat counter (cm.first + i) (Some o.commits.back)) size
@@ -248,8 +259,8 @@ module _ (plan : Plan) (contexts : List (Option SharedView)) (counter : Option (
             o.commits.seat o.commits.back cm.before cm.first
             (length (opening_steps s.context first plan.pool items)) lock_then cm.stamps));
         rows = ap (λ (x : TableView). x.room) o.commits.same.table ∙ o.rows;
-        steps = o.commits.room ∙ ap length o.peeks.steps;
-        checks = (let x = o.commits.checks in let y = o.peeks.checks in
+        steps = o.commits.room ∙ ap length o.guesses.steps;
+        checks = (let x = o.commits.checks in let y = o.guesses.checks in
             let most = few_missed s.context first plan.pool items o.table.guess in
             let is = o.commits.missed_is in let i = few in omega arith);
       })

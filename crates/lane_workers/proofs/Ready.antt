@@ -27,7 +27,7 @@ use Rattle.due_replies.specs.Standing.{refusal_on}
 use Rattle.due_replies.specs.Asks.{ask_of, asked_by}
 use Rattle.lane_workers.specs.declared.works.LaneWork.{LaneWork}
 use Rattle.lane_replies.specs.LaneCalls.{opening_items, IsOpening}
-use Rattle.lane_workers.specs.Turns.{shared_at, pass_at, views, with_table, CanTurn, Draws, Peeks}
+use Rattle.lane_workers.specs.Turns.{shared_at, pass_at, views, with_table, CanTurn, Draws, Guesses}
 use Rattle.lane_workers.specs.Lanes.{MayServe}
 use Rattle.lane_workers.proofs.Answering as answering
 use Rattle.lane_workers.proofs.Answering.{standing_is, one_pass}
@@ -127,9 +127,9 @@ module _ (plan : Plan) (contexts : List (Option SharedView)) (counter : Option (
     pub look_turn : CanTurn w s counter (context_of call) k 0
     look_turn = turn_at open_context 0 (omega arith)
 
-    -- after the look
+    -- after the guess
     pub commit_turn : (mid : LaneWork) (guess : ℕ) (table : TableView)
-        → Peeks w mid (context_of call) guess
+        → Guesses w mid call (context_of call) guess
         → CanTurn (with_table mid table) s counter (context_of call) k
         (length (opening_items plan call))
     commit_turn mid guess table d =
@@ -140,7 +140,7 @@ module _ (plan : Plan) (contexts : List (Option SharedView)) (counter : Option (
         let of = answering.pass_known plan contexts counter k call w m.may m.free s
         (stands_at open_context) d.pass was in
         let same : t.pass ≡ d.pass = one_pass t.pass d.pass (sym t.holds ∙ d.was) in
-        let h = d.has_peeked in
+        let h = d.has_guessed in
         let may = t.may in
         let own_same : own w.lane d.after.seen ≡ own w.lane d.pass.seen =
         ap (own w.lane) h.others.1 ∙ own-append w.lane d.pass.seen h.others.0

@@ -5,7 +5,7 @@ use Rattle.call_places.specs.declared.entries.Place.{Place}
 use Rattle.call_places.specs.declared.entries.Entry.{Entry}
 use Rattle.call_places.specs.Entries.{seq_of, own}
 use Rattle.hpke_context.specs.Answers.{Item, Cipher, Answer, answer, next, run}
-use Rattle.context_books.specs.Batches.{Batch, Ask, items_in, context_in, block, place, asked, all_asked, on, lane_of, lane_places}
+use Rattle.context_books.specs.Batches.{Batch, Ask, items_in, context_in, block, place, asked, all_asked, on, lane_of}
 use Rattle.context_books.specs.Guesses.{missed}
 use Rattle.context_books.specs.Entries.{step_for, entry_places, number_after, numbers_from, steps_from, entries_from}
 use Rattle.context_books.proofs.Lists.{on-append, on-spots, all_asked-append, append-nil}

@@ -17,11 +17,11 @@ use Rattle.batch_plans.specs.Replies.{IsPrintable}
 use Rattle.lane_replies.specs.LaneCalls.{lane_calls}
 use Rattle.lane_workers.specs.declared.works.LaneWork.{LaneWork}
 use Rattle.lane_workers.specs.declared.live_lane.LiveLane.{LiveLane}
-use Rattle.lane_workers.specs.Groups.{Each, EachServed}
+use Rattle.lane_workers.specs.Groups.{Each, EachServed, answers_in}
 use Rattle.lane_workers.specs.LiveLanes.{LiveView, standing, AreSharedLive, AddsAre, LiveLaneIsAt}
 use Rattle.lane_workers.specs.LiveServed.{LiveLaneIsServed}
 use Rattle.lane_workers.specs.Returned.{IsGiven}
-use Rattle.lane_workers.specs.Served.{seen_of}
+use Rattle.lane_workers.specs.Served.{seen_of, seen_by}
 use Rattle.lane_workers.specs.Turns.{shared_at, pass_at}
 
 -- ---- before its first call
@@ -57,13 +57,19 @@ AllFreshLive v ls = Each (IsFreshLive v) ls
 
 -- ---- after its last call
 
--- the lane has made all its calls
+-- for the proofs: the lane has made all its calls
 abbrev pub IsDoneLive : LiveView → LiveLane → Type 0
 IsDoneLive v l =
     let n = length (lane_calls v.plan l.work.lane) in LiveLaneIsAt v l.work.lane n n l
 
+-- The lane was served: its passes of the table and of the contexts, and its answers, show what
+-- `LiveLaneIsServed` says, by whichever replies the `add` lines have in the set-up.
 pub record IsServedLive (v : LiveView) (old new : LiveLane) : Type 0 where
   pub lane : new.work.lane ≡ old.work.lane
+  pub served : (replies : List ContextReply) → AddsAre v.plan replies
+      → LiveLaneIsServed v.plan replies (standing v) old.work.lane (seen_by new.pass)
+      new.work.passes.items (answers_in new.work)
+  -- for the proofs: it has made all its calls
   pub done : IsDoneLive v new
 
 abbrev pub AllServedLive : LiveView → List LiveLane → List LiveLane → Type 0

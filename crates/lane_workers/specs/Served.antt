@@ -1,22 +1,20 @@
 -- What stands once a lane is served: what it has seen of each context, its replies, and its guesses.
-use Rattle.std.specs.Prelude.{ℕ, ◌≡◌, List, [], ◌∷◌, ◌++◌, map, Option, Some, None, slice_index_or}
-use Rattle.call_places.specs.Spans.{span_bytes}
+use Rattle.std.specs.Prelude.{ℕ, ◌≡◌, List, [], ◌++◌, Option, Some, None, slice_index_or}
 use Rattle.call_places.specs.declared.entries.Entry.{Entry}
 use Rattle.call_places.specs.declared.entries.Place.{Place}
 use Rattle.turn_lock.specs.Passes.{PassView}
 use Rattle.hpke_context.specs.Answers.{Answer}
 use Rattle.hpke_context.specs.Contexts.{ContextView}
-use Rattle.context_books.specs.Batches.{block, place, lane_of}
+use Rattle.context_books.specs.Batches.{lane_of}
 use Rattle.context_books.specs.Guesses.{guess_at}
 use Rattle.lane_workers.specs.Showing.{LaneShows, OpeningsShow, StampsInOrder}
 use Rattle.batch_plans.specs.declared.plan.Plan.{Plan}
 use Rattle.batch_plans.specs.declared.plan.CallLine.{CallLine}
-use Rattle.batch_plans.specs.declared.plan.CallLine.TheVariants as calls
 use Rattle.batch_plans.specs.declared.replies.LaneAnswers.{LaneAnswers}
 use Rattle.batch_plans.specs.Replies.{IsPrintable}
 use Rattle.batch_plans.specs.Lines.{batch_line}
 use Rattle.batch_plans.specs.ReplyText.{numbered, all_lines, answered_lines}
-use Rattle.due_replies.specs.Standing.{standing_at, call_refusal}
+use Rattle.due_replies.specs.Standing.{call_refusal}
 use Rattle.due_replies.specs.Asks.{batch_of, cipher_at}
 use Rattle.due_replies.specs.Runs.{answer_line, lines_of_items, guess_lines, lines_unless}
 

@@ -1,19 +1,20 @@
 -- ---- for the proofs: one turn of a lane at a context, and what it leaves as it was.
-use Rattle.std.specs.Prelude.{ℕ, ◌≡◌, ◌+◌, ◌<◌, ◌≤◌, List, length, map, take, slice_index_or, slice_set, sum_by, Option, Some, None}
+use Rattle.std.specs.Prelude.{ℕ, ◌≡◌, ◌+◌, ◌<◌, ◌≤◌, true, List, length, map, take, slice_index_or, slice_set, sum_by, Option, Some, None}
 use Rattle.std.specs.Borrow.{Bor}
 use Rattle.call_places.specs.declared.spans.Item.{Item}
-use Rattle.turn_lock.specs.Passes.{PassView}
+use Rattle.call_places.specs.Entries.{seq_of}
+use Rattle.turn_lock.specs.Passes.{PassView, AddedByOthers}
 use Rattle.stamp_counter.specs.Seats.{SeatView, CounterView}
 use Rattle.hpke_context.specs.Answers.{run}
 use Rattle.hpke_context.specs.Contexts.{ContextView, cipher_of}
 use Rattle.context_books.specs.declared.book.Draw.{Draw}
 use Rattle.context_books.specs.Openings.{opening_steps, opening_misses, unseals}
 use Rattle.shared_context.specs.Stamped.{IsNote}
-use Rattle.shared_context.specs.Calls.{SharedView, MayCall, HasDrawn, HasPeeked, HasCommitted}
+use Rattle.shared_context.specs.Calls.{SharedView, MayCall, HasDrawn, HasCommitted}
 use Rattle.speculative_open.specs.Tables.{TableView}
 use Rattle.batch_plans.specs.declared.plan.Plan.{Plan}
 use Rattle.batch_plans.specs.declared.plan.CallLine.{CallLine}
-use Rattle.batch_plans.specs.Calls.{context_of}
+use Rattle.batch_plans.specs.Calls.{context_of, keeps_guess}
 use Rattle.batch_plans.specs.Room.{opened_room}
 use Rattle.batch_plans.specs.Progress.{Progress}
 use Rattle.due_replies.specs.Runs.{answer_line}
@@ -87,11 +88,27 @@ pub record Draws (old new : LaneWork) (number call : ℕ) (drawn : Draw) : Type 
   pub steps : new.steps.items ≡ old.steps.items
   pub checks : new.checks ≡ old.checks
 
-pub record Peeks (old new : LaneWork) (number guess : ℕ) : Type 0 where
+-- the same pass, a turn later or in no turn more
+pub record IsSoonAfter (old new : PassView) : Type 0 where
+  pub lock : new.lock ≡ old.lock
+  pub number : new.number ≡ old.number
+  pub turns : new.turns ≤ old.turns + 1
+
+-- How the call of this line comes to its guess. An opening of several messages keeps its guess: it
+-- looks at the number that is due, and guesses that. An opening of one message may look too, or take
+-- no turn, and then it guesses any number. The pass comes back with what it had seen and entries of
+-- other passes, if it has looked.
+pub record HasGuessed (old new : PassView) (line : CallLine) (guess : ℕ) : Type 0 where
+  pub after : IsSoonAfter old new
+  pub next_call : new.next_call ≡ old.next_call
+  pub others : AddedByOthers old.number old.seen new.seen
+  pub due : keeps_guess line ≡ true → guess ≡ seq_of new.seen
+
+pub record Guesses (old new : LaneWork) (line : CallLine) (number guess : ℕ) : Type 0 where
   pub pass : PassView
   pub was : pass_at old.passes.items number ≡ Some pass
   pub after : PassView
-  pub has_peeked : HasPeeked pass after guess
+  pub has_guessed : HasGuessed pass after line guess
   pub passes : new.passes.items ≡ slice_set old.passes.items number (Some after)
   pub seat : new.seat ≡ old.seat
   pub same : IsSame old new
@@ -116,17 +133,18 @@ pub record Commits (old new : LaneWork) (view : ContextView) (number call : ℕ)
   pub missed_is : missed ≡ opening_misses view first pool items old.table.guess
   pub checks : new.checks ≤ old.checks + missed
 
--- an opening but for its guess: a look, the test of the tags, the commit, and the replies
+-- an opening, but that its guess isn't told yet: the guess, the test of the tags, the commit, and the
+-- replies
 pub record Opens (plan : Plan) (s : SharedView) (old new : LaneWork) (call : ℕ) (line : CallLine)
     (guess missed : ℕ) : Type 0 where
-  pub peeked : LaneWork
+  pub guessed : LaneWork
   pub table : TableView
   pub committed : LaneWork
   pub first : ℕ
-  pub peeks : Peeks old peeked (context_of line) guess
+  pub guesses : Guesses old guessed line (context_of line) guess
   pub guess_is : table.guess ≡ guess
   pub rows : table.room ≡ old.table.room
-  pub commits : Commits (with_table peeked table) committed s.context (context_of line) call plan.pool
+  pub commits : Commits (with_table guessed table) committed s.context (context_of line) call plan.pool
       (opening_items plan line) first missed
   pub progress : Progress
   pub puts : PutsReplies old.progress progress (sum_by opened_room (opening_items plan line))

@@ -1,6 +1,6 @@
 //! The calls of a lane.
 
-ghost use Rattle.std.specs.Prelude.{◌≡◌, ◌+◌, ◌<◌, ◌≤◌, ◌^◌, [], ◌∷◌, All, MatchOption, Some, None, length, map, take, sum_by};
+ghost use Rattle.std.specs.Prelude.{ℕ, ◌≡◌, ◌+◌, ◌<◌, ◌≤◌, ◌^◌, [], ◌∷◌, All, MatchOption, Some, None, length, map, take, sum_by};
 ghost use Rattle.call_places.specs.Spans.{IsInPool, ItemIsInPool, span_bytes};
 ghost use Rattle.hpke_context.specs.Answers.{run};
 ghost use Rattle.hpke_context.specs.Contexts.{CanSeal, CanOpen, HasCipher, cipher_of, export_limit, exported_by};
@@ -13,12 +13,12 @@ ghost use Rattle.due_replies.specs.Standing.{refusal_on};
 ghost use Rattle.shared_context.specs.Calls.{MayCall, HasCommitted};
 ghost use Rattle.shared_context.specs.Stamped.{IsNote};
 ghost use Rattle.lane_replies.specs.LaneCalls.{opening_items, IsOpening};
-ghost use Rattle.lane_workers.specs.Turns.{shared_at, view_of, with_table, with_progress, CanTurn, Draws, Peeks, Commits, Opens};
-ghost use Rattle.lane_replies.specs.LaneCalls.{lane_calls};
+ghost use Rattle.lane_workers.specs.Turns.{shared_at, view_of, with_table, with_progress, CanTurn, Draws, Guesses, Commits, Opens};
+ghost use Rattle.lane_workers.specs.Groups.{IsServed};
 ghost use Rattle.lane_workers.specs.Lanes.{AreShared, LaneIsAt};
 ghost use Rattle.lane_workers.specs.Readings.{Reading, MayAnswerAs, MayServeAs, IsOneOn};
 
-use crate::works::LaneWork;
+use crate::works::{LaneWork, LastOpening};
 use aes_gcm::Checks;
 use batch_io::{Gate, Point};
 use batch_plans::{Batch, CallLine, CallRefusal, Plan, context_of, refusal_by};
@@ -56,6 +56,12 @@ pub(crate) fn refusal_of(context: Option<&SharedContext>, call: &CallLine) -> Op
         context.export_limit() as u32,
         call,
     )
+}
+
+// The number that is due after these steps, where `first` was due before them.
+fn due_after(first: u64, steps: &[Step]) -> u64 {
+    let opened = steps.iter().filter(|step| step.advances()).count();
+    first.saturating_add(opened as u64)
 }
 
 // Commits items, whose steps go to the front of `steps`.
@@ -121,15 +127,36 @@ impl<R: Threads + Wait + Sync, G: Gate> Service<'_, R, G> {
         drawn
     }
 
-    // Looks at the number that is due.
-    fn guess(&self, work: &mut LaneWork, shared: &SharedContext, number: u32, call: u32) -> u64
-        requires turn { CanTurn work.old shared.now self.now.counter number call 0 }
-        ensures { Peeks work.old work.new number result }
+    // Takes a turn to look at the number that is due.
+    fn look(&self, work: &mut LaneWork, shared: &SharedContext, number: u32) -> u64
+        requires turn { (call : ℕ) × CanTurn work.old shared.now self.now.counter number call 0 }
+        ensures { (line : CallLine) → Guesses work.old work.new line number result }
     {
         let i = number as usize;
         let pass = work.passes[i].take().unwrap();
-        let (guess, pass) = shared.peek(self.rt, pass);
+        let (due, pass) = shared.peek(self.rt, pass);
         work.passes[i] = Some(pass);
+        due
+    }
+
+    // The number that the items of an opening are tested around, ahead of its turn. An opening of several
+    // messages keeps it, so it is one that was due. One of a single message may guess any number: where
+    // another one is due in its turn, the commit tests the tag again.
+    fn guess(
+        &self,
+        work: &mut LaneWork,
+        shared: &SharedContext,
+        number: u32,
+        call: u32,
+        line: &CallLine,
+    ) -> u64
+        requires turn { CanTurn work.old shared.now self.now.counter number call 0 }
+        ensures { Guesses work.old work.new line.now number result }
+    {
+        let guess = match work.guess_by_last(line) {
+            Some(due) => due,
+            None => self.look(work, shared, number),
+        };
         self.gate.reached(work.lane, call, Point::Guessed);
         guess
     }
@@ -200,6 +227,10 @@ impl<R: Threads + Wait + Sync, G: Gate> Service<'_, R, G> {
         );
         work.passes[i] = Some(pass);
         work.seat = Some(seat);
+        work.last_opening = Some(LastOpening {
+            context: number,
+            due: due_after(first, &work.steps[..items.len()]),
+        });
         (first, missed)
     }
 
@@ -228,7 +259,7 @@ impl<R: Threads + Wait + Sync, G: Gate> Service<'_, R, G> {
     {
         let items = items_of_opening(self.plan, line);
         let number = context_of(line);
-        let guess = self.guess(work, shared, number, call);
+        let guess = self.guess(work, shared, number, call, line);
         self.test(work, shared, guess, items);
         let (first, missed) = self.commit(work, shared, number, call, items);
         self.finish(work, shared, items, first);
@@ -335,8 +366,8 @@ impl<R: Threads + Wait + Sync, G: Gate> Service<'_, R, G> {
         requires there { work.old.lane < length self.now.plan.now.lanes }
         requires fresh { LaneIsAt self.now.plan.now self.now.contexts.now self.now.counter
             work.old.lane 0 work.old }
-        ensures { LaneIsAt self.now.plan.now self.now.contexts.now self.now.counter work.old.lane
-            (length (lane_calls self.now.plan.now work.old.lane)) work.new }
+        ensures { IsServed self.now.plan.now self.now.contexts.now self.now.counter work.old
+            work.new }
     {
         let lines = self.plan.lanes.as_slice()[work.lane as usize].as_slice();
         'calls: for (call, line) in lines.iter().enumerate() {

@@ -5,19 +5,23 @@
 //! neighbouring lanes, and serves them in order, each lane's calls in order. While a lane holds the
 //! context's turn, a seal draws its number and an opening commits its items, which also tests the
 //! tags that the guess missed. A lane encrypts, decrypts and tests tags ahead while it holds no
-//! turn (RFC 9180, 5.2).
+//! turn (RFC 9180, 5.2). An opening of several messages tells its guess, and takes a turn to look at
+//! the number that is due. One of a single message takes what was due after the lane's last opening,
+//! and looks only where that was on another context.
 //!
 //! [`take_passes`] hands a lane its passes of all contexts, and [`put_passes`] puts them back, as
 //! `specs/Handing.antt` says, so that each context can be closed over the passes that it gave.
 //!
-//! `LaneIsServed` of `specs/Served.antt` says what a served lane shows, by its own passes alone.
+//! After [`serve`] each lane is as `LaneIsServed` of `specs/Served.antt` says (`AllServed` of
+//! `specs/Groups.antt`): what a served lane shows, by its own passes alone.
 //! Once every lane was served and every context is closed, the law [`served_lanes_make_a_run`] says
 //! that their answers and journals are, with some guesses, those of a run that is allowed.
 //!
 //! A [`LiveLane`] adds and retires contexts while it is served, and looks one up before it calls
 //! it. It also has a pass of the table of names (live_table), and [`serve_live`] serves such lanes.
-//! `LiveLaneIsServed` of `specs/LiveServed.antt` says what it shows, and [`live_lanes_make_a_run`]
-//! says the same of all of them, of the closed contexts and of the closed table as the other law.
+//! After it each is as `LiveLaneIsServed` of `specs/LiveServed.antt` says (`AllServedLive` of
+//! `specs/LiveReturned.antt`), and [`live_lanes_make_a_run`] says the same of all of them, of the
+//! closed contexts and of the closed table as the other law.
 //!
 //! While threads serve lanes, each lane sees the first entries of every context, and knows only of its
 //! own entries that they are right. `AllShown` of `specs/Showing.antt` says what each lane then shows,

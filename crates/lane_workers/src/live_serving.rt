@@ -37,8 +37,10 @@ impl<R: Threads + Wait + Sync, G: Gate + Sync> ServesLanes<LiveLane> for LiveSer
 ///
 /// `contexts` has the contexts of the `add` lines behind those of the context lines, and `table` a name
 /// for each. The lanes are divided among the workers as by [`serve`](crate::serve), and `gate` is told
-/// of the same points. Takes no memory. It may wait for turns at the locks of the contexts and of the
-/// table.
+/// of the same points. In the end `LiveLaneIsServed` says of each lane what its passes of the table and
+/// of the contexts, and its answers, show.
+///
+/// Takes no memory. It may wait for turns at the locks of the contexts and of the table.
 pub fn serve_live<R: Threads + Wait + Sync, G: Gate + Sync>(
     rt: &R,
     plan: &Plan,

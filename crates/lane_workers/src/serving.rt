@@ -150,7 +150,10 @@ fn serve_beside<R: Threads + Sync, L: Send, S: ServesLanes<L> + Sync>(
 /// Serves the lanes of a plan by so many workers, from 1 to 16.
 ///
 /// The lanes are divided among the workers in groups that stand side by side, which have as many lanes
-/// with calls, or one less. No more workers are started than there are such lanes. `gate` is told after each draw, after each guess, and when a call's replies stand.
+/// with calls, or one less. No more workers are started than there are such lanes. `gate` is told after
+/// each draw, after each guess, and when a call's replies stand. In the end `LaneIsServed` says of each
+/// lane what its passes and its answers show.
+///
 /// Takes no memory. It may wait for turns at the contexts' locks.
 pub fn serve<R: Threads + Wait + Sync, G: Gate + Sync>(
     rt: &R,

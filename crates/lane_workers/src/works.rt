@@ -1,9 +1,10 @@
 //! A lane, with all that it needs to be served.
 
-ghost use Rattle.std.specs.Prelude.{ℕ, List, Option, ◌≡◌, ◌<◌, ◌≤◌, ◌^◌, All, IfOk, length};
+ghost use Rattle.std.specs.Prelude.{ℕ, List, Option, ◌≡◌, ◌<◌, ◌≤◌, ◌^◌, All, IfOk, IsSome, false, length};
 ghost use Rattle.std.specs.Borrow.{Bor};
 ghost use Rattle.stamp_counter.specs.Seats.{CounterView};
 ghost use Rattle.batch_plans.specs.declared.plan.Plan.{Plan};
+ghost use Rattle.batch_plans.specs.Calls.{keeps_guess};
 ghost use Rattle.batch_plans.specs.Limits.{items_of};
 ghost use Rattle.shared_context.specs.Calls.{SharedView};
 ghost use Rattle.lane_workers.specs.declared.works.LaneWork.{LaneWork};
@@ -12,7 +13,9 @@ ghost use Rattle.lane_workers.specs.Returned.{IsGiven, IsReturned};
 ghost use Rattle.lane_workers.specs.LiveReturned.{IsPrepared, HasAllAnswers, GivesParts};
 
 use aes_gcm::Checks;
-use batch_plans::{CallLine, LaneAnswers, LaneProgress, PlainList, Plan, items_of};
+use batch_plans::{
+    CallLine, LaneAnswers, LaneProgress, PlainList, Plan, context_of, items_of, keeps_guess,
+};
 use call_places::Step;
 use shared_context::SharedContext;
 use speculative_open::GuessTable;
@@ -27,6 +30,13 @@ pub type LanePasses = PlainList<Option<Pass>>;
 /// For each context line its context, where it stands.
 pub type SharedList = PlainList<Option<SharedContext>>;
 
+// An opening that a lane made: on which context, and the number that was due there after it.
+#[derive(Clone, Copy)]
+pub(crate) struct LastOpening {
+    pub(crate) context: u32,
+    pub(crate) due: u64,
+}
+
 /// A lane with its passes, its seat and its answers.
 #[derive(Drop)]
 pub struct LaneWork {
@@ -37,6 +47,7 @@ pub struct LaneWork {
     pub(crate) steps: Vec<Step>,
     pub(crate) checks: Checks,
     pub(crate) progress: LaneProgress,
+    pub(crate) last_opening: Option<LastOpening>,
 }
 
 // The most items of one call.
@@ -92,7 +103,19 @@ impl LaneWork {
             steps,
             checks: Checks::new(rt),
             progress: LaneProgress::new(answers),
+            last_opening: None,
         })
+    }
+
+    // A guess that takes no turn: what was due after the lane's last opening, where that was on the same
+    // context. It is for openings of one message, which keep no guess.
+    pub(crate) fn guess_by_last(&self, line: &CallLine) -> Option<u64>
+        ensures { IsSome result → keeps_guess line.now ≡ false }
+    {
+        match self.last_opening {
+            Some(last) if last.context == context_of(line) && !keeps_guess(line) => Some(last.due),
+            _ => None,
+        }
     }
 
     /// What the lane gives back, once all its replies and guesses were put.

@@ -13,10 +13,10 @@ use Rattle.due_replies.specs.Runs.{answer_line}
 use Rattle.lane_replies.specs.Writing.{PutsReplies}
 use Rattle.lane_workers.specs.declared.works.LaneWork.{LaneWork}
 use Rattle.lane_replies.specs.LaneCalls.{opening_items}
-use Rattle.lane_workers.specs.Turns.{CanTurn, Peeks, Commits, with_table}
+use Rattle.lane_workers.specs.Turns.{CanTurn, Guesses, Commits, with_table}
 use Rattle.lane_replies.specs.LaneCalls.{lane_calls}
 use Rattle.lane_workers.specs.Readings.{hears}
-use Rattle.lane_workers.proofs.Heard.{turn_of, tested_turn_of, peeks_heard, items_same, spans_here, call_here}
+use Rattle.lane_workers.proofs.Heard.{turn_of, tested_turn_of, guesses_heard, items_same, spans_here, call_here}
 use Rattle.lane_workers.proofs.Answering.{fits, finds_room}
 use Rattle.lane_workers.proofs.Ready.{can_open, look_turn, commit_turn}
 use Rattle.lane_replies.proofs.Within.{of_call, opening_count, opening_spans, opening_room}
@@ -82,7 +82,8 @@ commit-first-requires-clause-turn g c κs within =
     let w = c.args.work.now in
     let mid = c.guess-guess.new.work in
     let number = c.context_of-number.ensures in
-    let peeks = subst (λ j. Peeks w mid j c.guess-guess.result) number c.guess-guess.ensures in
+    let guesses = subst (λ j. Guesses w mid c.args.line.now j c.guess-guess.result) number
+    c.guess-guess.ensures in
     let r = c.requires.may.0 in
     let line = c.args.line.now in
     let table = c.test.new.work.table in
@@ -90,7 +91,7 @@ commit-first-requires-clause-turn g c κs within =
     (length (opening_items r.plan line))
     (commit_turn r.plan v.contexts.now v.counter c.args.call line s (hears r w) c.requires.may.1.may
     c.requires.opening (hears r mid) c.guess-guess.result table
-    (peeks_heard r w mid (context_of line) c.guess-guess.result peeks)) in
+    (guesses_heard r w mid line (context_of line) c.guess-guess.result guesses)) in
     subst (λ (x : LaneWork). CanTurn x s v.counter c.context_of-number.result c.args.call
     (length c.items_of_opening-items.result.now)) (sym c.test.ensures.same)
     (subst (λ j. CanTurn (with_table mid table) s v.counter j c.args.call
@@ -134,7 +135,7 @@ commit-first-requires-clause-room g c κs within =
     let is = ap length (c.items_of_opening-items.ensures
     ∙ sym (items_same r.plan v.plan.now c.args.line.now c.requires.may.1.bytes)) in
     let tested = ap (λ (x : LaneWork). length x.steps.items) c.test.ensures.same in
-    let peeked = ap length c.guess-guess.ensures.steps in
+    let guessed = ap length c.guess-guess.ensures.steps in
     omega arith
 
 pub finish-requires-clause-cipher : goal.finish-requires-clause-cipher
@@ -172,7 +173,7 @@ finish-requires-clause-few g c κs within =
     let is = ap length (c.items_of_opening-items.ensures
     ∙ sym (items_same r.plan v.plan.now c.args.line.now c.requires.may.1.bytes)) in
     let tested = ap (λ (x : LaneWork). length x.steps.items) c.test.ensures.same in
-    let peeked = ap length c.guess-guess.ensures.steps in
+    let guessed = ap length c.guess-guess.ensures.steps in
     let committed = c.commit-first.ensures.room in
     omega arith
 
@@ -227,11 +228,11 @@ returns g c =
     let same : done.new.work.progress ≡ w.progress = done.ensures.same.progress
     ∙ ap (λ (x : LaneWork). x.progress) c.test.ensures.same ∙ c.guess-guess.ensures.same.progress in
     record {
-      peeked = mid;
+      guessed = mid;
       table = c.test.new.work.table;
       committed = done.new.work;
       first = done.result.0;
-      peeks = subst (λ j. Peeks w mid j c.guess-guess.result) number c.guess-guess.ensures;
+      guesses = subst (λ j. Guesses w mid line j c.guess-guess.result) number c.guess-guess.ensures;
       guess_is = c.test.ensures.guess;
       rows = c.test.ensures.room ∙ ap (λ (x : TableView). x.room) c.guess-guess.ensures.same.table;
       commits = subst (λ (x : LaneWork). Commits x done.new.work view (context_of line) c.args.call pool

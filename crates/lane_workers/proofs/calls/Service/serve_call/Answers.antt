@@ -131,8 +131,8 @@ returns-in-Unseal g c = λ r t.
       enough = subst (λ (p : Progress). r.blanks ≤ p.left) now enough;
       later = λ low known.
           let late = opens_later v.counter low c.args.call r.plan s w new call guess missed o
-          (pass_of r.plan v.contexts.now v.counter c.args.call call s (hears r w) m o.peeks.pass
-          o.peeks.was) known in
+          (pass_of r.plan v.contexts.now v.counter c.args.call call s (hears r w) m o.guesses.pass
+          o.guesses.was) known in
           record { seat = late.seat; later = late.later };
       is_at = unsealed_on r.plan v.contexts.now v.counter c.args.call call (hears r w) m.may m.free s
           (stands_at r.plan v.contexts.now v.counter c.args.call call s (hears r w) m
@@ -177,8 +177,8 @@ returns-in-UnsealAll g c = λ r t.
       enough = subst (λ (x : Progress). r.blanks ≤ x.left) (sym put) enough;
       later = λ low known.
           let late = opens_later v.counter low c.args.call r.plan s w new call guess missed o
-          (pass_of r.plan v.contexts.now v.counter c.args.call call s (hears r w) m o.peeks.pass
-          o.peeks.was) known in
+          (pass_of r.plan v.contexts.now v.counter c.args.call call s (hears r w) m o.guesses.pass
+          o.guesses.was) known in
           record { seat = late.seat; later = late.later };
       is_at = subst (λ (x : LaneWork). LaneIsAt r.plan v.contexts.now v.counter w.lane
           (c.args.call + 1) (with_progress x (heard more p))) (sym o.new_is)

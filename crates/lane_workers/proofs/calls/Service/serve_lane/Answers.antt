@@ -9,6 +9,7 @@ use Rattle.lane_replies.specs.LaneCalls.{lane_calls}
 use Rattle.lane_workers.specs.Lanes.{AreShared, LaneIsAt}
 use Rattle.lane_workers.specs.declared.works.LaneWork.{LaneWork}
 use Rattle.lane_workers.specs.Readings.{as_it_is, hears, with_more, MayAnswerAs}
+use Rattle.lane_workers.proofs.Ended.{is_served}
 use Rattle.lane_workers.proofs.Heard.{is_as_it_is, is_as_it_was}
 use Rattle.lane_workers.proofs.Found.{lane_here}
 use Rattle.lane_replies.proofs.Within.{calls_few}
@@ -93,4 +94,10 @@ returns g c =
     ∙ ap (λ ls. get_or ls lane c.index-as_slice-work.result) c.as_slice.ensures.items) in
     let size = ap length (c.as_slice-lines.ensures.items ∙ found) in
     let all : c.calls.call ≡ length (lane_calls plan lane) = omega (arith, size) in
-    subst (λ k. LaneIsAt plan v.contexts.now v.counter lane k c.calls.work) all c.calls.invariant
+    let done = subst (λ k. LaneIsAt plan v.contexts.now v.counter lane k c.calls.work) all
+    c.calls.invariant in
+    record {
+      lane = c.calls.invariant.lane_is;
+      served = is_served plan v.contexts.now v.counter lane c.calls.work done;
+      is_at = done;
+    }

@@ -1,11 +1,17 @@
-use Rattle.std.proofs.Common.{◌≡◌, ◌+◌, ◌<◌, ℕ, Some, List, length, sym, ap, ◌∙◌, subst, arith, get_or}
+use Rattle.std.proofs.Common.{◌≡◌, ◌+◌, ◌<◌, ℕ, Option, Some, List, length, sym, ap, ◌∙◌, subst, arith, get_or}
 use Rattle.std.specs.Prelude.{slice_get}
 use Rattle.std.proofs.lemmas.Option.{slice_get-get_or}
 use Rattle.batch_plans.specs.declared.plan.CallLine.{CallLine}
 use Rattle.lane_replies.specs.LaneCalls.{lane_calls}
 use Rattle.lane_replies.proofs.Within.{calls_few}
 use Rattle.lane_workers.specs.declared.live_lane.LiveLane.{LiveLane}
-use Rattle.lane_workers.specs.LiveLanes.{LiveView, lives, AreSharedLive, LiveLaneIsAt, MayAnswerLive}
+use Rattle.turn_lock.specs.Passes.{PassView}
+use Rattle.lane_workers.specs.Groups.{answers_in}
+use Rattle.lane_workers.specs.LiveLanes.{LiveView, lives, standing, AreSharedLive, LiveLaneIsAt, MayAnswerLive}
+use Rattle.lane_workers.specs.LiveReturned.{IsDoneLive}
+use Rattle.lane_workers.specs.LiveServed.{LiveLaneIsServed}
+use Rattle.lane_workers.specs.Served.{seen_by}
+use Rattle.lane_workers.proofs.LiveEnded.{is_served}
 use Rattle.lane_workers.proofs.Found.{lane_here}
 use Rattle.lane_workers.proofs.live_calls.LiveService.serve_lane.Goals as goal
 
@@ -71,11 +77,19 @@ returns g c =
     let found = lane_here v.plan.lanes lane c.index-as_slice-lane.result c.requires.fresh.there
     (c.index-as_slice-lane.is
     ∙ ap (λ ls. get_or ls lane c.index-as_slice-lane.result) c.as_slice.ensures.items) in
-    let same = ap length (c.as_slice-lines.ensures.items ∙ found) in
+    let size = ap length (c.as_slice-lines.ensures.items ∙ found) in
     let end : c.calls.call ≡ length (lane_calls v.plan lane) = omega arith in
+    let l = c.calls.lane in
+    let same = c.calls.invariant.lane_is in
+    let done : IsDoneLive v l =
+    subst (λ i. LiveLaneIsAt v i (length (lane_calls v.plan i)) (length (lane_calls v.plan i)) l)
+    (sym same) (subst (λ n. LiveLaneIsAt v lane n n l) end c.calls.invariant) in
     record {
-      lane = c.calls.invariant.lane_is;
-      done = subst (λ i. LiveLaneIsAt v i (length (lane_calls v.plan i)) (length (lane_calls v.plan i))
-          c.calls.lane) (sym c.calls.invariant.lane_is)
-          (subst (λ n. LiveLaneIsAt v lane n n c.calls.lane) end c.calls.invariant);
+      lane = same;
+      served = λ replies adds. subst (λ i. LiveLaneIsServed v.plan replies (standing v) i (seen_by l.pass)
+          l.work.passes.items (answers_in l.work)) same
+          (subst (λ (p : Option PassView). LiveLaneIsServed v.plan replies (standing v) l.work.lane
+          (seen_by p) l.work.passes.items (answers_in l.work)) (sym done.holds)
+          (is_served v c.requires.shared l done replies adds));
+      done = done;
     }

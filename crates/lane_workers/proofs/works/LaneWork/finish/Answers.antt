@@ -10,4 +10,5 @@ returns-clause-served c = λ plan contexts counter done.
     let e = c.finish.ensures in
     subst (λ (ps : List (Option PassView)). IsReturned plan contexts counter w.lane ps w.seat
     c.finish.result) (sym c.from_vec.ensures.items)
-    (ends plan contexts counter w.lane w done c.finish.result e.pool e.replies e.batches e.printable)
+    (ends plan contexts counter w.lane w done c.finish.result
+    (λ i. record { pool = e.pool i; replies = e.replies i; batches = e.batches i }))

@@ -1,4 +1,4 @@
-use Rattle.std.proofs.Common.{◌≡◌, ◌≤◌, ◌∙◌, List, Option, All, refl, ap, get_or, sym, subst}
+use Rattle.std.proofs.Common.{◌≡◌, ◌≤◌, ◌∙◌, List, Option, None, All, refl, ap, get_or, sym, subst}
 use Rattle.turn_lock.specs.Passes.{PassView}
 use Rattle.batch_plans.specs.Limits.{items_of}
 use Rattle.batch_plans.specs.declared.plan.CallLine.{CallLine}
@@ -22,6 +22,7 @@ returns g c =
       steps = c.in_ok-table.steps;
       checks = c.new.result;
       progress = c.new-2.result;
+      last_opening = None;
     } in
     let found = lane_here plan.lanes lane c.index-as_slice-lane.result c.requires.there
     (c.index-as_slice-lane.is
