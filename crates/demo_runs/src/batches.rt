@@ -27,22 +27,38 @@ pub struct ServedBatch {
     pub answers: Answers,
 }
 
+// What a plan's keys and contexts are, and the memory for its answers.
+fn prepared(alloc: Global, plan: &Plan) -> Result<(PlainList<Option<Context>>, Answers), AllocError>
+    requires within { IsWithinLimits plan.now }
+    requires plain { IsPlain plan.now }
+    ensures { IfOk result (λ made. IsBegun plan.now
+        (record { plan = plan.now; standing = made.0; answers = made.1 })) }
+{
+    let Setup {
+        keys,
+        contexts,
+        standing,
+    } = set_up(alloc, plan, &Plain)?;
+    let limits = export_limits(alloc, standing.as_slice())?;
+    let answers = Answers::for_plan(alloc, plan, keys, contexts, &limits)?;
+    Ok((standing, answers))
+}
+
 /// Sets a plan's keys and contexts up, and takes the memory for its answers.
 pub(crate) fn begin(alloc: Global, plan: Plan) -> Result<DemoBatch, AllocError>
     requires within { IsWithinLimits plan }
     requires plain { IsPlain plan }
     ensures { IfOk result (IsBegun plan) }
 {
-    let Setup {
-        keys,
-        contexts,
-        standing,
-    } = set_up(alloc, &plan, &Plain)?;
-    let limits = export_limits(alloc, standing.as_slice())?;
-    let answers = Answers::for_plan(alloc, &plan, keys, contexts, &limits)?;
-    Ok(DemoBatch {
-        plan,
-        standing,
-        answers,
-    })
+    match prepared(alloc, &plan) {
+        Ok((standing, answers)) => Ok(DemoBatch {
+            plan,
+            standing,
+            answers,
+        }),
+        Err(fault) => {
+            drop(plan);
+            Err(fault)
+        }
+    }
 }

@@ -72,5 +72,7 @@ pub(crate) fn opened_messages(messages: u32, served: ServedBatch) -> u32
     ensures { result ≡ messages }
 {
     ends_match();
-    count_opened(&served.answers.lanes.as_slice()[0], messages)
+    let opened = count_opened(&served.answers.lanes.as_slice()[0], messages);
+    drop(served);
+    opened
 }

@@ -97,16 +97,16 @@ pub fn begin_sealing(
     ensures { IfOk result (λ found.
         MatchOption found (IsSealed seed messages None) (IsSealing seed messages)) }
 {
+    let room = vec![in alloc; [0; CIPHERTEXT_SIZE]; messages as usize]?;
     let plan = sealing_batch(alloc, seed, messages, lanes)?;
     let batch = begin(alloc, plan)?;
-    if !is_generated(batch.answers.keys.as_slice()) {
-        return Ok(None);
+    if is_generated(batch.answers.keys.as_slice()) {
+        let room = PlainList::from_vec(room);
+        Ok(Some(Sealing { batch, room }))
+    } else {
+        drop(batch);
+        Ok(None)
     }
-    let room = vec![in alloc; [0; CIPHERTEXT_SIZE]; messages as usize]?;
-    Ok(Some(Sealing {
-        batch,
-        room: PlainList::from_vec(room),
-    }))
 }
 
 /// The ciphertexts of the first batch in number order, once its lanes were served. `room` is the room
@@ -118,5 +118,6 @@ pub fn ciphertexts(served: ServedBatch, mut room: Ciphertexts) -> Ciphertexts
         → IsSealed seed messages (Some result) }
 {
     put_lanes(&served.plan, &served.answers, room.as_mut_slice());
+    drop(served);
     room
 }

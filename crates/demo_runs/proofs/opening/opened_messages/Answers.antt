@@ -6,7 +6,7 @@ bounds-as_slice-0 c =
     lane_there c.requires.0 c.args.messages c.requires.1 c.args.served c.ends_match.ensures c.requires.2
     c.as_slice.result.now c.as_slice.ensures.items
 
-pub count_opened-requires : goal.count_opened-requires
-count_opened-requires c =
+pub count_opened-opened-requires : goal.count_opened-opened-requires
+count_opened-opened-requires c =
     opened_lane c.requires.0 c.args.messages c.requires.1 c.args.served c.ends_match.ensures c.requires.2
     c.index-as_slice-0.result c.as_slice.result.now c.as_slice.ensures.items c.index-as_slice-0.is
