@@ -11,7 +11,6 @@ use Rattle.context_books.specs.Batches.{Ask, on, all_asked, items_of}
 use Rattle.context_books.specs.Entries.{numbers_from}
 use Rattle.context_books.specs.Histories.{marks_at, places}
 use Rattle.context_books.specs.Legal.{Legal}
-use Rattle.context_books.proofs.Checking.{legal_iff}
 use Rattle.context_books.proofs.Legals.{lane_is}
 use Rattle.context_books.specs.Lists.{In}
 use Rattle.batch_plans.specs.declared.plan.Plan.{Plan}
