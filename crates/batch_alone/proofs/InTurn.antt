@@ -2,8 +2,7 @@
 -- with the places of calls it is one list.
 use Rattle.std.proofs.Common.{◌≡◌, ◌≢◌, ℕ, zero, suc, ◌+◌, ◌*◌, ◌<◌, ◌≤◌, ◌==◌, ◌||◌, ◌&&◌, Bool, true, false, cond, List, [], ◌∷◌, ◌++◌, length, map, drop, Option, Some, None, sym, refl, ap, ◌∙◌, subst, arith, append_assoc, append-nil, length-append, eq-eqb, ne_eqb, eqb-true, ◌⊎◌, inl, inr, if◌then◌else◌}
 use Rattle.std.specs.Prelude.{slice_get, slice_index_or, nat_lt, Contains}
-use Rattle.std.specs.List.{list_any, range_with_len}
-use Rattle.std.proofs.lemmas.Bool.{cases_eq}
+use Rattle.std.specs.List.{range_with_len}
 use Rattle.std.proofs.lemmas.List.{map-append}
 use Rattle.std.proofs.lemmas.List.FromFn.{length-range_with_len}
 use Rattle.call_places.specs.declared.entries.Entry.{Entry}
@@ -12,7 +11,7 @@ use Rattle.call_places.specs.declared.entries.Step.TheVariants.{Note}
 use Rattle.call_places.specs.Notes.{note_entry, live_at, AreLive}
 use Rattle.call_places.proofs.Live.{AreLive-push}
 use Rattle.hpke_context.specs.Contexts.{ContextView}
-use Rattle.context_books.specs.Batches.{Ask, Nothing, ToSeal, Batch, Spot, spots, block, place, items_in, context_in, item_in, asked, all_asked}
+use Rattle.context_books.specs.Batches.{Ask, Spot, spots, block, place, items_in, context_in, asked, all_asked}
 use Rattle.context_books.specs.Histories.{stamped_on}
 use Rattle.context_books.specs.Legal.{is_same_place}
 use Rattle.context_books.specs.Lists.{In}
@@ -26,7 +25,7 @@ use Rattle.batch_plans.specs.Names.{at_position}
 use Rattle.batch_plans.specs.LiveText.{tells_live}
 use Rattle.batch_plans.specs.ReplyText.{numbered}
 use Rattle.due_replies.specs.Asks.{ask_of}
-use Rattle.due_replies.specs.Live.{Noting, noting, noting_in, was_live, looked_up, looked_up_plan}
+use Rattle.due_replies.specs.Live.{Noting, noting, noting_in, was_live, looked_up}
 use Rattle.due_replies.specs.LiveChecks.{note_ask, pairs, note_mark}
 use Rattle.result_lines.proofs.RunTexts.{drop_step}
 use Rattle.batch_alone.specs.Tables.{SoFar, next_stamp, tells, served, with_note, with_places, after_call, after_calls, after_lanes, nothing, table_of}

@@ -1,8 +1,8 @@
 -- The answers that a run makes of those of its rehearsal.
-use Rattle.std.proofs.Common.{◌≡◌, ◌<◌, ◌≤◌, ◌+◌, ℕ, List, [], ◌∷◌, ◌++◌, length, map, take, drop, get_or, Bool, true, false, Option, Some, None, sym, refl, ap, ◌∙◌, subst, arith}
-use Rattle.std.specs.Prelude.{slice_get, slice_index_or}
+use Rattle.std.proofs.Common.{◌≡◌, ◌<◌, ◌+◌, ℕ, List, [], ◌∷◌, length, map, take, drop, get_or, Bool, true, false, Option, Some, None, sym, ap, ◌∙◌, subst, arith}
+use Rattle.std.specs.Prelude.{slice_get}
 use Rattle.std.specs.List.{All, refill}
-use Rattle.std.proofs.lemmas.List.Elements.{All-nil, All-cons, All-head, All-tail, All-append, All-take, All-drop}
+use Rattle.std.proofs.lemmas.List.Elements.{All-nil, All-cons, All-tail, All-append, All-take, All-drop}
 use Rattle.std.proofs.lemmas.Option.{slice_get-get_or}
 use Rattle.call_places.specs.declared.entries.Entry.{Entry}
 use Rattle.call_places.specs.declared.entries.Mark.{Mark}
@@ -24,11 +24,10 @@ use Rattle.batch_plans.specs.Replies.{IsInRange, IsPrintable}
 use Rattle.batch_plans.specs.ReplyText.{reply_count, IsAnswered, UsesUp}
 use Rattle.due_replies.specs.Standing.{AreOfLines}
 use Rattle.due_replies.proofs.LookedUp.{calls_looked}
-use Rattle.result_lines.proofs.LookedLimits.{looked_lanes}
-use Rattle.batch_alone.specs.Own.{add_reply, retire_reply, own_reply, own_at, put_first, with_own, with_own_replies}
+use Rattle.batch_alone.specs.Own.{add_reply, retire_reply, own_reply, put_first, with_own, with_own_replies}
 use Rattle.batch_alone.specs.Tables.{table_of, restamped}
 use Rattle.batch_alone.proofs.OwnLines.{looked_uses}
-use Rattle.batch_alone.proofs.Whole.{placed, rehearsal, table_notes, IsMade}
+use Rattle.batch_alone.proofs.Whole.{placed, rehearsal, IsMade}
 
 -- ---- own replies can be printed
 

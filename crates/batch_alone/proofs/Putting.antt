@@ -1,6 +1,6 @@
 -- What the loops put, step by step.
-use Rattle.std.proofs.Common.{◌≡◌, ◌<◌, ◌≤◌, ◌+◌, ℕ, zero, suc, List, [], ◌∷◌, ◌++◌, length, map, take, drop, get_or, set, Option, Some, None, sym, refl, ap, ◌∙◌, subst, arith, append_assoc, append-nil, length-append, length-take-le}
-use Rattle.std.specs.Prelude.{slice_get, slice_set}
+use Rattle.std.proofs.Common.{◌≡◌, ◌<◌, ◌≤◌, ◌+◌, ℕ, suc, List, [], ◌∷◌, ◌++◌, length, map, take, drop, get_or, Option, Some, None, sym, refl, ap, ◌∙◌, subst, arith, append_assoc, length-append, length-take-le}
+use Rattle.std.specs.Prelude.{slice_get}
 use Rattle.std.specs.List.{range_with_len}
 use Rattle.std.proofs.lemmas.List.{ext_get_or, get_or-map, length-map, map-id, take-append-drop}
 use Rattle.std.proofs.lemmas.List.FromFn.{map-range_with_len_more, length-range_with_len}
@@ -8,7 +8,7 @@ use Rattle.std.proofs.Math.Seq.{take-append_seam, drop-append_seam, set-append_s
 use Rattle.batch_plans.specs.declared.plan.CallLine.{CallLine}
 use Rattle.batch_plans.specs.declared.replies.Batch.{Batch}
 use Rattle.batch_plans.specs.declared.replies.Reply.{Reply}
-use Rattle.batch_plans.specs.ReplyText.{reply_count, HasReplies, UsesUp}
+use Rattle.batch_plans.specs.ReplyText.{reply_count, UsesUp}
 use Rattle.batch_alone.specs.Own.{put_first, put_at, with_own}
 use Rattle.batch_alone.specs.Tables.{SoFar, next_stamp, with_places}
 use Rattle.batch_alone.proofs.OwnLines.{uses_first, with_own-first, first_of}

@@ -1,5 +1,5 @@
 -- Where no context counts as added, the room for a plan is that for its calls as they stand.
-use Rattle.std.proofs.Common.{◌≡◌, ◌+◌, ◌-◌, ◌<◌, ◌≤◌, ℕ, Bool, true, false, List, [], ◌∷◌, length, map, replicate, Option, Some, None, sym, refl, ap, ◌∙◌, subst, arith, if◌then◌else◌, ◌⊎◌, inl, inr}
+use Rattle.std.proofs.Common.{◌≡◌, ◌+◌, ◌-◌, ◌≤◌, ℕ, Bool, true, false, List, [], ◌∷◌, length, map, replicate, Option, Some, None, sym, refl, ap, ◌∙◌, arith, if◌then◌else◌, ◌⊎◌, inl, inr}
 use Rattle.std.specs.Prelude.{nat_lt, sum_by}
 use Rattle.std.specs.List.{range_with_len}
 use Rattle.std.proofs.lemmas.Bool.{ltb-false}
@@ -11,14 +11,12 @@ use Rattle.batch_plans.specs.declared.plan.CallLine.{CallLine}
 use Rattle.batch_plans.specs.declared.plan.CallLine.TheVariants as calls
 use Rattle.batch_plans.specs.declared.replies.KeyReply.{KeyReply}
 use Rattle.batch_plans.specs.declared.replies.ContextReply.{ContextReply}
-use Rattle.batch_plans.specs.declared.replies.LaneAnswers.{LaneAnswers}
-use Rattle.batch_plans.specs.declared.replies.CallRefusal.{CallRefusal}
 use Rattle.batch_plans.specs.declared.replies.CallRefusal.TheVariants.{NoContext}
 use Rattle.batch_plans.specs.declared.replies.Reply.TheVariants.{Blank}
 use Rattle.batch_plans.specs.Calls.{context_of, items_of, refusal}
 use Rattle.batch_plans.specs.Limits.{first_name, IsWithinLimits}
 use Rattle.batch_plans.specs.Names.{line_count, position, at_position, all_live}
-use Rattle.batch_plans.specs.Room.{if_served, items_at, items_on, all_items_on, served_room, served_batches, served_or, call_room, call_replies, call_batches, blank_batch, blank_mark, lane_room, journal_room, room_for}
+use Rattle.batch_plans.specs.Room.{if_served, items_at, items_on, served_room, served_batches, served_or, call_room, call_replies, call_batches, blank_batch, blank_mark, lane_room, journal_room, room_for}
 use Rattle.due_replies.specs.Standing.{refusal_on, export_limits, AreOfLines}
 use Rattle.due_replies.proofs.Refusals.{refusal_agrees}
 

@@ -2,8 +2,6 @@
 use Rattle.std.proofs.Common.{◌≡◌, ℕ, zero, suc, ◌+◌, ◌*◌, ◌==◌, Bool, true, false, cond, List, [], ◌∷◌, ◌++◌, length, map, sym, refl, ap, ◌∙◌, arith, append_assoc, length-append, eqb-true, eq-eqb, get_or}
 use Rattle.std.specs.List.{range_with_len}
 use Rattle.std.proofs.lemmas.List.{get_or-append-add}
-use Rattle.call_places.specs.declared.entries.Place.{Place}
-use Rattle.call_places.specs.declared.entries.Mark.{Mark}
 use Rattle.context_books.specs.Batches.{Spot, spots, block, place}
 use Rattle.context_books.specs.Histories.{mark, stamped_on}
 use Rattle.due_replies.specs.LiveChecks.{call_mark}

@@ -1,5 +1,5 @@
 -- The answers of a plan whose lanes were served one after another are those of a run that is allowed.
-use Rattle.std.proofs.Common.{◌≡◌, ◌<◌, ◌≤◌, ◌+◌, ◌==◌, ℕ, zero, suc, false, List, [], ◌∷◌, ◌++◌, length, map, get_or, Option, Some, None, sym, refl, ap, ◌∙◌, subst, arith, ne_eqb, inl, inr}
+use Rattle.std.proofs.Common.{◌≡◌, ◌<◌, ◌+◌, ℕ, zero, suc, List, [], ◌∷◌, ◌++◌, length, map, get_or, Option, Some, None, sym, refl, ap, ◌∙◌, subst, arith, ne_eqb, inl, inr}
 use Rattle.std.specs.Prelude.{slice_get, slice_index_or}
 use Rattle.std.specs.List.{All, range_with_len}
 use Rattle.std.proofs.lemmas.List.{length-map}
@@ -13,7 +13,7 @@ use Rattle.call_places.specs.declared.entries.Place.{Place}
 use Rattle.call_places.specs.declared.entries.Step.TheVariants.{Note}
 use Rattle.hpke_context.specs.Answers.{Item}
 use Rattle.hpke_context.specs.Contexts.{ContextView}
-use Rattle.context_books.specs.Batches.{Batch, Ask, Spot, place, block, items_in, context_in, item_in, item_in_call, with_context, lane_of, IsServed}
+use Rattle.context_books.specs.Batches.{Ask, Spot, place, block, items_in, context_in, item_in, item_in_call, with_context, lane_of}
 use Rattle.context_books.specs.Guesses.{AllGuessed, guess_at, missed_in}
 use Rattle.context_books.specs.Histories.{IsHistory, journals_of, marks_at, places, stamped_on}
 use Rattle.context_books.specs.Legal.{Legal, reply_of}
@@ -36,9 +36,9 @@ use Rattle.batch_plans.specs.Lines.{batch_line}
 use Rattle.batch_plans.specs.LiveText.{given_lines, lanes_given}
 use Rattle.batch_plans.specs.ReplyText.{numbered, all_lines, answered_lines, lanes_lines, UsesUp}
 use Rattle.due_replies.specs.Asks.{ask_unless, asked_by, ask_of, batch_of, cipher_at}
-use Rattle.due_replies.specs.Live.{Noting, noting, noting_in, IsNoted, LiveRun, run_of, looked_up, looked_up_plan, live_lane_lines, LegalTable, LiveHistory, IsAllowedLive}
+use Rattle.due_replies.specs.Live.{Noting, noting, LiveRun, run_of, looked_up, looked_up_plan, live_lane_lines, LegalTable, LiveHistory, IsAllowedLive}
 use Rattle.due_replies.specs.LiveChecks.{note_ask, pairs, note_mark, call_mark, asks_with_notes, with_table, TellActs}
-use Rattle.due_replies.specs.Runs.{Run, asks_of, journal_of, guesses_of, answer_line_of, place_line, call_lines, lane_call_lines, lines_unless, served_lines}
+use Rattle.due_replies.specs.Runs.{Run, asks_of, journal_of, guesses_of, answer_line_of, call_lines, lane_call_lines, lines_unless, served_lines}
 use Rattle.due_replies.specs.Standing.{call_refusal, AreOfLines}
 use Rattle.due_replies.proofs.LiveChecked.{live_history_is_one_list}
 use Rattle.due_replies.proofs.LookedUp.{calls_looked}
@@ -46,7 +46,7 @@ use Rattle.result_lines.proofs.LiveTexts.{each_legal}
 use Rattle.result_lines.proofs.LookedLimits.{looked_within, looked_lanes}
 use Rattle.batch_alone.specs.LiveRuns.{live_run, IsALiveRun}
 use Rattle.batch_alone.specs.Own.{with_own_replies}
-use Rattle.batch_alone.specs.Tables.{nothing, table_of, restamped}
+use Rattle.batch_alone.specs.Tables.{table_of, restamped}
 use Rattle.batch_alone.proofs.InTurn.{IsLow, table_live, table_says, table_lists}
 use Rattle.batch_alone.proofs.LaneByLane.{in_order, goes_in_order}
 use Rattle.batch_alone.proofs.OwnLines.{own_lines}

@@ -1,4 +1,4 @@
-use Rattle.std.proofs.Common.{◌≡◌, ◌+◌, ◌∷◌, ◌++◌, ℕ, List, false, drop, take, length, get_or, Option, subst, sym, ap, ◌∙◌}
+use Rattle.std.proofs.Common.{◌≡◌, ◌+◌, ◌++◌, ℕ, false, drop, take, get_or, Option, subst, sym, ap, ◌∙◌}
 use Rattle.std.specs.Prelude.{slice_index_or}
 use Rattle.call_places.specs.declared.spans.Span.{Span}
 use Rattle.batch_plans.specs.declared.plan.CallLine.{CallLine}

@@ -10,7 +10,7 @@ use Rattle.due_replies.specs.Live.{looked_up_plan}
 use Rattle.context_core.specs.Rehearsals.{rehearsed, AreAnswersOf}
 use Rattle.result_lines.proofs.LookedLimits.{looked_lanes}
 use Rattle.batch_alone.specs.Tables.{SoFar, table_of}
-use Rattle.batch_alone.proofs.Whole.{placed, placed_within, is_a_live_run, stamps_within}
+use Rattle.batch_alone.proofs.Whole.{placed_within, is_a_live_run, stamps_within}
 use Rattle.batch_alone.proofs.Made.{Gives, made, is_made, is_answered, used_by_calls}
 use Rattle.batch_alone.proofs.runs.run_live_in_order.Goals as goal
 
