@@ -1,6 +1,6 @@
 //! The run of a plan whose lanes add and retire contexts, one lane after another.
 
-ghost use Rattle.std.specs.Prelude.{◌≡◌, [], length, IfOk, OnOk};
+ghost use Rattle.std.specs.Prelude.{◌≡◌, [], length, IfOk};
 ghost use Rattle.batch_plans.specs.Limits.{IsWithinLimits};
 ghost use Rattle.batch_plans.specs.ReplyText.{IsAnswered};
 ghost use Rattle.due_replies.specs.Standing.{AreOfLines, export_limits};
