@@ -72,7 +72,7 @@ pub trait Sink {
 pub enum Point {
     /// Its sequence number is drawn.
     Drawn,
-    /// The number that is due was looked at, as a guess.
+    /// The number is chosen around which an opening tests its tags ahead, as a guess.
     Guessed,
     /// The call's replies stand.
     Answered,
