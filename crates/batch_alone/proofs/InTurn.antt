@@ -24,9 +24,9 @@ use Rattle.batch_plans.specs.Limits.{first_name}
 use Rattle.batch_plans.specs.Names.{at_position}
 use Rattle.batch_plans.specs.LiveText.{tells_live}
 use Rattle.batch_plans.specs.ReplyText.{numbered}
-use Rattle.due_replies.specs.Asks.{ask_of}
-use Rattle.due_replies.specs.Live.{Noting, noting, noting_in, was_live, looked_up}
-use Rattle.due_replies.specs.LiveChecks.{note_ask, pairs, note_mark}
+use Rattle.context_books.specs.Asks.{ask_of}
+use Rattle.context_books.specs.Live.{Noting, noting, noting_in, was_live, looked_up}
+use Rattle.context_books.specs.LiveChecks.{note_ask, pairs, note_mark}
 use Rattle.result_lines.proofs.RunTexts.{drop_step}
 use Rattle.batch_alone.specs.Tables.{SoFar, next_stamp, tells, served, with_note, with_places, after_call, after_calls, after_lanes, nothing, table_of}
 use Rattle.batch_alone.proofs.LaneByLane.{in_order}

@@ -15,9 +15,9 @@ use Rattle.batch_plans.specs.declared.plan.CallLine.{CallLine}
 use Rattle.batch_plans.specs.declared.plan.CallLine.TheVariants as calls
 use Rattle.batch_plans.specs.declared.replies.CallRefusal.{CallRefusal}
 use Rattle.batch_plans.specs.Limits.{IsCallWithin}
-use Rattle.due_replies.specs.Asks.{asked_by, ask_unless, ask_of}
-use Rattle.due_replies.specs.Standing.{call_refusal}
-use Rattle.due_replies.proofs.Done.{length-messages}
+use Rattle.context_books.specs.Asks.{asked_by, ask_unless, ask_of}
+use Rattle.context_books.specs.Standing.{call_refusal}
+use Rattle.context_books.proofs.Done.{length-messages}
 use Rattle.batch_alone.specs.Turns.{places_in}
 
 -- the list of live names, after a note of one of them

@@ -22,8 +22,8 @@ use Rattle.batch_plans.specs.Limits.{IsWithinLimits}
 use Rattle.batch_plans.specs.Names.{line_count}
 use Rattle.batch_plans.specs.Replies.{IsInRange, IsPrintable}
 use Rattle.batch_plans.specs.ReplyText.{reply_count, IsAnswered, UsesUp}
-use Rattle.due_replies.specs.Standing.{AreOfLines}
-use Rattle.due_replies.proofs.LookedUp.{calls_looked}
+use Rattle.context_books.specs.Standing.{AreOfLines}
+use Rattle.context_books.proofs.LookedUp.{calls_looked}
 use Rattle.batch_alone.specs.Own.{add_reply, retire_reply, own_reply, put_first, with_own, with_own_replies}
 use Rattle.batch_alone.specs.Tables.{table_of, restamped}
 use Rattle.batch_alone.proofs.OwnLines.{looked_uses}
@@ -149,7 +149,7 @@ module _ (plan : Plan) (standing : List (Option ContextView)) (within : IsWithin
           let there : l < length mid.lanes = (let same = is_made.lanes in omega arith) in
           subst IsPrintable (sym (is_made.each l one there))
           (own_range (length (get_or mid.lanes l one).pool) plan mid.contexts
-          (λ k. Rattle.due_replies.specs.Live.was_live (table_of plan standing).notes
+          (λ k. Rattle.context_books.specs.Live.was_live (table_of plan standing).notes
           (Rattle.context_books.specs.Batches.place l k 0)) 0 (get_or plan.lanes l [])
           (get_or mid.lanes l one).replies (p.printable l one there));
     }

@@ -29,11 +29,11 @@ use Rattle.batch_plans.specs.LiveText.{is_given}
 use Rattle.batch_plans.specs.ReplyText.{is_refused, reply_count, guess_line, calls_lines, numbered, all_lines, HasReplies, UsesUp}
 use Rattle.batch_plans.specs.ReplyText.UsesUp.{none, call_and_more}
 use Rattle.batch_plans.proofs.CallLines.{HasReplies-one, calls_lines-append, calls_lines-one}
-use Rattle.due_replies.specs.Asks.{cipher_at}
-use Rattle.due_replies.specs.Live.{LiveRun, run_of, was_live, looked_up, live_call_lines, add_line, retire_line}
-use Rattle.due_replies.specs.Lanes.{calls_of}
-use Rattle.due_replies.specs.Runs.{Run, asks_of, journal_of, answer_line_of, place_line, lines_unless, served_lines, call_lines, item_lines, guess_lines, guessed_line}
-use Rattle.due_replies.specs.Standing.{call_refusal}
+use Rattle.context_books.specs.Asks.{cipher_at}
+use Rattle.context_books.specs.Live.{LiveRun, run_of, was_live, looked_up, live_call_lines, add_line, retire_line}
+use Rattle.context_books.specs.Lanes.{calls_of}
+use Rattle.context_books.specs.Runs.{Run, asks_of, journal_of, answer_line_of, place_line, lines_unless, served_lines, call_lines, item_lines, guess_lines, guessed_line}
+use Rattle.context_books.specs.Standing.{call_refusal}
 use Rattle.result_lines.specs.PrintedLive.{IsReply}
 use Rattle.result_lines.specs.Replies.{reply_lines}
 use Rattle.result_lines.proofs.DueReplies.{replies_are}

@@ -4,7 +4,7 @@ use Rattle.std.specs.List.{range_with_len}
 use Rattle.std.proofs.lemmas.List.{get_or-append-add}
 use Rattle.context_books.specs.Batches.{Spot, spots, block, place}
 use Rattle.context_books.specs.Histories.{mark, stamped_on}
-use Rattle.due_replies.specs.LiveChecks.{call_mark}
+use Rattle.context_books.specs.LiveChecks.{call_mark}
 use Rattle.batch_alone.specs.Tables.{restamped}
 
 -- the stamps of the places on other contexts than this

@@ -35,13 +35,13 @@ use Rattle.batch_plans.specs.Limits.{IsWithinLimits}
 use Rattle.batch_plans.specs.Lines.{batch_line}
 use Rattle.batch_plans.specs.LiveText.{given_lines, lanes_given}
 use Rattle.batch_plans.specs.ReplyText.{numbered, all_lines, answered_lines, lanes_lines, UsesUp}
-use Rattle.due_replies.specs.Asks.{ask_unless, asked_by, ask_of, batch_of, cipher_at}
-use Rattle.due_replies.specs.Live.{Noting, noting, LiveRun, run_of, looked_up, looked_up_plan, live_lane_lines, LegalTable, LiveHistory, IsAllowedLive}
-use Rattle.due_replies.specs.LiveChecks.{note_ask, pairs, note_mark, call_mark, asks_with_notes, with_table, TellActs}
-use Rattle.due_replies.specs.Runs.{Run, asks_of, journal_of, guesses_of, answer_line_of, call_lines, lane_call_lines, lines_unless, served_lines}
-use Rattle.due_replies.specs.Standing.{call_refusal, AreOfLines}
-use Rattle.due_replies.proofs.LiveChecked.{live_history_is_one_list}
-use Rattle.due_replies.proofs.LookedUp.{calls_looked}
+use Rattle.context_books.specs.Asks.{ask_unless, asked_by, ask_of, batch_of, cipher_at}
+use Rattle.context_books.specs.Live.{Noting, noting, LiveRun, run_of, looked_up, looked_up_plan, live_lane_lines, LegalTable, LiveHistory, IsAllowedLive}
+use Rattle.context_books.specs.LiveChecks.{note_ask, pairs, note_mark, call_mark, asks_with_notes, with_table, TellActs}
+use Rattle.context_books.specs.Runs.{Run, asks_of, journal_of, guesses_of, answer_line_of, call_lines, lane_call_lines, lines_unless, served_lines}
+use Rattle.context_books.specs.Standing.{call_refusal, AreOfLines}
+use Rattle.context_books.proofs.LiveChecked.{live_history_is_one_list}
+use Rattle.context_books.proofs.LookedUp.{calls_looked}
 use Rattle.result_lines.proofs.LiveTexts.{each_legal}
 use Rattle.result_lines.proofs.LookedLimits.{looked_within, looked_lanes}
 use Rattle.batch_alone.specs.LiveRuns.{live_run, IsALiveRun}

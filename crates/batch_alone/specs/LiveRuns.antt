@@ -5,7 +5,7 @@ use Rattle.batch_plans.specs.declared.plan.Plan.{Plan}
 use Rattle.batch_plans.specs.declared.replies.Answers.{Answers}
 use Rattle.batch_plans.specs.ReplyText.{numbered}
 use Rattle.batch_plans.specs.LiveText.{lanes_given}
-use Rattle.due_replies.specs.Live.{LiveRun, live_run_along, IsAllowedLive, live_lane_lines}
+use Rattle.context_books.specs.Live.{LiveRun, live_run_along, IsAllowedLive, live_lane_lines}
 
 -- the run of these answers, with these guesses
 abbrev pub live_run : Plan → List (Option ContextView) → Answers → List (List ℕ) → LiveRun

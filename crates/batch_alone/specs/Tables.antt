@@ -13,8 +13,8 @@ use Rattle.batch_plans.specs.declared.plan.CallLine.{CallLine}
 use Rattle.batch_plans.specs.Calls.{context_of}
 use Rattle.batch_plans.specs.Limits.{first_name}
 use Rattle.batch_plans.specs.Names.{at_position}
-use Rattle.due_replies.specs.Asks.{ask_of}
-use Rattle.due_replies.specs.Live.{Noting, noting}
+use Rattle.context_books.specs.Asks.{ask_of}
+use Rattle.context_books.specs.Live.{Noting, noting}
 
 -- the notes so far, and the stamps of the places that calls were given so far
 pub record SoFar : Type 0 where

@@ -1,7 +1,7 @@
 //! A large batch that is made from a number, sealed and opened again: `demo`.
 
 ghost use Rattle.std.specs.Prelude.{◌<◌, ◌≤◌, IfOk};
-ghost use Rattle.demo_texts.specs.Demo.{IsDemo};
+ghost use Rattle.demo_runs.specs.Demo.{IsDemo};
 ghost use Rattle.demo_runs.specs.Batches.{IsReady, IsServed};
 ghost use Rattle.batch_serving.specs.Effects.{Writes};
 ghost use Rattle.batch_serving.specs.Text.{Demonstrates};

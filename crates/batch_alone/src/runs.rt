@@ -3,7 +3,7 @@
 ghost use Rattle.std.specs.Prelude.{◌≡◌, [], length, IfOk};
 ghost use Rattle.batch_plans.specs.Limits.{IsWithinLimits};
 ghost use Rattle.batch_plans.specs.ReplyText.{IsAnswered};
-ghost use Rattle.due_replies.specs.Standing.{AreOfLines, export_limits};
+ghost use Rattle.context_books.specs.Standing.{AreOfLines, export_limits};
 ghost use Rattle.context_core.specs.Rehearsals.{rehearsed, AreAnswersOf};
 ghost use Rattle.batch_alone.specs.LiveRuns.{IsALiveRun};
 

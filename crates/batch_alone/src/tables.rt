@@ -5,14 +5,14 @@ ghost use Rattle.batch_plans.specs.Limits.{IsCallWithin, IsWithinLimits};
 ghost use Rattle.call_places.specs.declared.entries.Entry.{Entry as Entry_};
 ghost use Rattle.call_places.specs.declared.entries.Place.{Place as Place_};
 ghost use Rattle.call_places.specs.Notes.{note_entry, live_at};
-ghost use Rattle.due_replies.specs.Standing.{call_refusal};
+ghost use Rattle.context_books.specs.Standing.{call_refusal};
 ghost use Rattle.batch_alone.specs.Tables.{next_stamp, with_note, with_places, after_call, after_calls};
 ghost use Rattle.batch_alone.specs.Tables.{nothing, table_of};
 ghost use Rattle.batch_alone.specs.Turns.{so_far, places_in, KeepsLive};
 
 use batch_plans::{CallLine, Plan};
 use call_places::{Act, Entry, Place, Step};
-use due_replies::refusal_of;
+use context_books::refusal_of;
 use hpke_context::Context;
 use result_lines::{NamedAct, looked_up, noting};
 use std::alloc::{AllocError, Global};

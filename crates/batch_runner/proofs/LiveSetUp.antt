@@ -27,8 +27,8 @@ use Rattle.batch_plans.specs.declared.replies.ContextReply.TheVariants.{Shared}
 use Rattle.batch_plans.specs.Limits.{IsWithinLimits}
 use Rattle.batch_plans.specs.Names.{line_count}
 use Rattle.request_frames.specs.Added.{IsLive, IsShare, name_added, names_added}
-use Rattle.due_replies.specs.Live.{add_line}
-use Rattle.due_replies.specs.Standing.{standing_at}
+use Rattle.context_books.specs.Live.{add_line}
+use Rattle.context_books.specs.Standing.{standing_at}
 use Rattle.context_table.specs.Contexts.{exchange, outcome, reply_of, slot_of, scheduled_after, standing_by, suite_of}
 use Rattle.context_table.proofs.Lists.{some_within}
 use Rattle.context_table.specs.SetUp.{IsSetUp}

@@ -7,8 +7,8 @@ use Rattle.batch_plans.specs.declared.replies.KeyReply.{KeyReply}
 use Rattle.batch_plans.specs.declared.replies.ContextReply.{ContextReply}
 use Rattle.batch_plans.specs.declared.replies.Answers.{Answers}
 use Rattle.batch_plans.specs.ReplyText.{reply_lines, answers_text}
-use Rattle.due_replies.specs.Standing.{AreOfLines}
-use Rattle.due_replies.specs.Runs.{run_text}
+use Rattle.context_books.specs.Standing.{AreOfLines}
+use Rattle.context_books.specs.Runs.{run_text}
 use Rattle.context_table.specs.SetUp.{IsSetUp}
 use Rattle.context_core.specs.Rehearsals.{rehearsed, AreAnswersOf}
 use Rattle.batch_serving.specs.Text.{IsRehearsal}

@@ -4,7 +4,7 @@ use Rattle.batch_plans.specs.declared.plan.Plan.{Plan}
 use Rattle.batch_plans.specs.Limits.{IsPlain}
 use Rattle.batch_plans.specs.Names.{all_live}
 use Rattle.batch_plans.specs.Room.{room_for}
-use Rattle.due_replies.specs.Standing.{AreOfLines, export_limits}
+use Rattle.context_books.specs.Standing.{AreOfLines, export_limits}
 use Rattle.context_table.specs.SetUp.{IsSetUp}
 use Rattle.batch_serving.specs.declared.setting_up.Begun.{Begun}
 

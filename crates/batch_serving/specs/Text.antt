@@ -8,7 +8,7 @@ use Rattle.batch_plans.specs.declared.replies.KeyReply.{KeyReply}
 use Rattle.batch_plans.specs.declared.replies.ContextReply.{ContextReply}
 use Rattle.batch_plans.specs.ReplyText.{bad_text}
 use Rattle.request_frames.specs.Batch.{batch, front_batch, BadAt, FrontBadAt}
-use Rattle.due_replies.specs.Runs.{run_text}
+use Rattle.context_books.specs.Runs.{run_text}
 use Rattle.context_table.specs.SetUp.{IsSetUp}
 use Rattle.context_table.specs.ReplyTo.{IsReply, IsLiveReply}
 use Rattle.request_frames.specs.Live.{live, front_live}
@@ -21,8 +21,8 @@ use Rattle.journal_check.specs.Verdicts.{IsVerdict, IsLiveVerdict}
 use Rattle.capsule_frames.specs.Capsules.{capsules}
 use Rattle.capsule_frames.specs.Capsules.{BadAt as BadCapsulesAt}
 use Rattle.capsule_runs.specs.Replies.{IsCapsuleReply}
-use Rattle.demo_texts.specs.declared.reports.DemoReport.{DemoReport}
-use Rattle.demo_texts.specs.Demo.{IsDemo, report_text}
+use Rattle.demo_runs.specs.declared.report_lines.DemoReport.{DemoReport}
+use Rattle.demo_runs.specs.Demo.{IsDemo, report_text}
 use Rattle.batch_words.specs.declared.commands.Command.{Command}
 use Rattle.batch_words.specs.declared.commands.Command.TheVariants as commands
 use Rattle.batch_serving.specs.declared.outcomes.Outcome.{Outcome}

@@ -8,3 +8,15 @@ pub mod Histories
 pub mod Checks
 pub mod Rows
 pub mod Lists
+pub mod Standing
+pub mod Asks
+pub mod Runs
+pub mod Lanes
+pub mod Live
+pub mod LiveChecks
+pub mod LiveRows
+pub mod LaneCalls
+pub mod Writing
+pub mod Answered
+pub mod Quotas
+pub mod Journals

@@ -19,8 +19,8 @@ use Rattle.context_core.proofs.Matching.{drop_at}
 use Rattle.context_books.specs.Books.{BookView}
 use Rattle.context_books.proofs.Blocks.{length-block}
 use Rattle.batch_plans.specs.declared.plan.Plan.{Plan}
-use Rattle.due_replies.specs.Standing.{standing_at}
-use Rattle.due_replies.specs.Asks.{batch_of}
+use Rattle.context_books.specs.Standing.{standing_at}
+use Rattle.context_books.specs.Asks.{batch_of}
 use Rattle.context_core.specs.declared.books.Books.{Books}
 use Rattle.context_core.specs.Books.{book_at, MayAdd, Adds}
 use Rattle.context_core.specs.Following.{AreBooks, IsBookOf}

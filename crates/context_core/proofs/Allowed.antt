@@ -22,9 +22,9 @@ use Rattle.batch_plans.specs.declared.replies.CallRefusal.{CallRefusal}
 use Rattle.batch_plans.specs.Limits.{IsWithinLimits}
 use Rattle.batch_plans.specs.Calls.{context_of}
 use Rattle.batch_plans.specs.ReplyText.{has_stamps}
-use Rattle.due_replies.specs.Standing.{standing_at, refusal_on, call_refusal, AreOfLines}
-use Rattle.due_replies.specs.Asks.{asked_by, ask_unless, ask_of, batch_of, cipher_at}
-use Rattle.due_replies.specs.Runs.{journal_of, LegalFor, IsAllowed}
+use Rattle.context_books.specs.Standing.{standing_at, refusal_on, call_refusal, AreOfLines}
+use Rattle.context_books.specs.Asks.{asked_by, ask_unless, ask_of, batch_of, cipher_at}
+use Rattle.context_books.specs.Runs.{journal_of, LegalFor, IsAllowed}
 use Rattle.context_core.specs.Rehearsals.{rehearsed}
 use Rattle.context_core.proofs.Runs.{journal_there, journal_past, guesses_are}
 

@@ -29,19 +29,19 @@ use Rattle.batch_plans.specs.Progress.{Progress, with_reply}
 use Rattle.batch_plans.specs.Lines.{exported_line, batch_line}
 use Rattle.batch_plans.specs.ReplyText.{guess_line}
 use Rattle.batch_plans.proofs.Rooms.{lane_within}
-use Rattle.due_replies.specs.Standing.{standing_at, call_refusal, AreOfLines}
-use Rattle.due_replies.specs.Asks.{asked_by, ask_unless, ask_of, batch_of, cipher_at, cipher_in}
-use Rattle.due_replies.specs.Runs as runs
-use Rattle.due_replies.specs.Runs.{answer_line, call_lines, guesses_of}
-use Rattle.due_replies.proofs.CallLines.{export_lines, seal_lines, unseal_lines, unseal_all_lines}
-use Rattle.due_replies.specs.Lanes.{StandsBehind}
-use Rattle.lane_replies.specs.LaneCalls.{lane_calls, opening_items, IsOpening}
-use Rattle.lane_replies.specs.Writing.{due_at, PutsReplies}
-use Rattle.lane_replies.specs.Answered.{KeepsUp}
-use Rattle.lane_replies.proofs.Rooms.{FindsRoom}
-use Rattle.lane_replies.proofs.Items.{one_line_each}
-use Rattle.lane_replies.proofs.Within.{line_within, opening_count, opening_room}
-use Rattle.lane_replies.proofs.KeepingUp.{keeps_up_begun, keeps_up_room, keeps_up_left, keeps_up_one, keeps_up_refused, keeps_up_all}
+use Rattle.context_books.specs.Standing.{standing_at, call_refusal, AreOfLines}
+use Rattle.context_books.specs.Asks.{asked_by, ask_unless, ask_of, batch_of, cipher_at, cipher_in}
+use Rattle.context_books.specs.Runs as runs
+use Rattle.context_books.specs.Runs.{answer_line, call_lines, guesses_of}
+use Rattle.context_books.proofs.CallLines.{export_lines, seal_lines, unseal_lines, unseal_all_lines}
+use Rattle.context_books.specs.Lanes.{StandsBehind}
+use Rattle.context_books.specs.LaneCalls.{lane_calls, opening_items, IsOpening}
+use Rattle.context_books.specs.Writing.{due_at, PutsReplies}
+use Rattle.context_books.specs.Answered.{KeepsUp}
+use Rattle.context_books.proofs.Rooms.{FindsRoom}
+use Rattle.context_books.proofs.Items.{one_line_each}
+use Rattle.context_books.proofs.Within.{line_within, opening_count, opening_room}
+use Rattle.context_books.proofs.KeepingUp.{keeps_up_begun, keeps_up_room, keeps_up_left, keeps_up_one, keeps_up_refused, keeps_up_all}
 use Rattle.context_core.specs.declared.lanes.Lane.{Lane}
 use Rattle.context_core.specs.declared.lanes.Stage.{Stage}
 use Rattle.context_core.specs.declared.lanes.Stage.TheVariants.{Fresh}

@@ -20,18 +20,18 @@ use Rattle.batch_plans.specs.Limits.{IsWithinLimits}
 use Rattle.batch_plans.specs.Room.{lane_room, call_room}
 use Rattle.batch_plans.specs.Progress.{begun}
 use Rattle.batch_plans.proofs.Rooms.{lane_within, lane_is_small}
-use Rattle.due_replies.specs.Standing.{export_limits, AreOfLines}
-use Rattle.due_replies.specs.Asks.{ask_of, batch_of}
+use Rattle.context_books.specs.Standing.{export_limits, AreOfLines}
+use Rattle.context_books.specs.Asks.{ask_of, batch_of}
 use Rattle.context_core.specs.declared.books.Books.{Books}
 use Rattle.context_core.specs.declared.lanes.Lane.{Lane}
 use Rattle.context_core.specs.Books.{book_at}
-use Rattle.lane_replies.specs.LaneCalls.{lane_calls}
+use Rattle.context_books.specs.LaneCalls.{lane_calls}
 use Rattle.context_core.specs.Following.{core_stage, opened_count, unsettled, AreBooks, IsLane, IsAt, IsRehearsal}
-use Rattle.lane_replies.specs.Quotas.{lane_quota}
+use Rattle.context_books.specs.Quotas.{lane_quota}
 use Rattle.context_core.specs.Preparing.{fresh_in, fresh_at, IsFresh, AreFresh, with_answers}
 use Rattle.context_core.proofs.Allowed.{within_contexts}
 use Rattle.context_core.proofs.Adding.{nothing_placed}
-use Rattle.lane_replies.proofs.Places.{quota_is}
+use Rattle.context_books.proofs.ItemPlaces.{quota_is}
 
 -- ---- the start
 

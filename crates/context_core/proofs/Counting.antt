@@ -12,8 +12,8 @@ use Rattle.batch_plans.specs.declared.plan.CallLine.{CallLine}
 use Rattle.batch_plans.specs.declared.plan.CallLine.TheVariants as calls
 use Rattle.batch_plans.specs.declared.replies.CallRefusal.{CallRefusal}
 use Rattle.batch_plans.specs.Limits.{items_of, items_from}
-use Rattle.due_replies.specs.Standing.{call_refusal}
-use Rattle.due_replies.specs.Asks.{asked_by, ask_unless, ask_of}
+use Rattle.context_books.specs.Standing.{call_refusal}
+use Rattle.context_books.specs.Asks.{asked_by, ask_unless, ask_of}
 use Rattle.context_core.proofs.Adding.{length-asked}
 
 -- ---- the places that the calls of a lane ask for

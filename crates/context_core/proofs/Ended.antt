@@ -28,23 +28,23 @@ use Rattle.batch_plans.specs.Limits.{IsWithinLimits}
 use Rattle.batch_plans.specs.Room.{all_items_on, lane_room, journal_room, blank_mark}
 use Rattle.batch_plans.specs.ReplyText.{answered_lines, lanes_lines, numbered, UsesUp}
 use Rattle.batch_plans.proofs.Lanes.{lanes_lines-numbered}
-use Rattle.due_replies.specs.Standing.{standing_at, export_limits, AreOfLines}
-use Rattle.due_replies.specs.Asks.{batch_of, cipher_at, ask_of}
-use Rattle.due_replies.specs.Runs.{lane_call_lines}
-use Rattle.due_replies.proofs.Done.{lane_asks}
-use Rattle.lane_replies.proofs.KeepingUp.{keeps_up_ended}
+use Rattle.context_books.specs.Standing.{standing_at, export_limits, AreOfLines}
+use Rattle.context_books.specs.Asks.{batch_of, cipher_at, ask_of}
+use Rattle.context_books.specs.Runs.{lane_call_lines}
+use Rattle.context_books.proofs.Done.{lane_asks}
+use Rattle.context_books.proofs.KeepingUp.{keeps_up_ended}
 use Rattle.context_core.specs.declared.books.Books.{Books}
 use Rattle.context_core.specs.declared.lanes.Lane.{Lane}
 use Rattle.context_core.specs.declared.lanes.Stage.TheVariants as stages
 use Rattle.context_core.specs.Rehearsals.{rehearsed}
 use Rattle.context_core.specs.Books.{book_at}
-use Rattle.lane_replies.specs.LaneCalls.{lane_calls}
+use Rattle.context_books.specs.LaneCalls.{lane_calls}
 use Rattle.context_core.specs.Following.{run_of, long_ends, core_stage, IsBookOf, IsDone, AreDone, AreAnswered, IsRehearsal}
-use Rattle.lane_replies.specs.Journals.{written, HasRoom}
+use Rattle.context_books.specs.Journals.{written, HasRoom}
 use Rattle.context_core.specs.Preparing.{answers_of, IsEnded}
 use Rattle.context_core.proofs.Histories.{places_are}
 use Rattle.context_core.proofs.Runs.{guesses_are}
-use Rattle.lane_replies.proofs.Places.{journal_count}
+use Rattle.context_books.proofs.ItemPlaces.{journal_count}
 use Rattle.context_core.proofs.Events.{ends_are}
 
 -- a list of the same length put over another

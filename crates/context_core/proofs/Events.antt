@@ -24,14 +24,14 @@ use Rattle.context_core.proofs.Idle.{at_end, not_there}
 use Rattle.batch_plans.specs.declared.plan.Plan.{Plan}
 use Rattle.batch_plans.specs.declared.plan.CallLine.{CallLine}
 use Rattle.batch_plans.specs.Limits.{items_of, IsWithinLimits}
-use Rattle.due_replies.specs.Asks.{batch_of, cipher_at, ask_of}
-use Rattle.due_replies.proofs.Done.{lane_asks}
+use Rattle.context_books.specs.Asks.{batch_of, cipher_at, ask_of}
+use Rattle.context_books.proofs.Done.{lane_asks}
 use Rattle.context_core.specs.declared.books.Books.{Books}
 use Rattle.context_core.specs.declared.lanes.Lane.{Lane}
-use Rattle.lane_replies.specs.LaneCalls.{lane_calls}
+use Rattle.context_books.specs.LaneCalls.{lane_calls}
 use Rattle.context_core.specs.Following.{run_of, long_ends, core_stage, IsLane, Follows, IsRehearsal}
 use Rattle.context_core.proofs.Going.{lane_stays}
-use Rattle.lane_replies.proofs.Sums.{count_parts, sum_numbers-le}
+use Rattle.context_books.proofs.Sums.{count_parts, sum_numbers-le}
 use Rattle.context_core.proofs.Counting.{own-le, asks_size}
 
 module _ (plan : Plan) (contexts : List (Option ContextView)) where

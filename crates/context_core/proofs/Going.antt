@@ -22,17 +22,17 @@ use Rattle.batch_plans.specs.declared.plan.Plan.{Plan}
 use Rattle.batch_plans.specs.declared.plan.CallLine.{CallLine}
 use Rattle.batch_plans.specs.Limits.{items_of, IsWithinLimits}
 use Rattle.speculative_open.specs.Tables.{TableView}
-use Rattle.due_replies.specs.Standing.{standing_at, AreOfLines}
-use Rattle.due_replies.specs.Asks.{asked_by, ask_of, batch_of, cipher_at}
-use Rattle.due_replies.specs.Lanes.{AllServed}
-use Rattle.due_replies.proofs.Placed.{fitting_places_are_served}
-use Rattle.due_replies.proofs.Done.{ask_at}
-use Rattle.lane_replies.proofs.Guesses.{guesses_more}
+use Rattle.context_books.specs.Standing.{standing_at, AreOfLines}
+use Rattle.context_books.specs.Asks.{asked_by, ask_of, batch_of, cipher_at}
+use Rattle.context_books.specs.Lanes.{AllServed}
+use Rattle.context_books.proofs.Placed.{fitting_places_are_served}
+use Rattle.context_books.proofs.Done.{ask_at}
+use Rattle.context_books.proofs.KeptGuesses.{guesses_more}
 use Rattle.context_core.specs.declared.books.Books.{Books}
 use Rattle.context_core.specs.declared.lanes.Lane.{Lane}
 use Rattle.context_core.specs.declared.lanes.Stage.{Stage}
 use Rattle.context_core.specs.declared.lanes.Stage.TheVariants.{Fresh, Drawn, Guessed, Tested, Settled}
-use Rattle.lane_replies.specs.LaneCalls.{lane_calls}
+use Rattle.context_books.specs.LaneCalls.{lane_calls}
 use Rattle.context_core.specs.Following.{run_of, core_stage, opened_count, unsettled, Finishes, AreBooks, IsBookOf, IsAt, IsDone, IsLane}
 use Rattle.context_core.proofs.Histories.{places_are}
 use Rattle.context_core.proofs.Runs.{stands_stay}

@@ -10,8 +10,8 @@ use Rattle.context_books.specs.Batches.{Spot}
 use Rattle.context_core.specs.Core.{Core}
 use Rattle.batch_plans.specs.declared.plan.Plan.{Plan}
 use Rattle.batch_plans.specs.declared.plan.CallLine.{CallLine}
-use Rattle.due_replies.specs.Asks.{asked_by}
-use Rattle.lane_replies.specs.LaneCalls.{opening_items}
+use Rattle.context_books.specs.Asks.{asked_by}
+use Rattle.context_books.specs.LaneCalls.{opening_items}
 use Rattle.context_core.specs.declared.lanes.Stage.{Stage}
 use Rattle.context_core.specs.declared.lanes.Stage.TheVariants.{Fresh, Drawn, Guessed, Tested, Settled}
 use Rattle.context_core.specs.Following.{opened_count, unsettled, IsSettled, IsDone}

@@ -13,8 +13,8 @@ use Rattle.context_books.proofs.HistoryJournals.{places-stamped_on}
 use Rattle.context_core.specs.Core.{Core}
 use Rattle.context_core.specs.Core as core
 use Rattle.batch_plans.specs.declared.plan.Plan.{Plan}
-use Rattle.due_replies.specs.Runs.{journal_of, guesses_of}
-use Rattle.due_replies.specs.Lanes.{StandsBehind}
+use Rattle.context_books.specs.Runs.{journal_of, guesses_of}
+use Rattle.context_books.specs.Lanes.{StandsBehind}
 use Rattle.context_core.specs.Following.{run_of}
 
 marks_there : (n c : ℕ) (h : List Spot) → c < n → marks_at (journals_of n h) c ≡ stamped_on c 0 h

@@ -32,25 +32,25 @@ use Rattle.batch_plans.specs.declared.replies.CallRefusal.{CallRefusal}
 use Rattle.batch_plans.specs.Limits.{items_of, IsWithinLimits}
 use Rattle.batch_plans.specs.Calls.{context_of}
 use Rattle.speculative_open.specs.Tables.{TableView}
-use Rattle.due_replies.specs.Standing.{standing_at, call_refusal, AreOfLines}
-use Rattle.due_replies.specs.Asks.{asked_by, ask_unless, ask_of, batch_of, cipher_at, cipher_in}
-use Rattle.due_replies.proofs.CallLines.{not_yet}
-use Rattle.due_replies.specs.Lanes.{StandsBehind}
-use Rattle.lane_replies.specs.Writing.{due_at}
-use Rattle.lane_replies.proofs.Items.{length-unseals}
+use Rattle.context_books.specs.Standing.{standing_at, call_refusal, AreOfLines}
+use Rattle.context_books.specs.Asks.{asked_by, ask_unless, ask_of, batch_of, cipher_at, cipher_in}
+use Rattle.context_books.proofs.CallLines.{not_yet}
+use Rattle.context_books.specs.Lanes.{StandsBehind}
+use Rattle.context_books.specs.Writing.{due_at}
+use Rattle.context_books.proofs.Items.{length-unseals}
 use Rattle.context_core.specs.declared.books.Books.{Books}
 use Rattle.context_core.specs.declared.lanes.Lane.{Lane}
 use Rattle.context_core.specs.declared.lanes.Stage.{Stage}
 use Rattle.context_core.specs.declared.lanes.Stage.TheVariants.{Fresh, Drawn, Guessed, Tested, Settled}
 use Rattle.context_core.specs.Books.{book_at, MayAdd, Adds, Draws, Settles}
-use Rattle.lane_replies.specs.LaneCalls.{lane_calls, opening_items, IsOpening}
+use Rattle.context_books.specs.LaneCalls.{lane_calls, opening_items, IsOpening}
 use Rattle.context_core.specs.Following.{run_of, core_stage, opened_count, steps_at, unsettled, Finishes, IsBookOf, IsAt, IsDone, HasDrawn, HasTested, HasSettled, Opens, HasTools, IsLane, Follows}
-use Rattle.lane_replies.proofs.Draws.{due_at-drawn, drawn_steps}
+use Rattle.context_books.proofs.Draws.{due_at-drawn, drawn_steps}
 use Rattle.context_core.proofs.Histories.{due_is}
 use Rattle.context_core.proofs.Runs.{journal_there}
 use Rattle.context_core.proofs.Allowed.{within_contexts}
 use Rattle.context_core.proofs.Adding.{nothing_placed, places_placed, may_add, books_more}
-use Rattle.lane_replies.proofs.Within.{opening_count, opening_asks, opening_context, line_within}
+use Rattle.context_books.proofs.Within.{opening_count, opening_asks, opening_context, line_within}
 use Rattle.context_core.proofs.Notes.{done_stays, to_settle, call_settled}
 use Rattle.context_core.proofs.Going.{gone, happens_is, served_on, books_same, asks_at, after, finished}
 

@@ -29,14 +29,14 @@ use Rattle.batch_plans.specs.Calls.{context_of}
 use Rattle.batch_plans.specs.declared.replies.Batch.{Batch as Guess}
 use Rattle.batch_plans.specs.Room.{lane_room}
 use Rattle.batch_plans.specs.Progress.{Progress, begun, with_batch}
-use Rattle.due_replies.specs.Standing.{standing_at, call_refusal, export_limits, AreOfLines}
-use Rattle.due_replies.specs.Asks.{asked_by, ask_of, batch_of, cipher_at}
-use Rattle.due_replies.specs.Runs.{Run}
-use Rattle.due_replies.specs.Lanes.{StandsBehind}
-use Rattle.due_replies.specs.Runs.{guesses_of}
-use Rattle.lane_replies.specs.LaneCalls.{lane_calls, opening_items, IsOpening}
-use Rattle.lane_replies.specs.Writing.{due_at}
-use Rattle.lane_replies.specs.Answered.{KeepsUp}
+use Rattle.context_books.specs.Standing.{standing_at, call_refusal, export_limits, AreOfLines}
+use Rattle.context_books.specs.Asks.{asked_by, ask_of, batch_of, cipher_at}
+use Rattle.context_books.specs.Runs.{Run}
+use Rattle.context_books.specs.Lanes.{StandsBehind}
+use Rattle.context_books.specs.Runs.{guesses_of}
+use Rattle.context_books.specs.LaneCalls.{lane_calls, opening_items, IsOpening}
+use Rattle.context_books.specs.Writing.{due_at}
+use Rattle.context_books.specs.Answered.{KeepsUp}
 use Rattle.context_core.specs.declared.books.Books.{Books}
 use Rattle.context_core.specs.declared.lanes.Lane.{Lane}
 use Rattle.context_core.specs.declared.lanes.Stage.{Stage}

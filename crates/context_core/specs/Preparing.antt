@@ -8,8 +8,8 @@ use Rattle.batch_plans.specs.declared.plan.CallLine.{CallLine}
 use Rattle.batch_plans.specs.declared.replies.LaneAnswers.{LaneAnswers}
 use Rattle.batch_plans.specs.Limits.{items_of}
 use Rattle.batch_plans.specs.Progress.{Progress, begun}
-use Rattle.due_replies.specs.Standing.{standing_at}
-use Rattle.lane_replies.specs.Quotas.{lane_quota}
+use Rattle.context_books.specs.Standing.{standing_at}
+use Rattle.context_books.specs.Quotas.{lane_quota}
 use Rattle.context_core.specs.declared.lanes.Lane.{Lane}
 use Rattle.context_core.specs.declared.lanes.Stage.TheVariants.{Fresh}
 use Rattle.context_core.specs.Following.{opened_count}

@@ -7,8 +7,8 @@ use Rattle.batch_plans.specs.declared.plan.Plan.{Plan}
 use Rattle.batch_plans.specs.declared.replies.Answers.{Answers}
 use Rattle.batch_plans.specs.declared.replies.LaneAnswers.{LaneAnswers}
 use Rattle.batch_plans.specs.ReplyText.{lanes_lines, numbered, UsesUp}
-use Rattle.due_replies.specs.Asks.{batch_of, cipher_at}
-use Rattle.due_replies.specs.Runs.{Run, lane_call_lines}
+use Rattle.context_books.specs.Asks.{batch_of, cipher_at}
+use Rattle.context_books.specs.Runs.{Run, lane_call_lines}
 
 -- The run of a plan over the contexts that stand, after the events of a schedule and then all that is
 -- left. The stamp of a place is how many places of all journals were given before it.

@@ -7,17 +7,15 @@ ghost use Rattle.std.specs.Prelude.{ℕ, ◌≡◌, ◌<◌, ◌≤◌, List, No
 ghost use Rattle.call_places.specs.declared.entries.Step.{Step};
 ghost use Rattle.batch_plans.specs.Limits.{IsWithinLimits};
 ghost use Rattle.batch_plans.specs.Room.{served_batches};
-ghost use Rattle.due_replies.specs.Standing.{AreOfLines, call_refusal};
+ghost use Rattle.context_books.specs.Standing.{AreOfLines, call_refusal};
 ghost use Rattle.context_core.specs.Core.{Core};
 ghost use Rattle.context_core.specs.Following.{with_guess, AllDone, LaneIsAnswered, MayReply, Replies};
 
 use crate::lanes::{Lane, Stage};
 use batch_plans::{Batch, CallLine, LaneProgress, Plan, context_of};
 use call_places::Step;
-use context_books::Draw;
-use due_replies::{refusal_of, standing};
+use context_books::{Draw, export, finish_opening, finish_seal, items_of_opening, refusal_of, refuse, standing};
 use hpke_context::Context;
-use lane_replies::{export, finish_opening, finish_seal, items_of_opening, refuse};
 
 // An opening of several messages keeps its guess.
 fn keep_guess(progress: &mut LaneProgress, call: &CallLine, batch: Batch)

@@ -7,10 +7,8 @@ ghost use Rattle.context_core.specs.Following.{Finishes, MayStep, Steps};
 use crate::books::{Books, draw, due, settle};
 use batch_plans::{CallLine, LaneProgress, Plan, context_of};
 use call_places::{Place, Step};
-use context_books::Draw;
-use due_replies::{refusal_of, standing};
+use context_books::{Draw, items_of_opening, refusal_of, standing};
 use hpke_context::Context;
-use lane_replies::items_of_opening;
 use speculative_open::{Crew, GuessTable};
 
 /// How far a lane is with a call. The last stage of a call that is done tells what it is answered

@@ -4,8 +4,8 @@ ghost use Rattle.std.specs.Prelude.{ℕ, List, Option};
 ghost use Rattle.hpke_context.specs.Contexts.{ContextView};
 ghost use Rattle.batch_plans.specs.declared.plan.Plan.{Plan};
 ghost use Rattle.batch_plans.specs.Limits.{IsWithinLimits};
-ghost use Rattle.due_replies.specs.Standing.{AreOfLines};
-ghost use Rattle.due_replies.specs.Runs.{IsAllowed};
+ghost use Rattle.context_books.specs.Standing.{AreOfLines};
+ghost use Rattle.context_books.specs.Runs.{IsAllowed};
 ghost use Rattle.context_core.specs.Rehearsals.{rehearsed};
 
 /// Whatever the schedule, the journals of a rehearsal are legal, in both versions, and each of its

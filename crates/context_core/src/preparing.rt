@@ -5,18 +5,16 @@ ghost use Rattle.std.specs.List.{range_with_len};
 ghost use Rattle.batch_plans.specs.Limits.{IsWithinLimits, items_of};
 ghost use Rattle.batch_plans.specs.declared.plan.ContextLine.{ContextLine};
 ghost use Rattle.batch_plans.specs.declared.plan.Plan.{Plan};
-ghost use Rattle.due_replies.specs.Standing.{AreOfLines};
-ghost use Rattle.lane_replies.specs.Quotas.{quotas_on};
+ghost use Rattle.context_books.specs.Standing.{AreOfLines};
+ghost use Rattle.context_books.specs.Quotas.{quotas_on};
 ghost use Rattle.context_core.specs.Following.{opened_count};
 ghost use Rattle.context_core.specs.Preparing.{fresh_at, IsFresh, AreFresh};
 
 use crate::lanes::{Lane, Stage};
 use batch_plans::{CallLine, LaneAnswers, LaneProgress, PlainList, Plan, items_of};
 use call_places::Step;
-use context_books::Book;
-use due_replies::standing;
+use context_books::{Book, all_quotas, standing};
 use hpke_context::Context;
-use lane_replies::all_quotas;
 use speculative_open::GuessTable;
 use std::alloc::{AllocError, Global};
 

@@ -6,8 +6,8 @@ use Rattle.hpke_context.specs.Contexts.{ContextView}
 use Rattle.batch_plans.specs.declared.plan.Plan.{Plan}
 use Rattle.batch_plans.specs.declared.replies.KeyReply.{KeyReply}
 use Rattle.batch_plans.specs.declared.replies.ContextReply.{ContextReply}
-use Rattle.due_replies.specs.Live.{live_run_along, IsAllowedLive, live_run_text}
-use Rattle.due_replies.specs.Runs.{run_along, IsAllowed, run_text}
+use Rattle.context_books.specs.Live.{live_run_along, IsAllowedLive, live_run_text}
+use Rattle.context_books.specs.Runs.{run_along, IsAllowed, run_text}
 use Rattle.context_table.specs.SetUp.{IsSetUp}
 
 -- the text replies to the plan's set-up, and to its calls along journals and guesses, which it

@@ -3,7 +3,7 @@
 ghost use Rattle.std.specs.Prelude.{◌≡◌, length, IfOk};
 ghost use Rattle.batch_plans.specs.Limits.{IsWithinLimits};
 ghost use Rattle.context_table.specs.SetUp.{IsSetUp};
-ghost use Rattle.due_replies.specs.Standing.{AreOfLines, limit_of, export_limits};
+ghost use Rattle.context_books.specs.Standing.{AreOfLines, limit_of, export_limits};
 
 use crate::contexts::context_table;
 use crate::keys::key_table;

@@ -9,11 +9,10 @@ use crate::expected::assert_same;
 use crate::messages::{Message, POOL, context_of, items_of, settle_three};
 use batch_plans::{CallRefusal, LaneAnswers, LaneProgress, PlainList, Reply};
 use call_places::{Item, Span};
-use context_books::Draw;
+use context_books::{Draw, export, finish_opening, finish_seal, refuse};
 use hex::FromHex;
 use hpke_context::Context;
 use key_schedule::Role;
-use lane_replies::{export, finish_opening, finish_seal, refuse};
 use std::alloc::Global;
 use std::process::Abort;
 use std::test::Fail;
@@ -88,7 +87,7 @@ fn seals_and_an_export_are_those_published(rt: HostRuntime) -> Result<(), Fail> 
 }
 
 // The replies to three items that a new book opens, with room for three texts.
-#[tactic(auto, using(lane_replies::proofs::Items::one_line_each))]
+#[tactic(auto, using(context_books::proofs::Items::one_line_each))]
 fn opened<R: Threads + Sync>(
     rt: &R,
     alloc: Global,

@@ -13,11 +13,11 @@ use Rattle.batch_plans.specs.declared.replies.KeyReply.TheVariants.{Generated}
 use Rattle.batch_plans.specs.declared.replies.ContextReply.{ContextReply}
 use Rattle.batch_plans.specs.declared.replies.Answers.{Answers}
 use Rattle.batch_plans.specs.ReplyText.{IsAnswered, has_stamps}
-use Rattle.due_replies.specs.Runs.{Run, asks_of, journal_of, LegalFor, run_along}
+use Rattle.context_books.specs.Runs.{Run, asks_of, journal_of, LegalFor, run_along}
 use Rattle.context_table.specs.SetUp.{IsSetUp}
-use Rattle.demo_texts.specs.Texts.{share_of}
-use Rattle.demo_texts.specs.Plans.{SealsText, IsSealingPlan, BeginsAs, set_up_plan}
-use Rattle.demo_texts.proofs.Spelled.{share_sum}
+use Rattle.demo_runs.specs.Texts.{share_of}
+use Rattle.demo_runs.specs.Plans.{SealsText, IsSealingPlan, BeginsAs, set_up_plan}
+use Rattle.demo_runs.proofs.Spelled.{share_sum}
 use Rattle.demo_runs.specs.declared.batches.DemoBatch.{DemoBatch}
 use Rattle.demo_runs.specs.declared.batches.ServedBatch.{ServedBatch}
 use Rattle.demo_runs.specs.declared.sealing.Sealing.{Sealing}

@@ -15,9 +15,9 @@ use Rattle.context_books.proofs.Replies.{reply_at}
 use Rattle.context_books.proofs.OneLane.{parted, few_taken}
 use Rattle.std.proofs.lemmas.Option.{slice_get_within}
 use Rattle.std.proofs.lemmas.Bool.{cases_lt}
-use Rattle.lane_replies.proofs.Steps.{seal_below}
-use Rattle.lane_replies.proofs.Sums.{count_parts, sum_numbers}
-use Rattle.demo_texts.specs.Texts.{sealed_text}
+use Rattle.context_books.proofs.Steps.{seal_below}
+use Rattle.context_books.proofs.Sums.{count_parts, sum_numbers}
+use Rattle.demo_runs.specs.Texts.{sealed_text}
 
 -- what each call of such a lane asks
 abbrev pub the_ask : Ask

@@ -11,3 +11,13 @@ pub mod OpeningRuns
 pub mod SecondBatch
 pub mod Reported
 pub mod Served
+pub mod HexFields
+pub mod Steps
+pub mod FrontLines
+pub mod SealLines
+pub mod OpenLines
+pub mod Sizes
+pub mod Parts
+pub mod Seen
+pub mod Spelled
+pub mod Answered

@@ -22,11 +22,11 @@ use Rattle.batch_plans.specs.declared.replies.LaneAnswers.{LaneAnswers}
 use Rattle.batch_plans.specs.Replies.{IsPrintable}
 use Rattle.batch_plans.specs.Lines.{reply_line}
 use Rattle.batch_plans.specs.ReplyText.{is_refused, guess_line, numbered, all_lines, calls_lines, answered_lines, lanes_lines}
-use Rattle.due_replies.specs.Standing.{standing_at, call_refusal}
-use Rattle.due_replies.specs.Asks.{ask_of, asked_by, ask_unless, cipher_in, cipher_at}
-use Rattle.due_replies.specs.Runs.{Run, asks_of, journal_of, place_line, answer_line_of, call_lines, lane_call_lines, served_lines, lines_unless}
-use Rattle.due_replies.proofs.Done.{lane_asks}
-use Rattle.demo_texts.specs.Plans.{SealsText}
+use Rattle.context_books.specs.Standing.{standing_at, call_refusal}
+use Rattle.context_books.specs.Asks.{ask_of, asked_by, ask_unless, cipher_in, cipher_at}
+use Rattle.context_books.specs.Runs.{Run, asks_of, journal_of, place_line, answer_line_of, call_lines, lane_call_lines, served_lines, lines_unless}
+use Rattle.context_books.proofs.Done.{lane_asks}
+use Rattle.demo_runs.specs.Plans.{SealsText}
 use Rattle.demo_runs.specs.Steps.{sealed_line, SealedLanes}
 use Rattle.demo_runs.proofs.Journals.{the_ask, AllAsk, number_at, reply_is, number_low, place_in, number_has_place, length-journal}
 

@@ -6,7 +6,7 @@ use Rattle.std.proofs.lemmas.List.{length-map}
 use Rattle.hpke_context.specs.Answers.{Item, Answer, Sealed_at, Opened_at, next, run as run_items}
 use Rattle.hpke_context.specs.Contexts.{ContextView, cipher_of}
 use Rattle.context_books.specs.Legal.{Legal}
-use Rattle.lane_replies.proofs.Steps.{seal_below}
+use Rattle.context_books.proofs.Steps.{seal_below}
 use Rattle.batch_plans.specs.declared.plan.Plan.{Plan}
 use Rattle.batch_plans.specs.declared.plan.CallLine.{CallLine}
 use Rattle.batch_plans.specs.declared.replies.KeyReply.{KeyReply}
@@ -16,14 +16,14 @@ use Rattle.batch_plans.specs.declared.replies.LaneAnswers.{LaneAnswers}
 use Rattle.batch_plans.specs.declared.replies.Answers.{Answers}
 use Rattle.batch_plans.specs.Lines.{reply_line}
 use Rattle.batch_plans.specs.ReplyText.{IsAnswered, has_stamps, numbered, answered_lines, lanes_lines}
-use Rattle.due_replies.specs.Standing.{standing_at, AreOfLines}
-use Rattle.due_replies.specs.Runs.{Run, asks_of, journal_of, LegalFor, lane_call_lines, run_along}
+use Rattle.context_books.specs.Standing.{standing_at, AreOfLines}
+use Rattle.context_books.specs.Runs.{Run, asks_of, journal_of, LegalFor, lane_call_lines, run_along}
 use Rattle.context_table.specs.SetUp.{IsSetUp}
 use Rattle.context_table.specs.Laws.{EndsMatch, Message, to_seal, to_open, sealed_from, opened_from, OpensInOrder}
 use Rattle.context_table.proofs.OneSetUp.{one_set_up_lem}
-use Rattle.demo_texts.specs.Texts.{sealed_text}
-use Rattle.demo_texts.specs.Plans.{IsOpeningPlan, set_up_plan}
-use Rattle.demo_texts.specs.Demo.{sealed_at}
+use Rattle.demo_runs.specs.Texts.{sealed_text}
+use Rattle.demo_runs.specs.Plans.{IsOpeningPlan, set_up_plan}
+use Rattle.demo_runs.specs.Demo.{sealed_at}
 use Rattle.demo_runs.specs.declared.batches.DemoBatch.{DemoBatch}
 use Rattle.demo_runs.specs.declared.batches.ServedBatch.{ServedBatch}
 use Rattle.demo_runs.specs.Batches.{AnswersARun, ciphertexts, HasCiphertexts, IsSealed, IsBegun, IsOpening, HasOpened}

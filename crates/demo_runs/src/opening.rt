@@ -7,10 +7,10 @@ ghost use Rattle.demo_runs.specs.Batches.{IsOpening, HasOpened};
 ghost use Rattle.demo_runs.specs.Steps.{opened_line, IsOpenedLane};
 
 use crate::batches::{DemoBatch, ServedBatch, begin};
+use crate::plans::opening_batch;
 use crate::sealing::Ciphertexts;
 use batch_plans::{LaneAnswers, Reply};
 use context_table::laws::ends_match;
-use demo_texts::opening_batch;
 use std::alloc::{AllocError, Global};
 
 // T: the bytes 00 to 3f.

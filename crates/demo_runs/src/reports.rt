@@ -3,13 +3,14 @@
 ghost use Rattle.std.specs.Prelude.{◌≡◌, ◌≤◌, ℕ, None};
 ghost use Rattle.std.specs.List.{concat};
 ghost use Rattle.sha2.specs.Sha256.{sha256};
-ghost use Rattle.demo_texts.specs.Demo.{IsDemo};
+ghost use Rattle.demo_runs.specs.Demo.{IsDemo};
 ghost use Rattle.demo_runs.specs.Batches.{IsSealed, HasOpened};
 
 use crate::batches::ServedBatch;
+use crate::ciphertexts::CIPHERTEXT_SIZE;
 use crate::opening::opened_messages;
+use crate::report_lines::DemoReport;
 use crate::sealing::Ciphertexts;
-use demo_texts::{CIPHERTEXT_SIZE, DemoReport};
 use sha2::{Digest, Sha256};
 
 // The SHA-256 of ciphertexts, joined.

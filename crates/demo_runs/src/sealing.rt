@@ -4,14 +4,15 @@ ghost use Rattle.std.specs.Prelude.{◌≡◌, ◌<◌, ◌≤◌, ℕ, List, le
 ghost use Rattle.std.specs.List.{flat_map};
 ghost use Rattle.hpke_context.specs.Contexts.{ContextView};
 ghost use Rattle.batch_plans.specs.Lines.{reply_line};
-ghost use Rattle.demo_texts.specs.Demo.{sealed_at};
+ghost use Rattle.demo_runs.specs.Demo.{sealed_at};
 ghost use Rattle.demo_runs.specs.Steps.{sealed_line, IsSealedReply, SealedLane, SealedLanes, AreLow};
 ghost use Rattle.demo_runs.specs.Batches.{IsSealed, is_generated, IsSealing, HasSealed};
 ghost use Rattle.demo_runs.specs.Steps.{IsSealedLane, AreSealedLanes, put_all};
 
 use crate::batches::{DemoBatch, ServedBatch, begin};
+use crate::ciphertexts::{CIPHERTEXT_SIZE, see_bytes};
+use crate::plans::sealing_batch;
 use batch_plans::{Answers, CallLine, KeyReply, LaneAnswers, PlainList, Plan, Reply};
-use demo_texts::{CIPHERTEXT_SIZE, sealing_batch, see_bytes};
 use std::alloc::{AllocError, Global};
 
 /// Ciphertexts of 64 bytes of text, in number order.

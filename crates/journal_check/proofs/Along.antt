@@ -8,7 +8,7 @@ use Rattle.hpke_context.specs.Contexts.{ContextView, SequentialView, cipher_of, 
 use Rattle.context_books.specs.Entries.{numbers_from}
 use Rattle.context_books.specs.Histories.{places}
 use Rattle.batch_plans.specs.declared.plan.Plan.{Plan}
-use Rattle.due_replies.specs.Runs.{answer_line}
+use Rattle.context_books.specs.Runs.{answer_line}
 use Rattle.journal_check.proofs.Walks.{drop_next}
 use Rattle.journal_check.specs.declared.items.Asked.{Asked}
 use Rattle.journal_check.specs.Runs.{asked_at, asked_and, item_view, items_at}

@@ -17,9 +17,9 @@ use Rattle.batch_plans.specs.declared.plan.CallLine.{CallLine}
 use Rattle.batch_plans.specs.declared.plan.CallLine.TheVariants as calls
 use Rattle.batch_plans.specs.declared.replies.CallRefusal.{CallRefusal}
 use Rattle.batch_plans.specs.Limits.{IsCallWithin, IsWithinLimits}
-use Rattle.due_replies.specs.Standing.{call_refusal}
-use Rattle.due_replies.specs.Asks.{asked_by, ask_unless, ask_of, batch_of}
-use Rattle.due_replies.proofs.Done.{lane_asks, length-messages}
+use Rattle.context_books.specs.Standing.{call_refusal}
+use Rattle.context_books.specs.Asks.{asked_by, ask_unless, ask_of, batch_of}
+use Rattle.context_books.proofs.Done.{lane_asks, length-messages}
 use Rattle.journal_check.specs.declared.asks.Asked.{Asked}
 use Rattle.journal_check.specs.Asks.{items_asked, asked_unless, places_asked, places_from, sized, size_in, size_of, sizes_of, no_message, ask_from, batch_from, more_by, goes_on_by, AreFew}
 use Rattle.journal_check.specs.Histories.{spots_from}

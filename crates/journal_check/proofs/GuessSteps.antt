@@ -8,10 +8,10 @@ use Rattle.batch_plans.specs.declared.plan.CallLine.{CallLine}
 use Rattle.batch_plans.specs.declared.plan.CallLine.TheVariants as calls
 use Rattle.batch_plans.specs.declared.replies.CallRefusal.{CallRefusal}
 use Rattle.batch_plans.specs.Limits.{items_from}
-use Rattle.due_replies.specs.Standing.{call_refusal}
-use Rattle.due_replies.specs.Asks.{asked_by, ask_unless, ask_of}
-use Rattle.due_replies.specs.Runs.{Run}
-use Rattle.due_replies.proofs.Done.{length-messages}
+use Rattle.context_books.specs.Standing.{call_refusal}
+use Rattle.context_books.specs.Asks.{asked_by, ask_unless, ask_of}
+use Rattle.context_books.specs.Runs.{Run}
+use Rattle.context_books.proofs.Done.{length-messages}
 use Rattle.result_lines.specs.declared.told.GuessLine.{GuessLine}
 use Rattle.result_lines.specs.Guesses.{is_right, wrong_guess}
 use Rattle.journal_check.specs.Passing.{opens_unless, is_opening}

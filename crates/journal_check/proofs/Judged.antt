@@ -6,10 +6,10 @@ use Rattle.hpke_context.specs.Contexts.{ContextView}
 use Rattle.batch_plans.specs.declared.plan.Plan.{Plan}
 use Rattle.batch_plans.specs.Limits.{IsWithinLimits}
 use Rattle.batch_plans.specs.Names.{line_count}
-use Rattle.due_replies.specs.Asks.{batch_of}
-use Rattle.due_replies.specs.Live.{LiveRun, looked_up_plan}
-use Rattle.due_replies.specs.LiveChecks.{is_live_history}
-use Rattle.due_replies.specs.Runs.{Run}
+use Rattle.context_books.specs.Asks.{batch_of}
+use Rattle.context_books.specs.Live.{LiveRun, looked_up_plan}
+use Rattle.context_books.specs.LiveChecks.{is_live_history}
+use Rattle.context_books.specs.Runs.{Run}
 use Rattle.result_lines.specs.declared.told.GuessLine.{GuessLine}
 use Rattle.result_lines.specs.declared.verdicts.Verdict.{Verdict}
 use Rattle.result_lines.specs.declared.verdicts.Verdict.TheVariants.{Legal, Journal}

@@ -3,7 +3,7 @@ use Rattle.std.proofs.Common.{◌≡◌, ℕ, ◌+◌, Bool, Option, Result, Lis
 use Rattle.std.proofs.lemmas.List.{drop_all}
 use Rattle.batch_plans.specs.declared.plan.CallLine.{CallLine}
 use Rattle.batch_plans.specs.ReplyText.{all_lines, numbered}
-use Rattle.due_replies.specs.Runs.{Run}
+use Rattle.context_books.specs.Runs.{Run}
 use Rattle.result_lines.specs.Told.{ReplyView}
 use Rattle.result_lines.specs.declared.stop.Stop.{Stop}
 use Rattle.result_lines.specs.declared.stop.Stop.TheVariants.{OutOfMemory, Wrong}

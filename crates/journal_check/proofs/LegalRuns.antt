@@ -11,7 +11,7 @@ use Rattle.context_books.specs.Lists.{In}
 use Rattle.context_books.proofs.Places.{before_split, not_in_front}
 use Rattle.context_books.proofs.Replies.{reply_at}
 use Rattle.context_books.proofs.Runs.{due_after-append}
-use Rattle.due_replies.specs.Runs.{answer_line, answer_line_of}
+use Rattle.context_books.specs.Runs.{answer_line, answer_line_of}
 
 -- each place of a legal journal is served
 pub all_served : (batch : Batch) (context : ℕ) (journal : List Place) → Legal batch context journal → (p : Place) → In p journal → IsServed batch context p

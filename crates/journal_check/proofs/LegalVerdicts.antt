@@ -3,7 +3,7 @@ use Rattle.std.proofs.Common.{◌≡◌, ◌↔◌, ℕ, List, Option, sym, ◌�
 use Rattle.hpke_context.specs.Contexts.{ContextView}
 use Rattle.batch_plans.specs.Limits.{IsWithinLimits}
 use Rattle.batch_plans.specs.declared.plan.Plan.{Plan}
-use Rattle.due_replies.specs.Runs.{IsAllowed, run_text, run_along}
+use Rattle.context_books.specs.Runs.{IsAllowed, run_text, run_along}
 use Rattle.context_table.specs.ReplyTo.{IsReply}
 use Rattle.context_table.proofs.OneSetUp.{one_set_up_lem}
 use Rattle.result_lines.specs.declared.verdicts.Verdict.{Verdict}

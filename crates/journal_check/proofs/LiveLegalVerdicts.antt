@@ -5,7 +5,7 @@ use Rattle.hpke_context.specs.Contexts.{ContextView}
 use Rattle.batch_plans.specs.Limits.{IsWithinLimits}
 use Rattle.batch_plans.specs.declared.plan.Plan.{Plan}
 use Rattle.batch_plans.specs.declared.replies.ContextReply.{ContextReply}
-use Rattle.due_replies.specs.Live.{IsAllowedLive, live_run_text, live_run_along}
+use Rattle.context_books.specs.Live.{IsAllowedLive, live_run_text, live_run_along}
 use Rattle.context_table.specs.ReplyTo.{IsLiveReply}
 use Rattle.context_table.proofs.OneSetUp.{one_set_up_lem}
 use Rattle.result_lines.specs.declared.verdicts.Verdict.{Verdict}

@@ -11,7 +11,7 @@ use Rattle.call_places.specs.declared.entries.Step.{Step}
 use Rattle.call_places.specs.declared.entries.Step.TheVariants.{Sealed, SealLimit, Opened, Failed, OpenLimit, Note}
 use Rattle.call_places.specs.Notes.{live_at}
 use Rattle.call_places.proofs.Live.{live_after, live_at-push}
-use Rattle.due_replies.specs.LiveChecks.{is_same_truth, tells_live_after, tells_live_at}
+use Rattle.context_books.specs.LiveChecks.{is_same_truth, tells_live_after, tells_live_at}
 use Rattle.journal_check.specs.Lives.{changed}
 
 -- ---- one bit for each name

@@ -9,7 +9,7 @@ use Rattle.batch_plans.specs.declared.replies.Batch.{Batch}
 use Rattle.batch_plans.specs.declared.replies.KeyReply.{KeyReply}
 use Rattle.batch_plans.specs.declared.replies.ContextReply.{ContextReply}
 use Rattle.context_table.specs.SetUp.{IsSetUp}
-use Rattle.due_replies.specs.Live.{looked_up_plan}
+use Rattle.context_books.specs.Live.{looked_up_plan}
 use Rattle.result_lines.specs.Printed.{lane_guesses, guesses_told}
 use Rattle.result_lines.specs.Tables.{table_told}
 use Rattle.result_lines.specs.Told.{ToldView}

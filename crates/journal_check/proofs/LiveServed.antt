@@ -11,8 +11,8 @@ use Rattle.batch_plans.specs.Calls.{context_of}
 use Rattle.batch_plans.specs.Limits.{first_name}
 use Rattle.batch_plans.specs.Names.{at_position}
 use Rattle.batch_plans.specs.ReplyText.{all_lines, numbered}
-use Rattle.due_replies.specs.Live.{LiveRun, run_of, was_live, looked_up, live_run_along}
-use Rattle.due_replies.specs.Runs.{Run}
+use Rattle.context_books.specs.Live.{LiveRun, run_of, was_live, looked_up, live_run_along}
+use Rattle.context_books.specs.Runs.{Run}
 use Rattle.result_lines.specs.LiveVerdicts.{live_reply_lines, live_lane_replies, live_replies}
 use Rattle.result_lines.specs.Replies.{reply_lines, lane_replies, all_replies}
 use Rattle.journal_check.specs.declared.tables.Table.{Table}

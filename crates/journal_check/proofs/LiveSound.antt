@@ -8,8 +8,8 @@ use Rattle.hpke_context.specs.Contexts.{ContextView}
 use Rattle.context_books.proofs.Truths.{both_true}
 use Rattle.batch_plans.specs.declared.plan.Plan.{Plan}
 use Rattle.context_books.specs.Batches.{Batch}
-use Rattle.due_replies.specs.Live.{Noting}
-use Rattle.due_replies.specs.LiveChecks.{is_same_act, tells_noting, tells_act}
+use Rattle.context_books.specs.Live.{Noting}
+use Rattle.context_books.specs.LiveChecks.{is_same_act, tells_noting, tells_act}
 use Rattle.result_lines.specs.declared.tables.NoteLine.{NoteLine}
 use Rattle.result_lines.specs.Tables.{entry_by, entry_of, noting_at, notes_told, table_told}
 use Rattle.result_lines.specs.Journals.{is_journal, broken_journal}

@@ -26,9 +26,9 @@ use Rattle.batch_plans.specs.declared.plan.Plan.{Plan}
 use Rattle.batch_plans.specs.declared.plan.CallLine.{CallLine}
 use Rattle.batch_plans.specs.ReplyText.{numbered}
 use Rattle.batch_plans.proofs.Numbering.{length-numbered}
-use Rattle.due_replies.specs.Asks.{ask_of}
-use Rattle.due_replies.specs.Live.{noting, looked_up, looked_up_plan, LiveRun}
-use Rattle.due_replies.specs.LiveChecks.{note_ask, pairs, asks_with_notes, note_mark, call_mark, with_table}
+use Rattle.context_books.specs.Asks.{ask_of}
+use Rattle.context_books.specs.Live.{noting, looked_up, looked_up_plan, LiveRun}
+use Rattle.context_books.specs.LiveChecks.{note_ask, pairs, asks_with_notes, note_mark, call_mark, with_table}
 use Rattle.result_lines.specs.Journals.{is_journal, stamps_rise}
 use Rattle.result_lines.proofs.Limited.{IsLine, calls_few}
 use Rattle.journal_check.specs.declared.asks.Asked.{Asked}

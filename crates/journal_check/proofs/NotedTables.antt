@@ -10,8 +10,8 @@ use Rattle.context_books.specs.Checks.{is_legal_history}
 use Rattle.batch_plans.specs.Limits.{IsWithinLimits}
 use Rattle.batch_plans.specs.declared.plan.Plan.{Plan}
 use Rattle.batch_plans.specs.declared.plan.CallLine.{CallLine}
-use Rattle.due_replies.specs.Live.{LiveRun, looked_up_plan}
-use Rattle.due_replies.specs.LiveChecks.{asks_with_notes, with_table, note_mark, tells_act, tells_live_at, is_live_history}
+use Rattle.context_books.specs.Live.{LiveRun, looked_up_plan}
+use Rattle.context_books.specs.LiveChecks.{asks_with_notes, with_table, note_mark, tells_act, tells_live_at, is_live_history}
 use Rattle.result_lines.specs.Journals.{is_journal}
 use Rattle.journal_check.specs.declared.asks.Asked.{Asked}
 use Rattle.journal_check.specs.Asks.{AreFew, batch_from}

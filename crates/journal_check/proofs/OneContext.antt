@@ -6,7 +6,7 @@ use Rattle.std.proofs.lemmas.Option.{slice_get-get_or}
 use Rattle.call_places.specs.declared.entries.Place.{Place}
 use Rattle.call_places.specs.declared.entries.Mark.{Mark}
 use Rattle.context_books.specs.Histories.{places}
-use Rattle.due_replies.specs.Runs.{Run, place_line, journal_of}
+use Rattle.context_books.specs.Runs.{Run, place_line, journal_of}
 use Rattle.journal_check.specs.declared.lane_walks.CheckedRun.{CheckedRun}
 use Rattle.journal_check.specs.declared.runs.JournalRun.{JournalRun}
 use Rattle.journal_check.specs.Passing.{due_at}

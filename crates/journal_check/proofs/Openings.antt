@@ -15,8 +15,8 @@ use Rattle.context_books.proofs.Places.{before_split, not_in_front}
 use Rattle.batch_plans.specs.declared.plan.CallLine.{CallLine}
 use Rattle.batch_plans.specs.declared.plan.CallLine.TheVariants as calls
 use Rattle.batch_plans.specs.declared.replies.Batch as told_batch
-use Rattle.due_replies.specs.Asks.{cipher_at}
-use Rattle.due_replies.specs.Runs.{Run, asks_of, journal_of}
+use Rattle.context_books.specs.Asks.{cipher_at}
+use Rattle.context_books.specs.Runs.{Run, asks_of, journal_of}
 use Rattle.journal_check.specs.declared.lane_walks.Walk.{Walk}
 use Rattle.journal_check.specs.Asks.{items_asked, asked_in, places_from}
 use Rattle.result_lines.specs.Guesses.{is_right}

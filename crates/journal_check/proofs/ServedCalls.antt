@@ -13,8 +13,8 @@ use Rattle.batch_plans.specs.Calls.{context_of}
 use Rattle.batch_plans.specs.declared.plan.CallLine.{CallLine}
 use Rattle.batch_plans.specs.declared.plan.CallLine.TheVariants as calls
 use Rattle.batch_plans.specs.declared.replies.CallRefusal.{CallRefusal}
-use Rattle.due_replies.specs.Standing.{standing_at, call_refusal}
-use Rattle.due_replies.specs.Runs.{Run, place_line, item_lines}
+use Rattle.context_books.specs.Standing.{standing_at, call_refusal}
+use Rattle.context_books.specs.Runs.{Run, place_line, item_lines}
 use Rattle.journal_check.specs.declared.lane_walks.Walk.{Walk}
 use Rattle.result_lines.proofs.DueReplies.{stands_for}
 use Rattle.result_lines.proofs.RunTexts.{length-block}

@@ -20,8 +20,8 @@ use Rattle.batch_plans.specs.declared.plan.CallLine.TheVariants as calls
 use Rattle.batch_plans.specs.declared.replies.CallRefusal.{CallRefusal}
 use Rattle.batch_plans.specs.Calls.{seal_refusal, open_refusal}
 use Rattle.batch_plans.specs.Limits.{items_from}
-use Rattle.due_replies.specs.Standing.{standing_at, refusal_on, call_refusal}
-use Rattle.due_replies.specs.Asks.{asked_by, ask_unless, ask_of, batch_of}
+use Rattle.context_books.specs.Standing.{standing_at, refusal_on, call_refusal}
+use Rattle.context_books.specs.Asks.{asked_by, ask_unless, ask_of, batch_of}
 use Rattle.journal_check.specs.declared.items.Asked.{Asked}
 use Rattle.journal_check.specs.declared.items.Asked.TheVariants.{Seal, Open}
 use Rattle.journal_check.specs.Runs.{asked_in_call, asked_at, item_view, asked_and, items_at, CanDo}

@@ -6,7 +6,7 @@ use Rattle.call_places.specs.declared.entries.Mark.{Mark}
 use Rattle.hpke_context.specs.Contexts.{ContextView}
 use Rattle.context_books.specs.Histories.{marks_at}
 use Rattle.batch_plans.specs.declared.plan.Plan.{Plan}
-use Rattle.due_replies.specs.Standing.{standing_at}
+use Rattle.context_books.specs.Standing.{standing_at}
 use Rattle.journal_check.specs.declared.runs.JournalRun.{JournalRun}
 use Rattle.journal_check.specs.Runs.{IsRunOf, AreRuns}
 

@@ -15,9 +15,9 @@ use Rattle.context_books.proofs.Legals.{lane_is}
 use Rattle.context_books.specs.Lists.{In}
 use Rattle.batch_plans.specs.declared.plan.Plan.{Plan}
 use Rattle.batch_plans.specs.Limits.{IsWithinLimits}
-use Rattle.due_replies.specs.Standing.{standing_at}
-use Rattle.due_replies.specs.Asks.{batch_of, cipher_in, cipher_at}
-use Rattle.due_replies.specs.Runs.{Run, asks_of, journal_of, answer_line, run_along}
+use Rattle.context_books.specs.Standing.{standing_at}
+use Rattle.context_books.specs.Asks.{batch_of, cipher_in, cipher_at}
+use Rattle.context_books.specs.Runs.{Run, asks_of, journal_of, answer_line, run_along}
 use Rattle.journal_check.specs.declared.runs.JournalRun.{JournalRun}
 use Rattle.result_lines.specs.Journals.{broken_journal}
 use Rattle.journal_check.specs.Passing.{AreNumbersOf, AreLegal}

@@ -7,7 +7,7 @@ use Rattle.context_books.specs.Batches.{Ask, ToOpenAll, Batch, block, items_in, 
 use Rattle.batch_plans.specs.declared.plan.CallLine.{CallLine}
 use Rattle.batch_plans.specs.declared.plan.CallLine.TheVariants as calls
 use Rattle.batch_plans.specs.declared.replies.CallRefusal.{CallRefusal}
-use Rattle.due_replies.specs.Standing.{call_refusal}
+use Rattle.context_books.specs.Standing.{call_refusal}
 use Rattle.journal_check.specs.declared.asks.Asked.{Asked}
 
 -- the context that a call asks for an item or more, and for how many

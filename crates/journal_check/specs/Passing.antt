@@ -10,9 +10,9 @@ use Rattle.batch_plans.specs.declared.plan.CallLine.{CallLine}
 use Rattle.batch_plans.specs.declared.plan.CallLine.TheVariants as calls
 use Rattle.batch_plans.specs.declared.replies.Batch.{Batch}
 use Rattle.batch_plans.specs.declared.replies.CallRefusal.{CallRefusal}
-use Rattle.due_replies.specs.Standing.{standing_at, call_refusal}
-use Rattle.due_replies.specs.Asks.{cipher_at}
-use Rattle.due_replies.specs.Runs.{Run, asks_of, journal_of}
+use Rattle.context_books.specs.Standing.{standing_at, call_refusal}
+use Rattle.context_books.specs.Asks.{cipher_at}
+use Rattle.context_books.specs.Runs.{Run, asks_of, journal_of}
 use Rattle.journal_check.specs.declared.runs.JournalRun.{JournalRun}
 
 -- a guess lies from this number to the first of those that were due, and missed so many of them

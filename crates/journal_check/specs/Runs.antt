@@ -14,8 +14,8 @@ use Rattle.batch_plans.specs.declared.plan.Plan.{Plan}
 use Rattle.batch_plans.specs.declared.plan.CallLine.{CallLine}
 use Rattle.batch_plans.specs.declared.plan.CallLine.TheVariants as calls
 use Rattle.batch_plans.specs.Limits.{items_from, IsItemWithin, most_ciphertext}
-use Rattle.due_replies.specs.Standing.{standing_at}
-use Rattle.due_replies.specs.Runs.{answer_line}
+use Rattle.context_books.specs.Standing.{standing_at}
+use Rattle.context_books.specs.Runs.{answer_line}
 use Rattle.journal_check.specs.declared.items.Asked.{Asked}
 use Rattle.journal_check.specs.declared.runs.JournalRun.{JournalRun}
 use Rattle.journal_check.specs.declared.items.Asked.TheVariants.{Seal, Open}

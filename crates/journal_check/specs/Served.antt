@@ -9,10 +9,10 @@ use Rattle.batch_plans.specs.declared.plan.CallLine.{CallLine}
 use Rattle.batch_plans.specs.declared.plan.CallLine.TheVariants.{Add, Retire}
 use Rattle.batch_plans.specs.Names.{line_count}
 use Rattle.batch_plans.specs.ReplyText.{all_lines, numbered, has_stamps}
-use Rattle.due_replies.specs.Asks.{batch_of}
-use Rattle.due_replies.specs.Live.{LiveRun, looked_up_plan, was_live, add_line, retire_line}
-use Rattle.due_replies.specs.LiveChecks.{tells_act, is_live_history}
-use Rattle.due_replies.specs.Runs.{Run}
+use Rattle.context_books.specs.Asks.{batch_of}
+use Rattle.context_books.specs.Live.{LiveRun, looked_up_plan, was_live, add_line, retire_line}
+use Rattle.context_books.specs.LiveChecks.{tells_act, is_live_history}
+use Rattle.context_books.specs.Runs.{Run}
 use Rattle.result_lines.specs.declared.verdicts.Verdict.{Verdict}
 use Rattle.result_lines.specs.declared.verdicts.Verdict.TheVariants as verdicts
 use Rattle.result_lines.specs.Journals.{broken_journal, is_one_history}

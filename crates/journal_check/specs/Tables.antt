@@ -6,8 +6,8 @@ use Rattle.call_places.specs.declared.entries.Mark.{Mark}
 use Rattle.hpke_context.specs.Contexts.{ContextView}
 use Rattle.batch_plans.specs.declared.plan.Plan.{Plan}
 use Rattle.batch_plans.specs.declared.plan.CallLine.{CallLine}
-use Rattle.due_replies.specs.Live.{Noting, noting, LiveRun, live_run_along}
-use Rattle.due_replies.specs.LiveChecks.{note_ask, note_mark, call_mark}
+use Rattle.context_books.specs.Live.{Noting, noting, LiveRun, live_run_along}
+use Rattle.context_books.specs.LiveChecks.{note_ask, note_mark, call_mark}
 use Rattle.journal_check.specs.declared.asks.Asked.{Asked}
 use Rattle.journal_check.specs.Asks.{size_in, size_of}
 

@@ -7,8 +7,8 @@ use Rattle.context_books.specs.Batches.{own_places}
 use Rattle.context_books.specs.Histories.{marks_at, places}
 use Rattle.batch_plans.specs.declared.plan.CallLine.{CallLine}
 use Rattle.batch_plans.specs.Limits.{IsCallWithin, IsWithinLimits}
-use Rattle.due_replies.specs.Standing.{standing_at}
-use Rattle.due_replies.specs.Runs.{Run, place_line, journal_of}
+use Rattle.context_books.specs.Standing.{standing_at}
+use Rattle.context_books.specs.Runs.{Run, place_line, journal_of}
 use Rattle.result_lines.specs.declared.told.GuessLine.{GuessLine}
 use Rattle.result_lines.specs.Told.{ReplyView}
 use Rattle.result_lines.specs.declared.stop.Stop.{Stop}

@@ -3,12 +3,12 @@
 ghost use Rattle.std.specs.Prelude.{◌≡◌, ◌++◌, map, IfOk, MatchOption, Some, None};
 ghost use Rattle.std.specs.Prelude.{[], slice_get, slice_index_or};
 ghost use Rattle.batch_plans.specs.Limits.{IsWithinLimits};
-ghost use Rattle.due_replies.specs.Asks.{batch_of};
+ghost use Rattle.context_books.specs.Asks.{batch_of};
 ghost use Rattle.journal_check.specs.Asks.{asked_in, size_in, sizes_of, AreFew, goes_on_by};
 
 use batch_plans::{CallLine, PlainList, Plan};
 use call_places::Place;
-use due_replies::refusal_of;
+use context_books::refusal_of;
 use hpke_context::Context;
 use std::alloc::{AllocError, Global};
 

@@ -7,7 +7,7 @@ ghost use Rattle.context_books.specs.Checks.{are_same, is_same_mark};
 ghost use Rattle.context_books.specs.Checks.{is_history as is_history_of, is_legal_history};
 ghost use Rattle.context_books.specs.Checks.{has_lane_spots};
 ghost use Rattle.batch_plans.specs.Limits.{IsWithinLimits};
-ghost use Rattle.due_replies.specs.Asks.{batch_of};
+ghost use Rattle.context_books.specs.Asks.{batch_of};
 ghost use Rattle.journal_check.specs.Asks.{AreFew, batch_from};
 ghost use Rattle.journal_check.specs.Histories.{Puts, PutsAll, is_within};
 

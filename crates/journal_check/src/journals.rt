@@ -9,7 +9,7 @@ ghost use Rattle.context_books.specs.Legal.{is_same_place};
 ghost use Rattle.context_books.specs.Histories.{places as places_in, marks_at};
 ghost use Rattle.context_books.specs.Checks.{has_lanes as has_lanes_of};
 ghost use Rattle.context_books.specs.Checks.{is_unbroken as is_unbroken_of, is_legal as is_legal_of};
-ghost use Rattle.due_replies.specs.Asks.{batch_of};
+ghost use Rattle.context_books.specs.Asks.{batch_of};
 ghost use Rattle.result_lines.specs.Journals.{stamps_rise as stamps_rise_of};
 ghost use Rattle.result_lines.specs.Journals.{is_journal as is_journal_of};
 ghost use Rattle.result_lines.specs.Journals.{broken_journal as broken_journal_of};

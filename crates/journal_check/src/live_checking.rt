@@ -4,8 +4,8 @@ ghost use Rattle.std.specs.Prelude.{◌≡◌, ◌↔◌, ◌≤◌, true, lengt
 ghost use Rattle.std.specs.List.{list_all};
 ghost use Rattle.batch_plans.specs.Limits.{IsWithinLimits, most_input};
 ghost use Rattle.context_table.specs.ReplyTo.{IsLiveReply};
-ghost use Rattle.due_replies.specs.Live.{looked_up_plan};
-ghost use Rattle.due_replies.specs.LiveChecks.{tells_act};
+ghost use Rattle.context_books.specs.Live.{looked_up_plan};
+ghost use Rattle.context_books.specs.LiveChecks.{tells_act};
 ghost use Rattle.result_lines.specs.declared.verdicts.Verdict.{Verdict};
 ghost use Rattle.result_lines.specs.LiveVerdicts.{live_told};
 ghost use Rattle.journal_check.specs.Verdicts.{IsLiveVerdict};

@@ -6,7 +6,7 @@ ghost use Rattle.batch_plans.specs.Limits.{IsWithinLimits};
 ghost use Rattle.batch_plans.specs.Names.{line_count};
 ghost use Rattle.batch_plans.specs.Replies.{IsInRange};
 ghost use Rattle.batch_plans.specs.Lines.{reply_line};
-ghost use Rattle.due_replies.specs.Live.{add_line, retire_line};
+ghost use Rattle.context_books.specs.Live.{add_line, retire_line};
 ghost use Rattle.result_lines.specs.Replies.{reply_lines};
 ghost use Rattle.journal_check.specs.Asks.{asked_in};
 ghost use Rattle.journal_check.specs.Served.{due_by};

@@ -2,7 +2,7 @@
 
 ghost use Rattle.std.specs.Prelude.{◌≡◌, ◌<◌, false, length, slice_get, IfOk};
 ghost use Rattle.std.specs.List.{All, list_all, range_with_len};
-ghost use Rattle.due_replies.specs.LiveChecks.{is_same_truth, tells_live_at};
+ghost use Rattle.context_books.specs.LiveChecks.{is_same_truth, tells_live_at};
 ghost use Rattle.journal_check.specs.Lives.{name_of, changed};
 
 use call_places::{Act, Entry, Step};

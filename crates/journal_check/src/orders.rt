@@ -3,8 +3,8 @@
 ghost use Rattle.std.specs.Prelude.{◌≡◌, ◌≤◌, ◌<◌, ◌^◌, ◌+◌, length, IfOk};
 ghost use Rattle.batch_plans.specs.Limits.{IsWithinLimits, most_contexts};
 ghost use Rattle.batch_plans.specs.Names.{line_count};
-ghost use Rattle.due_replies.specs.Asks.{batch_of};
-ghost use Rattle.due_replies.specs.LiveChecks.{is_live_history as is_live_history_of};
+ghost use Rattle.context_books.specs.Asks.{batch_of};
+ghost use Rattle.context_books.specs.LiveChecks.{is_live_history as is_live_history_of};
 ghost use Rattle.result_lines.specs.declared.verdicts.Verdict.{Verdict};
 ghost use Rattle.result_lines.specs.Journals.{is_one_history as is_one_history_of};
 ghost use Rattle.result_lines.specs.LiveVerdicts.{called as called_of};

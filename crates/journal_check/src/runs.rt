@@ -8,8 +8,8 @@ ghost use Rattle.context_books.specs.Histories.{places};
 ghost use Rattle.context_books.specs.Entries.{numbers_from};
 ghost use Rattle.context_books.specs.Lists.{In};
 ghost use Rattle.batch_plans.specs.Limits.{IsWithinLimits};
-ghost use Rattle.due_replies.specs.Standing.{standing_at};
-ghost use Rattle.due_replies.specs.Runs.{answer_line};
+ghost use Rattle.context_books.specs.Standing.{standing_at};
+ghost use Rattle.context_books.specs.Runs.{answer_line};
 ghost use Rattle.journal_check.specs.Runs.{asked_at as asked_at_of, items_at, IsFor};
 ghost use Rattle.journal_check.specs.Runs.{IsRunOf, AreRuns, AreFor};
 

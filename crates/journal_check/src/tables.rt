@@ -9,10 +9,10 @@ ghost use Rattle.std.specs.Prelude.{ℕ, ◌≡◌, ◌≤◌, ◌<◌, ◌+◌,
 ghost use Rattle.std.specs.List.{list_all};
 ghost use Rattle.batch_plans.specs.Limits.{IsWithinLimits, most_contexts};
 ghost use Rattle.batch_plans.specs.Names.{line_count};
-ghost use Rattle.due_replies.specs.Live.{noting};
-ghost use Rattle.due_replies.specs.LiveChecks.{note_ask, note_mark, call_mark};
-ghost use Rattle.due_replies.specs.LiveChecks.{is_live_history as is_live_history_of};
-ghost use Rattle.due_replies.specs.Standing.{standing_at};
+ghost use Rattle.context_books.specs.Live.{noting};
+ghost use Rattle.context_books.specs.LiveChecks.{note_ask, note_mark, call_mark};
+ghost use Rattle.context_books.specs.LiveChecks.{is_live_history as is_live_history_of};
+ghost use Rattle.context_books.specs.Standing.{standing_at};
 ghost use Rattle.result_lines.specs.Journals.{is_journal as is_journal_of};
 ghost use Rattle.journal_check.specs.Asks.{size_of as size_of_ask, AreFew, batch_from};
 ghost use Rattle.journal_check.specs.Tables.{is_standing, is_noting, pairs_by, all_pairs_by};

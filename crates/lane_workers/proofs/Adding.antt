@@ -23,12 +23,12 @@ use Rattle.batch_plans.specs.Lines.{reply_line, exported_line}
 use Rattle.batch_plans.specs.LiveText.{is_given}
 use Rattle.batch_plans.specs.ReplyText.{is_refused, HasReplies}
 use Rattle.batch_plans.proofs.CallLines.{HasReplies-one, HasReplies-refused, HasReplies-opening}
-use Rattle.due_replies.specs.Standing.{call_refusal}
-use Rattle.due_replies.specs.Runs.{answer_line}
-use Rattle.lane_replies.specs.Writing.{PutsReplies}
-use Rattle.lane_replies.specs.LaneCalls.{opening_items, IsOpening}
-use Rattle.lane_replies.proofs.Items.{one_line_each}
-use Rattle.lane_replies.proofs.Within.{opening_count}
+use Rattle.context_books.specs.Standing.{call_refusal}
+use Rattle.context_books.specs.Runs.{answer_line}
+use Rattle.context_books.specs.Writing.{PutsReplies}
+use Rattle.context_books.specs.LaneCalls.{opening_items, IsOpening}
+use Rattle.context_books.proofs.Items.{one_line_each}
+use Rattle.context_books.proofs.Within.{opening_count}
 use Rattle.lane_workers.specs.declared.works.LaneWork.{LaneWork}
 use Rattle.lane_workers.specs.Turns.{views}
 use Rattle.lane_workers.specs.Lanes.{MayAnswer}

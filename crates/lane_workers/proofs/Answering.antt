@@ -35,24 +35,24 @@ use Rattle.batch_plans.specs.Calls.{context_of, refusal}
 use Rattle.batch_plans.specs.Room.{served_room, served_batches}
 use Rattle.batch_plans.specs.Progress.{Progress, with_reply}
 use Rattle.batch_plans.specs.Lines.{exported_line}
-use Rattle.due_replies.specs.Standing.{standing_at, refusal_on, call_refusal, export_limits}
-use Rattle.due_replies.specs.Asks.{ask_of, ask_unless, asked_by, cipher_at, cipher_in}
-use Rattle.due_replies.specs.Runs.{answer_line, export_line, lines_unless}
-use Rattle.due_replies.proofs.Refusals.{refusal_agrees}
-use Rattle.lane_replies.specs.Writing.{due_at, PutsReplies}
-use Rattle.lane_replies.specs.Answered.{HasAnswered, HasRoomFor}
-use Rattle.lane_replies.proofs.Answering.{answered_one, answered_refused}
-use Rattle.lane_replies.proofs.Rooms.{FindsRoom, room_drop, room_served, room_refused, room_after, room_after_refused}
-use Rattle.lane_replies.proofs.Draws.{due_at-drawn, drawn_steps}
+use Rattle.context_books.specs.Standing.{standing_at, refusal_on, call_refusal, export_limits}
+use Rattle.context_books.specs.Asks.{ask_of, ask_unless, asked_by, cipher_at, cipher_in}
+use Rattle.context_books.specs.Runs.{answer_line, export_line, lines_unless}
+use Rattle.context_books.proofs.Refusals.{refusal_agrees}
+use Rattle.context_books.specs.Writing.{due_at, PutsReplies}
+use Rattle.context_books.specs.Answered.{HasAnswered, HasRoomFor}
+use Rattle.context_books.proofs.Answering.{answered_one, answered_refused}
+use Rattle.context_books.proofs.Rooms.{FindsRoom, room_drop, room_served, room_refused, room_after, room_after_refused}
+use Rattle.context_books.proofs.Draws.{due_at-drawn, drawn_steps}
 use Rattle.lane_workers.specs.declared.works.LaneWork.{LaneWork}
 use Rattle.lane_workers.specs.Served.{Told, told_lines, told_served, seen_by}
 use Rattle.lane_workers.specs.Turns.{shared_at, pass_at, view_in, view_of, views, with_progress, CanTurn, Draws}
-use Rattle.lane_replies.specs.LaneCalls as lanes
+use Rattle.context_books.specs.LaneCalls as lanes
 use Rattle.lane_workers.specs.Lanes.{asks_of, told_done, IsPassAt, HasSeat, LaneIsAt, IsShared, MayAnswer}
 use Rattle.lane_workers.proofs.Going.{ask_here}
 use Rattle.lane_workers.proofs.Onward.{pass_within, replied, still, turned}
 use Rattle.lane_workers.proofs.Told.{told_now, tells_now}
-use Rattle.lane_replies.proofs.Within.{call_low, line_within, span_size}
+use Rattle.context_books.proofs.Within.{call_low, line_within, span_size}
 
 -- ---- contexts that stand
 

@@ -3,7 +3,7 @@ use Rattle.std.proofs.Common.{◌≡◌, ℕ, zero, suc, ◌+◌, List, [], ◌�
 use Rattle.std.specs.Prelude.{slice_get}
 use Rattle.call_places.specs.declared.entries.Entry.{Entry}
 use Rattle.batch_plans.specs.declared.plan.CallLine.{CallLine}
-use Rattle.lane_replies.specs.LaneCalls.{lane_calls}
+use Rattle.context_books.specs.LaneCalls.{lane_calls}
 use Rattle.lane_workers.specs.LiveLanes.{LiveView, Chunk, own_reply, IsHeardAs, AreHeard}
 
 module _ (v : LiveView) (notes : List Entry) (lane : ℕ) where

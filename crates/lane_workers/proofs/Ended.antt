@@ -23,17 +23,17 @@ use Rattle.batch_plans.specs.Room.{lane_room}
 use Rattle.batch_plans.specs.Progress.{begun}
 use Rattle.batch_plans.proofs.Rooms.{lane_within}
 use Rattle.batch_plans.specs.ReplyText.{answered_lines, calls_lines}
-use Rattle.due_replies.specs.Standing.{export_limits}
-use Rattle.due_replies.specs.Asks.{ask_of, batch_of, cipher_at}
-use Rattle.due_replies.proofs.Done.{lane_asks}
-use Rattle.lane_replies.specs.Answered.{HasAnswered, HasRoomFor}
-use Rattle.lane_replies.proofs.Answering.{answered_begun}
-use Rattle.lane_replies.proofs.Rooms.{room_begun, room_ended}
-use Rattle.lane_replies.proofs.Writing.{all_in_more}
+use Rattle.context_books.specs.Standing.{export_limits}
+use Rattle.context_books.specs.Asks.{ask_of, batch_of, cipher_at}
+use Rattle.context_books.proofs.Done.{lane_asks}
+use Rattle.context_books.specs.Answered.{HasAnswered, HasRoomFor}
+use Rattle.context_books.proofs.Answering.{answered_begun}
+use Rattle.context_books.proofs.Rooms.{room_begun, room_ended}
+use Rattle.context_books.proofs.Writing.{all_in_more}
 use Rattle.lane_workers.specs.declared.works.LaneWork.{LaneWork}
 use Rattle.lane_workers.specs.Served.{Told, seen_of, LaneIsServed}
 use Rattle.lane_workers.specs.Turns.{views}
-use Rattle.lane_replies.specs.LaneCalls as lanes
+use Rattle.context_books.specs.LaneCalls as lanes
 use Rattle.lane_workers.specs.Groups.{answers_in}
 use Rattle.lane_workers.specs.Lanes.{asks_of, Says, LaneIsAt}
 use Rattle.lane_workers.specs.Returned.{IsGiven, IsReturned}

@@ -16,13 +16,13 @@ use Rattle.batch_plans.specs.declared.plan.CallLine.TheVariants as calls
 use Rattle.batch_plans.specs.declared.replies.LaneAnswers.{LaneAnswers}
 use Rattle.batch_plans.specs.Limits.{IsCallWithin, IsWithinLimits}
 use Rattle.batch_plans.specs.ReplyText.{all_lines, answered_lines, has_stamps}
-use Rattle.due_replies.specs.Asks.{batch_of, cipher_at}
-use Rattle.due_replies.specs.Runs.{Run, call_lines, lane_call_lines, LegalFor, IsAllowed}
+use Rattle.context_books.specs.Asks.{batch_of, cipher_at}
+use Rattle.context_books.specs.Runs.{Run, call_lines, lane_call_lines, LegalFor, IsAllowed}
 use Rattle.lane_workers.specs.Served.{Told, told_lines, seen_of, LaneIsServed}
 use Rattle.lane_workers.proofs.Showing as showing
 use Rattle.lane_workers.proofs.Showing.{LaneTells, HasItems, numbered_same}
-use Rattle.lane_replies.specs.LaneCalls.{lane_calls}
-use Rattle.lane_replies.proofs.Within.{line_within}
+use Rattle.context_books.specs.LaneCalls.{lane_calls}
+use Rattle.context_books.proofs.Within.{line_within}
 
 pub has_items : (items pool : ℕ) (call : CallLine) → IsCallWithin items pool call
     → HasItems items call

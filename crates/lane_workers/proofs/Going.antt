@@ -23,11 +23,11 @@ use Rattle.batch_plans.specs.declared.plan.Plan.{Plan}
 use Rattle.batch_plans.specs.declared.plan.CallLine.{CallLine}
 use Rattle.batch_plans.specs.Progress.{Progress}
 use Rattle.batch_plans.specs.ReplyText.{numbered}
-use Rattle.due_replies.specs.Asks.{ask_of, batch_of, cipher_at}
-use Rattle.due_replies.proofs.Done.{ask_at}
-use Rattle.lane_replies.specs.Answered.{HasAnswered}
+use Rattle.context_books.specs.Asks.{ask_of, batch_of, cipher_at}
+use Rattle.context_books.proofs.Done.{ask_at}
+use Rattle.context_books.specs.Answered.{HasAnswered}
 use Rattle.lane_workers.specs.Served.{Told, told_lines}
-use Rattle.lane_replies.specs.LaneCalls as lanes
+use Rattle.context_books.specs.LaneCalls as lanes
 use Rattle.lane_workers.specs.Lanes.{asks_of, told_done, Tells, Says}
 
 -- ---- lists that grow at their end

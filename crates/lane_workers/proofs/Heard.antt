@@ -18,9 +18,9 @@ use Rattle.batch_plans.specs.Limits.{items_from, IsCallWithin}
 use Rattle.batch_plans.specs.Calls.{context_of}
 use Rattle.batch_plans.specs.Room.{opened_room}
 use Rattle.batch_plans.specs.Progress.{Progress, with_reply, with_batch}
-use Rattle.due_replies.specs.Runs.{answer_line}
-use Rattle.lane_replies.specs.LaneCalls.{opening_items}
-use Rattle.lane_replies.specs.Writing.{PutsReplies}
+use Rattle.context_books.specs.Runs.{answer_line}
+use Rattle.context_books.specs.LaneCalls.{opening_items}
+use Rattle.context_books.specs.Writing.{PutsReplies}
 use Rattle.lane_workers.specs.declared.works.LaneWork.{LaneWork}
 use Rattle.lane_workers.specs.Turns.{with_table, with_progress, CanTurn, Draws, Guesses, Commits, Opens}
 use Rattle.lane_workers.specs.Readings.{Reading, as_it_is, heard, hears, with_more, HasBytesOf}

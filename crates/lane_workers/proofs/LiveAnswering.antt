@@ -26,9 +26,9 @@ use Rattle.batch_plans.specs.Room.{served_batches, served_or}
 use Rattle.batch_plans.proofs.Rooms.{has_item}
 use Rattle.batch_plans.specs.ReplyText.{numbered}
 use Rattle.batch_plans.proofs.Numbering.{length-numbered}
-use Rattle.due_replies.specs.Live.{was_live, looked_up, looked_up_plan}
-use Rattle.due_replies.specs.Standing.{call_refusal}
-use Rattle.lane_replies.specs.LaneCalls.{lane_calls}
+use Rattle.context_books.specs.Live.{was_live, looked_up, looked_up_plan}
+use Rattle.context_books.specs.Standing.{call_refusal}
+use Rattle.context_books.specs.LaneCalls.{lane_calls}
 use Rattle.lane_workers.specs.declared.works.LaneWork.{LaneWork}
 use Rattle.lane_workers.specs.declared.live_lane.LiveLane.{LiveLane}
 use Rattle.lane_workers.specs.Lanes.{HasSeat, LaneIsAt, MayAnswer}

@@ -23,14 +23,14 @@ use Rattle.batch_plans.specs.Room.{served_room, served_batches, served_or, call_
 use Rattle.batch_plans.proofs.Rooms.{has_item, lane_within}
 use Rattle.batch_plans.specs.ReplyText.{numbered}
 use Rattle.batch_plans.proofs.Numbering.{length-numbered}
-use Rattle.due_replies.specs.Live.{looked_up, looked_up_plan}
-use Rattle.due_replies.specs.Standing.{export_limits}
-use Rattle.due_replies.proofs.LookedUp.{calls_looked}
-use Rattle.due_replies.proofs.Refusals.{refusal_agrees}
-use Rattle.lane_replies.specs.Answered.{HasAnswered, HasRoomFor}
-use Rattle.lane_replies.specs.LaneCalls.{lane_calls}
-use Rattle.lane_replies.proofs.Answering.{answered_begun}
-use Rattle.lane_replies.proofs.Rooms.{room_begun}
+use Rattle.context_books.specs.Live.{looked_up, looked_up_plan}
+use Rattle.context_books.specs.Standing.{export_limits}
+use Rattle.context_books.proofs.LookedUp.{calls_looked}
+use Rattle.context_books.proofs.Refusals.{refusal_agrees}
+use Rattle.context_books.specs.Answered.{HasAnswered, HasRoomFor}
+use Rattle.context_books.specs.LaneCalls.{lane_calls}
+use Rattle.context_books.proofs.Answering.{answered_begun}
+use Rattle.context_books.proofs.Rooms.{room_begun}
 use Rattle.lane_workers.specs.declared.works.LaneWork.{LaneWork}
 use Rattle.lane_workers.specs.Lanes.{HasSeat}
 use Rattle.lane_workers.specs.LiveLanes.{LiveView, standing, AreSharedLive, ReadsAs, LiveLaneIsAt}

@@ -4,9 +4,9 @@ use Rattle.batch_plans.specs.declared.plan.CallLine.{CallLine}
 use Rattle.batch_plans.specs.declared.plan.CallLine.TheVariants as calls
 use Rattle.batch_plans.specs.declared.replies.Reply.{Reply}
 use Rattle.batch_plans.specs.Progress.{Progress, with_reply}
-use Rattle.due_replies.specs.Live.{noting}
-use Rattle.lane_replies.specs.LaneCalls.{lane_calls}
-use Rattle.lane_replies.proofs.Within.{of_call}
+use Rattle.context_books.specs.Live.{noting}
+use Rattle.context_books.specs.LaneCalls.{lane_calls}
+use Rattle.context_books.proofs.Within.{of_call}
 use Rattle.lane_workers.specs.declared.live_lane.LiveLane.{LiveLane}
 use Rattle.lane_workers.specs.LiveLanes.{LiveView, standing, AddsOneOf, own_reply, MayAnswerLive, IsToldLive, IsOneOnLive}
 use Rattle.lane_workers.specs.Turns.{with_progress}

@@ -24,9 +24,9 @@ use Rattle.batch_plans.specs.Room.{blank_batch}
 use Rattle.batch_plans.specs.LiveText.{is_given, given_lines}
 use Rattle.batch_plans.specs.ReplyText.{calls_lines, numbered, all_lines}
 use Rattle.batch_plans.proofs.Numbering.{length-numbered}
-use Rattle.due_replies.specs.Live.{was_live, looked_up, looked_up_plan}
-use Rattle.due_replies.proofs.LookedUp.{calls_looked}
-use Rattle.lane_replies.specs.LaneCalls.{lane_calls}
+use Rattle.context_books.specs.Live.{was_live, looked_up, looked_up_plan}
+use Rattle.context_books.proofs.LookedUp.{calls_looked}
+use Rattle.context_books.specs.LaneCalls.{lane_calls}
 use Rattle.lane_workers.specs.declared.live_lane.LiveLane.{LiveLane}
 use Rattle.lane_workers.specs.declared.works.LaneWork.{LaneWork}
 use Rattle.lane_workers.specs.Groups.{answers_in}

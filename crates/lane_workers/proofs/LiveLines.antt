@@ -26,11 +26,11 @@ use Rattle.batch_plans.specs.Lines.{reply_line, batch_line, refused_line}
 use Rattle.batch_plans.specs.ReplyText.{guess_line, calls_lines, numbered, all_lines, HasReplies}
 use Rattle.batch_plans.specs.ReplyText.UsesUp.{none, call_and_more}
 use Rattle.batch_plans.proofs.CallLines.{HasReplies-one, HasReplies-refused, calls_lines-append, calls_lines-one}
-use Rattle.due_replies.specs.Asks.{batch_of}
-use Rattle.due_replies.specs.Live.{was_live, looked_up, looked_up_plan, retire_line}
-use Rattle.due_replies.specs.Runs.{answer_line, lines_unless}
-use Rattle.due_replies.specs.Standing.{call_refusal}
-use Rattle.due_replies.proofs.Refusals.{added_refused, retired_refused}
+use Rattle.context_books.specs.Asks.{batch_of}
+use Rattle.context_books.specs.Live.{was_live, looked_up, looked_up_plan, retire_line}
+use Rattle.context_books.specs.Runs.{answer_line, lines_unless}
+use Rattle.context_books.specs.Standing.{call_refusal}
+use Rattle.context_books.proofs.Refusals.{added_refused, retired_refused}
 use Rattle.lane_workers.specs.LiveLanes.{LiveView, standing, AreSharedLive, adding_line, AddsAre, AddsOneOf, Chunk, all_given, all_heard, all_guesses, add_refusal, add_reply, retire_reply, finds, own_reply, IsKept, IsHeardAs, AreHeard}
 use Rattle.lane_workers.specs.LiveServed.{live_told_lines}
 use Rattle.lane_workers.specs.Served.{Told, told_served, told_lines}

@@ -35,10 +35,10 @@ use Rattle.batch_plans.specs.Calls.{context_of}
 use Rattle.batch_plans.specs.Limits.{first_name}
 use Rattle.batch_plans.specs.Names.{line_count}
 use Rattle.batch_plans.specs.LiveText.{tells_live}
-use Rattle.due_replies.specs.Live.{Noting, noting_of, looking, adding, noting, noting_in, was_live, looked_up_plan}
-use Rattle.due_replies.specs.Standing.{standing_at}
-use Rattle.lane_replies.specs.LaneCalls.{lane_calls}
-use Rattle.lane_replies.proofs.Within.{call_low}
+use Rattle.context_books.specs.Live.{Noting, noting_of, looking, adding, noting, noting_in, was_live, looked_up_plan}
+use Rattle.context_books.specs.Standing.{standing_at}
+use Rattle.context_books.specs.LaneCalls.{lane_calls}
+use Rattle.context_books.proofs.Within.{call_low}
 use Rattle.lane_workers.specs.declared.works.LaneWork.{LaneWork}
 use Rattle.lane_workers.specs.declared.live_lane.LiveLane.{LiveLane}
 use Rattle.lane_workers.specs.Lanes.{HasSeat, LaneIsAt}

@@ -22,13 +22,13 @@ use Rattle.batch_plans.specs.Limits.{first_name, items_of, size_of, text_size, I
 use Rattle.batch_plans.specs.Names.{at_position, all_live}
 use Rattle.batch_plans.specs.ReplyText.{numbered}
 use Rattle.batch_plans.proofs.Numbering.{length-numbered}
-use Rattle.due_replies.specs.Asks.{ask_of, ask_unless, asked_by}
-use Rattle.due_replies.specs.Live.{was_live, looked_up, looked_up_plan}
-use Rattle.due_replies.specs.Standing.{refusal_on, call_refusal}
-use Rattle.due_replies.proofs.Done.{lane_asks}
-use Rattle.due_replies.proofs.LookedUp.{calls_looked}
-use Rattle.due_replies.proofs.Refusals as refusals
-use Rattle.lane_replies.specs.LaneCalls.{lane_calls}
+use Rattle.context_books.specs.Asks.{ask_of, ask_unless, asked_by}
+use Rattle.context_books.specs.Live.{was_live, looked_up, looked_up_plan}
+use Rattle.context_books.specs.Standing.{refusal_on, call_refusal}
+use Rattle.context_books.proofs.Done.{lane_asks}
+use Rattle.context_books.proofs.LookedUp.{calls_looked}
+use Rattle.context_books.proofs.Refusals as refusals
+use Rattle.context_books.specs.LaneCalls.{lane_calls}
 use Rattle.lane_workers.specs.Lanes.{asks_of, AreShared}
 use Rattle.lane_workers.specs.LiveLanes.{LiveView, standing, AreSharedLive}
 

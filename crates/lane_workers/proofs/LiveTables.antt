@@ -17,8 +17,8 @@ use Rattle.context_books.proofs.Places.{same_place}
 use Rattle.lane_workers.proofs.ShowingEntries.{in_own, own_in, own_places-entries}
 use Rattle.batch_plans.specs.declared.plan.Plan.{Plan}
 use Rattle.batch_plans.specs.declared.plan.CallLine.{CallLine}
-use Rattle.due_replies.specs.Live.{Noting, noting, noting_in, IsNoted, LegalTable}
-use Rattle.lane_replies.specs.LaneCalls.{lane_calls}
+use Rattle.context_books.specs.Live.{Noting, noting, noting_in, IsNoted, LegalTable}
+use Rattle.context_books.specs.LaneCalls.{lane_calls}
 use Rattle.lane_workers.specs.LiveServed.{note_place, noted_from, NotesItsCall}
 
 all_of : {X : Type 0} (P : X → Type 0) (xs : List X) (x : X) → All P xs → Contains xs x → P x

@@ -30,13 +30,13 @@ use Rattle.batch_plans.specs.Limits.{IsWithinLimits}
 use Rattle.batch_plans.specs.LiveText.{given_lines, lanes_given}
 use Rattle.batch_plans.specs.ReplyText.{numbered, all_lines}
 use Rattle.batch_plans.proofs.Numbering.{length-numbered}
-use Rattle.due_replies.specs.Asks.{batch_of, cipher_at}
-use Rattle.due_replies.specs.Live.{looked_up, looked_up_plan, LiveRun, run_of, retire_line, live_call_lines, live_lane_lines, LegalTable, IsAllowedLive}
-use Rattle.due_replies.specs.Runs.{call_lines}
-use Rattle.due_replies.proofs.LiveParts.{LiveParts, of_parts}
-use Rattle.due_replies.proofs.LookedUp.{live_same, looked_same}
-use Rattle.lane_replies.specs.LaneCalls.{lane_calls}
-use Rattle.lane_replies.proofs.Within.{line_within}
+use Rattle.context_books.specs.Asks.{batch_of, cipher_at}
+use Rattle.context_books.specs.Live.{looked_up, looked_up_plan, LiveRun, run_of, retire_line, live_call_lines, live_lane_lines, LegalTable, IsAllowedLive}
+use Rattle.context_books.specs.Runs.{call_lines}
+use Rattle.context_books.proofs.LiveParts.{LiveParts, of_parts}
+use Rattle.context_books.proofs.LookedUp.{live_same, looked_same}
+use Rattle.context_books.specs.LaneCalls.{lane_calls}
+use Rattle.context_books.proofs.Within.{line_within}
 use Rattle.lane_workers.specs.Served.{Told, told_lines, seen_of}
 use Rattle.lane_workers.specs.LiveServed.{noted_from, NotesItsCall, live_told_lines, LiveLaneIsServed}
 use Rattle.lane_workers.specs.Gathered.{no_answers}

@@ -17,13 +17,13 @@ use Rattle.batch_plans.specs.Calls.{context_of}
 use Rattle.batch_plans.specs.Limits.{first_name}
 use Rattle.batch_plans.specs.Names.{at_position}
 use Rattle.batch_plans.specs.Lines.{batch_line}
-use Rattle.due_replies.specs.Asks.{ask_of, ask_unless, asked_by, batch_of}
-use Rattle.due_replies.specs.Live.{was_live, looked_up, looked_up_plan}
-use Rattle.due_replies.specs.Runs.{answer_line, lines_unless}
-use Rattle.due_replies.specs.Standing.{call_refusal}
-use Rattle.due_replies.proofs.Done.{lane_asks}
-use Rattle.due_replies.proofs.LookedUp.{looked_same, calls_looked, call_looked}
-use Rattle.lane_replies.specs.LaneCalls.{lane_calls}
+use Rattle.context_books.specs.Asks.{ask_of, ask_unless, asked_by, batch_of}
+use Rattle.context_books.specs.Live.{was_live, looked_up, looked_up_plan}
+use Rattle.context_books.specs.Runs.{answer_line, lines_unless}
+use Rattle.context_books.specs.Standing.{call_refusal}
+use Rattle.context_books.proofs.Done.{lane_asks}
+use Rattle.context_books.proofs.LookedUp.{looked_same, calls_looked, call_looked}
+use Rattle.context_books.specs.LaneCalls.{lane_calls}
 use Rattle.lane_workers.specs.Served.{Told, told_lines}
 use Rattle.lane_workers.proofs.Showing.{HasItems, numbered_same}
 

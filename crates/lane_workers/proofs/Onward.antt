@@ -22,16 +22,16 @@ use Rattle.shared_context.specs.Calls.{SharedView}
 use Rattle.batch_plans.specs.declared.plan.Plan.{Plan}
 use Rattle.batch_plans.specs.declared.plan.CallLine.{CallLine}
 use Rattle.batch_plans.specs.Limits.{items_of}
-use Rattle.due_replies.specs.Standing.{export_limits}
-use Rattle.due_replies.specs.Asks.{ask_of, cipher_at}
-use Rattle.lane_replies.specs.Answered.{HasAnswered, HasRoomFor}
-use Rattle.lane_replies.proofs.Steps.{length-run}
+use Rattle.context_books.specs.Standing.{export_limits}
+use Rattle.context_books.specs.Asks.{ask_of, cipher_at}
+use Rattle.context_books.specs.Answered.{HasAnswered, HasRoomFor}
+use Rattle.context_books.proofs.Steps.{length-run}
 use Rattle.lane_workers.specs.declared.works.LaneWork.{LaneWork}
 use Rattle.lane_workers.specs.Served.{Told, told_lines, seen_of, seen_by}
 use Rattle.lane_workers.specs.Turns.{shared_at, pass_at, views}
-use Rattle.lane_replies.specs.LaneCalls as lanes
+use Rattle.context_books.specs.LaneCalls as lanes
 use Rattle.lane_workers.specs.Lanes.{asks_of, told_done, Tells, IsPassAt, HasSeat, LaneIsAt}
-use Rattle.lane_replies.proofs.Guesses.{guesses_more}
+use Rattle.context_books.proofs.KeptGuesses.{guesses_more}
 use Rattle.lane_workers.proofs.Going.{get_last, ask_here, tells_less, says_more, guess_now}
 
 -- ---- passes, one of which is another

@@ -32,25 +32,25 @@ use Rattle.batch_plans.specs.Room.{served_room, served_batches}
 use Rattle.batch_plans.specs.Progress.{Progress, with_batch}
 use Rattle.batch_plans.specs.Lines.{batch_line}
 use Rattle.batch_plans.specs.ReplyText.{guess_line}
-use Rattle.due_replies.specs.Standing.{call_refusal, export_limits}
-use Rattle.due_replies.specs.Asks.{ask_of, asked_by, cipher_at}
-use Rattle.due_replies.specs.Runs.{answer_line}
-use Rattle.lane_replies.specs.Writing.{PutsReplies}
-use Rattle.lane_replies.specs.Answered.{HasAnswered, HasRoomFor}
-use Rattle.lane_replies.proofs.Answering.{answered_all}
-use Rattle.lane_replies.proofs.Rooms.{room_after_all}
-use Rattle.lane_replies.proofs.Items.{one_line_each}
+use Rattle.context_books.specs.Standing.{call_refusal, export_limits}
+use Rattle.context_books.specs.Asks.{ask_of, asked_by, cipher_at}
+use Rattle.context_books.specs.Runs.{answer_line}
+use Rattle.context_books.specs.Writing.{PutsReplies}
+use Rattle.context_books.specs.Answered.{HasAnswered, HasRoomFor}
+use Rattle.context_books.proofs.Answering.{answered_all}
+use Rattle.context_books.proofs.Rooms.{room_after_all}
+use Rattle.context_books.proofs.Items.{one_line_each}
 use Rattle.lane_workers.specs.declared.works.LaneWork.{LaneWork}
 use Rattle.lane_workers.specs.Served.{Told, told_lines, told_served}
-use Rattle.lane_replies.specs.LaneCalls.{opening_items, IsOpening}
+use Rattle.context_books.specs.LaneCalls.{opening_items, IsOpening}
 use Rattle.lane_workers.specs.Turns.{shared_at, pass_at, views, with_progress, Opens}
-use Rattle.lane_replies.specs.LaneCalls as lanes
+use Rattle.context_books.specs.LaneCalls as lanes
 use Rattle.lane_workers.specs.Lanes.{told_done, IsPassAt, HasSeat, LaneIsAt, MayAnswer}
 use Rattle.lane_workers.proofs.Onward.{TellsOn, pass_within, pass_same, replied, guess_told, turned}
 use Rattle.lane_workers.proofs.Answering as answering
 use Rattle.lane_workers.proofs.Answering.{one_pass, next_within}
-use Rattle.lane_replies.proofs.Misses.{few_missed}
-use Rattle.lane_replies.proofs.Within.{opening_count, opening_few, opening_asks, opening_context, opening_room}
+use Rattle.context_books.proofs.Misses.{few_missed}
+use Rattle.context_books.proofs.Within.{opening_count, opening_few, opening_asks, opening_context, opening_room}
 
 replied_lines : (replies : Place → Answer) (ps : List Place) (xs : List Answer)
     → AllReplied replies ps xs → map (λ p. answer_line (replies p)) ps ≡ map answer_line xs

@@ -23,16 +23,16 @@ use Rattle.batch_plans.specs.declared.plan.CallLine.{CallLine}
 use Rattle.batch_plans.specs.declared.plan.CallLine.TheVariants as calls
 use Rattle.batch_plans.specs.declared.replies.CallRefusal.{CallRefusal}
 use Rattle.batch_plans.specs.Calls.{context_of, refusal_by, seal_refusal, open_refusal}
-use Rattle.due_replies.specs.Standing.{refusal_on}
-use Rattle.due_replies.specs.Asks.{ask_of, asked_by}
+use Rattle.context_books.specs.Standing.{refusal_on}
+use Rattle.context_books.specs.Asks.{ask_of, asked_by}
 use Rattle.lane_workers.specs.declared.works.LaneWork.{LaneWork}
-use Rattle.lane_replies.specs.LaneCalls.{opening_items, IsOpening}
+use Rattle.context_books.specs.LaneCalls.{opening_items, IsOpening}
 use Rattle.lane_workers.specs.Turns.{shared_at, pass_at, views, with_table, CanTurn, Draws, Guesses}
 use Rattle.lane_workers.specs.Lanes.{MayServe}
 use Rattle.lane_workers.proofs.Answering as answering
 use Rattle.lane_workers.proofs.Answering.{standing_is, one_pass}
 use Rattle.lane_workers.proofs.Onward.{pass_same}
-use Rattle.lane_replies.proofs.Within.{opening_asks, opening_context}
+use Rattle.context_books.proofs.Within.{opening_asks, opening_context}
 
 pub no_refusal : (why : CallRefusal) → Some why ≡ None → ⊥
 no_refusal why e = cc
@@ -121,7 +121,7 @@ module _ (plan : Plan) (contexts : List (Option SharedView)) (counter : Option (
     pub open_turn : CanTurn w s counter (context_of call) k (length (opening_items plan call))
     open_turn = turn_at open_context (length (opening_items plan call))
         (let one = ap length (ap items_in ask_is ∙ opening_asks plan call opening) in
-        let two = Rattle.lane_replies.proofs.Items.length-unseals plan.pool (opening_items plan call) in
+        let two = Rattle.context_books.proofs.Items.length-unseals plan.pool (opening_items plan call) in
         omega arith)
 
     pub look_turn : CanTurn w s counter (context_of call) k 0

@@ -26,14 +26,14 @@ use Rattle.batch_plans.specs.declared.replies.CallRefusal.{CallRefusal}
 use Rattle.batch_plans.specs.Limits.{items_from}
 use Rattle.batch_plans.specs.Lines.{batch_line}
 use Rattle.batch_plans.specs.ReplyText.{numbered}
-use Rattle.due_replies.specs.Standing.{call_refusal}
-use Rattle.due_replies.specs.Asks.{ask_of, ask_unless, asked_by, batch_of, cipher_at}
-use Rattle.due_replies.specs.Runs.{Run, journal_of, guesses_of, answer_line, answer_line_of, place_line, lines_unless, served_lines, call_lines}
+use Rattle.context_books.specs.Standing.{call_refusal}
+use Rattle.context_books.specs.Asks.{ask_of, ask_unless, asked_by, batch_of, cipher_at}
+use Rattle.context_books.specs.Runs.{Run, journal_of, guesses_of, answer_line, answer_line_of, place_line, lines_unless, served_lines, call_lines}
 use Rattle.batch_plans.specs.declared.replies.CallRefusal.TheVariants.{NoContext}
-use Rattle.due_replies.proofs.Refusals.{added_refused, retired_refused}
-use Rattle.due_replies.proofs.Done.{ask_at, length-messages}
+use Rattle.context_books.proofs.Refusals.{added_refused, retired_refused}
+use Rattle.context_books.proofs.Done.{ask_at, length-messages}
 use Rattle.lane_workers.specs.Served.{Told, told_served, told_lines}
-use Rattle.lane_replies.specs.LaneCalls.{lane_calls}
+use Rattle.context_books.specs.LaneCalls.{lane_calls}
 
 no_refusal : (why : CallRefusal) → Some why ≡ None → ⊥
 no_refusal why e = cc

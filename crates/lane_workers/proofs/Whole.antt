@@ -18,8 +18,8 @@ use Rattle.batch_plans.specs.declared.replies.LaneAnswers.{LaneAnswers}
 use Rattle.batch_plans.specs.Replies.{IsInRange}
 use Rattle.batch_plans.specs.Limits.{IsWithinLimits}
 use Rattle.batch_plans.specs.ReplyText.{numbered, all_lines, answered_lines, lanes_lines}
-use Rattle.due_replies.specs.Asks.{ask_of, batch_of}
-use Rattle.due_replies.specs.Runs.{lane_call_lines}
+use Rattle.context_books.specs.Asks.{ask_of, batch_of}
+use Rattle.context_books.specs.Runs.{lane_call_lines}
 use Rattle.lane_workers.specs.Served.{Told, told_lines, LaneIsServed}
 use Rattle.lane_workers.specs.Gathered.{no_answers, AllLanesServed, AllClosed, AreOfARun}
 use Rattle.lane_workers.proofs.Gathered.{is_allowed, lines_are_due, run_of}

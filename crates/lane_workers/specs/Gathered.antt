@@ -10,7 +10,7 @@ use Rattle.lane_workers.specs.Showing.{Closes}
 use Rattle.batch_plans.specs.declared.plan.Plan.{Plan}
 use Rattle.batch_plans.specs.declared.replies.LaneAnswers.{LaneAnswers}
 use Rattle.batch_plans.specs.ReplyText.{numbered, lanes_lines}
-use Rattle.due_replies.specs.Runs.{run_along, lane_call_lines, IsAllowed}
+use Rattle.context_books.specs.Runs.{run_along, lane_call_lines, IsAllowed}
 use Rattle.lane_workers.specs.Served.{seen_of, LaneIsServed}
 
 -- a lane that isn't there answers nothing

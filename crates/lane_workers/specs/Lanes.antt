@@ -22,10 +22,10 @@ use Rattle.batch_plans.specs.Limits.{items_of, IsWithinLimits}
 use Rattle.batch_plans.specs.Calls.{context_of}
 use Rattle.batch_plans.specs.Progress.{Progress}
 use Rattle.batch_plans.specs.ReplyText.{numbered, all_lines}
-use Rattle.due_replies.specs.Standing.{AreOfLines, export_limits, call_refusal}
-use Rattle.due_replies.specs.Asks.{batch_of, cipher_at}
-use Rattle.lane_replies.specs.LaneCalls.{lane_calls}
-use Rattle.lane_replies.specs.Answered.{HasAnswered, HasRoomFor}
+use Rattle.context_books.specs.Standing.{AreOfLines, export_limits, call_refusal}
+use Rattle.context_books.specs.Asks.{batch_of, cipher_at}
+use Rattle.context_books.specs.LaneCalls.{lane_calls}
+use Rattle.context_books.specs.Answered.{HasAnswered, HasRoomFor}
 use Rattle.lane_workers.specs.declared.works.LaneWork.{LaneWork}
 use Rattle.lane_workers.specs.Served.{Told, told_lines, seen_of}
 use Rattle.lane_workers.specs.Turns.{shared_at, pass_at, views}

@@ -33,9 +33,9 @@ use Rattle.batch_plans.specs.Lines.{added_line, refused_line}
 use Rattle.batch_plans.specs.LiveText.{is_given}
 use Rattle.batch_plans.specs.ReplyText.{HasReplies}
 use Rattle.hpke_context.specs.Contexts.{ContextView}
-use Rattle.due_replies.specs.Live.{was_live, looked_up_plan, add_line}
-use Rattle.due_replies.specs.Standing.{standing_at, call_refusal}
-use Rattle.lane_replies.specs.LaneCalls.{lane_calls}
+use Rattle.context_books.specs.Live.{was_live, looked_up_plan, add_line}
+use Rattle.context_books.specs.Standing.{standing_at, call_refusal}
+use Rattle.context_books.specs.LaneCalls.{lane_calls}
 use Rattle.lane_workers.specs.declared.works.LaneWork.{LaneWork}
 use Rattle.lane_workers.specs.declared.live_lane.LiveLane.{LiveLane}
 use Rattle.lane_workers.specs.Served.{seen_of}

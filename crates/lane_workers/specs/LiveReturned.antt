@@ -14,7 +14,7 @@ use Rattle.batch_plans.specs.Limits.{items_of}
 use Rattle.batch_plans.specs.Names.{all_live}
 use Rattle.batch_plans.specs.Progress.{begun}
 use Rattle.batch_plans.specs.Replies.{IsPrintable}
-use Rattle.lane_replies.specs.LaneCalls.{lane_calls}
+use Rattle.context_books.specs.LaneCalls.{lane_calls}
 use Rattle.lane_workers.specs.declared.works.LaneWork.{LaneWork}
 use Rattle.lane_workers.specs.declared.live_lane.LiveLane.{LiveLane}
 use Rattle.lane_workers.specs.Groups.{Each, EachServed, answers_in}

@@ -22,9 +22,9 @@ use Rattle.batch_plans.specs.Names.{line_count}
 use Rattle.batch_plans.specs.Replies.{IsPrintable}
 use Rattle.batch_plans.specs.ReplyText.{numbered, all_lines}
 use Rattle.batch_plans.specs.LiveText.{given_lines}
-use Rattle.due_replies.specs.Asks.{batch_of, cipher_at}
-use Rattle.due_replies.specs.Live.{Noting, noting, IsNoted, was_live, looked_up, looked_up_plan, add_line, retire_line}
-use Rattle.lane_replies.specs.LaneCalls.{lane_calls}
+use Rattle.context_books.specs.Asks.{batch_of, cipher_at}
+use Rattle.context_books.specs.Live.{Noting, noting, IsNoted, was_live, looked_up, looked_up_plan, add_line, retire_line}
+use Rattle.context_books.specs.LaneCalls.{lane_calls}
 use Rattle.lane_workers.specs.Served.{Told, told_lines, seen_of}
 
 -- ---- the notes of a lane

@@ -9,10 +9,10 @@ use Rattle.batch_plans.specs.declared.plan.Plan.{Plan}
 use Rattle.batch_plans.specs.declared.replies.LaneAnswers.{LaneAnswers}
 use Rattle.batch_plans.specs.Limits.{IsWithinLimits}
 use Rattle.batch_plans.specs.Room.{lane_room}
-use Rattle.due_replies.specs.Standing.{export_limits}
+use Rattle.context_books.specs.Standing.{export_limits}
 use Rattle.lane_workers.specs.Served.{seen_of, LaneIsServed}
 use Rattle.lane_workers.specs.Turns.{shared_at, pass_at, views}
-use Rattle.lane_replies.specs.LaneCalls.{lane_calls}
+use Rattle.context_books.specs.LaneCalls.{lane_calls}
 
 -- The lane is one of the plan's. It has a fresh pass of each context that stands, of its own number;
 -- where there is a counter of stamps, a note of it; and just the room that its answers need.

@@ -17,9 +17,9 @@ use Rattle.batch_plans.specs.declared.plan.CallLine.{CallLine}
 use Rattle.batch_plans.specs.Calls.{context_of, keeps_guess}
 use Rattle.batch_plans.specs.Room.{opened_room}
 use Rattle.batch_plans.specs.Progress.{Progress}
-use Rattle.due_replies.specs.Runs.{answer_line}
-use Rattle.lane_replies.specs.LaneCalls.{opening_items}
-use Rattle.lane_replies.specs.Writing.{PutsReplies}
+use Rattle.context_books.specs.Runs.{answer_line}
+use Rattle.context_books.specs.LaneCalls.{opening_items}
+use Rattle.context_books.specs.Writing.{PutsReplies}
 use Rattle.lane_workers.specs.declared.works.LaneWork.{LaneWork}
 
 -- the context of this number, where there is one and it stands

@@ -3,8 +3,8 @@
 ghost use Rattle.std.specs.Prelude.{◌≡◌, ◌+◌, ◌<◌, Some, None, length, slice_get};
 ghost use Rattle.batch_plans.specs.Limits.{IsWithinLimits};
 ghost use Rattle.batch_plans.specs.Names.{line_count};
-ghost use Rattle.due_replies.specs.Live.{Noting, noting};
-ghost use Rattle.lane_replies.specs.LaneCalls.{lane_calls};
+ghost use Rattle.context_books.specs.Live.{Noting, noting};
+ghost use Rattle.context_books.specs.LaneCalls.{lane_calls};
 ghost use Rattle.lane_workers.specs.LiveLanes.{standing, add_refusal, finds, IsOnContext, AreSharedLive, MayAnswerLive, IsNotedLive, IsToldLive, IsOneOnLive};
 ghost use Rattle.lane_workers.specs.LiveReturned.{IsFreshLive, IsServedLive};
 
@@ -13,8 +13,8 @@ use crate::live_lane::LiveLane;
 use batch_io::{Gate, Point};
 use batch_plans::{CallLine, CallRefusal, FIRST_NAME, Plan, Reply, context_of};
 use call_places::Act;
+use context_books::refuse;
 use key_schedule::{PskFault, verify_psk_inputs};
-use lane_replies::refuse;
 use live_table::LiveTable;
 use std::sync::Wait;
 use std::thread::Threads;

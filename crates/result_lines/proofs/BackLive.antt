@@ -10,7 +10,7 @@ use Rattle.batch_plans.specs.declared.plan.Plan.{Plan}
 use Rattle.batch_plans.specs.declared.replies.Batch.{Batch}
 use Rattle.batch_plans.specs.declared.replies.KeyReply.{KeyReply}
 use Rattle.batch_plans.specs.declared.replies.ContextReply.{ContextReply}
-use Rattle.due_replies.specs.Live.{looked_up_plan}
+use Rattle.context_books.specs.Live.{looked_up_plan}
 use Rattle.result_lines.specs.declared.stamps.Stamps.TheVariants.{PlacesAndNotes}
 use Rattle.result_lines.specs.Printed.{AreComplete, IsLine, IsGuessWithin, IsPlaceWithin}
 use Rattle.result_lines.specs.PrintedLive.{IsReply, IsNoteWithin, IsLiveReadBack}

@@ -28,9 +28,9 @@ use Rattle.batch_plans.specs.declared.plan.CallLine.TheVariants as calls
 use Rattle.batch_plans.specs.declared.replies.CallRefusal.{CallRefusal}
 use Rattle.batch_plans.specs.Limits as limits
 use Rattle.batch_plans.specs.Limits.{items_from, IsWithinLimits, most_opening}
-use Rattle.due_replies.specs.Standing.{call_refusal}
-use Rattle.due_replies.specs.Asks.{asked_by, ask_unless, ask_of, batch_of}
-use Rattle.due_replies.proofs.Done.{lane_asks, length-messages}
+use Rattle.context_books.specs.Standing.{call_refusal}
+use Rattle.context_books.specs.Asks.{asked_by, ask_unless, ask_of, batch_of}
+use Rattle.context_books.proofs.Done.{lane_asks, length-messages}
 use Rattle.result_lines.proofs.Limited.{IsLine, lines_of_limits, line_of_limits, calls_few}
 use Rattle.result_lines.proofs.RunTexts.{length-block}
 

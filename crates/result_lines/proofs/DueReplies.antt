@@ -22,11 +22,11 @@ use Rattle.batch_plans.specs.declared.replies.CallRefusal.{CallRefusal}
 use Rattle.batch_plans.specs.Calls.{context_of}
 use Rattle.batch_plans.specs.Limits.{items_from, IsWithinLimits}
 use Rattle.batch_plans.specs.ReplyText.{all_lines, numbered}
-use Rattle.due_replies.specs.Standing.{standing_at, refusal_on, call_refusal}
-use Rattle.due_replies.specs.Asks.{asked_by, cipher_at}
-use Rattle.due_replies.specs.Runs.{Run, asks_of, journal_of, answer_line_of, place_line, export_line, lines_unless, item_lines}
-use Rattle.due_replies.specs.Lanes.{calls_of}
-use Rattle.due_replies.proofs.Done.{ask_served, length-messages}
+use Rattle.context_books.specs.Standing.{standing_at, refusal_on, call_refusal}
+use Rattle.context_books.specs.Asks.{asked_by, cipher_at}
+use Rattle.context_books.specs.Runs.{Run, asks_of, journal_of, answer_line_of, place_line, export_line, lines_unless, item_lines}
+use Rattle.context_books.specs.Lanes.{calls_of}
+use Rattle.context_books.proofs.Done.{ask_served, length-messages}
 use Rattle.result_lines.specs.Places.{with_feed}
 use Rattle.result_lines.specs.PrintedLive.{IsReply}
 use Rattle.result_lines.specs.Told.{ReplyView}

@@ -6,7 +6,7 @@ use Rattle.batch_plans.specs.declared.plan.Plan.{Plan}
 use Rattle.batch_plans.specs.declared.replies.KeyReply.{KeyReply}
 use Rattle.batch_plans.specs.declared.replies.ContextReply.{ContextReply}
 use Rattle.batch_plans.specs.ReplyText.{has_stamps}
-use Rattle.due_replies.specs.Runs.{Run, LegalFor, asks_of}
+use Rattle.context_books.specs.Runs.{Run, LegalFor, asks_of}
 use Rattle.result_lines.specs.declared.verdicts.Verdict.{Verdict}
 use Rattle.result_lines.specs.declared.verdicts.Verdict.TheVariants as verdicts
 use Rattle.result_lines.specs.Computed.{by_guess, by_reply, by_stamps, by_journal, verdict_on, by_form}

@@ -16,11 +16,11 @@ use Rattle.batch_plans.specs.Names.{line_count}
 use Rattle.batch_plans.specs.declared.plan.Plan.{Plan}
 use Rattle.batch_plans.specs.declared.replies.KeyReply.{KeyReply}
 use Rattle.batch_plans.specs.declared.replies.ContextReply.{ContextReply}
-use Rattle.due_replies.specs.Live.{LiveRun, run_of, looked_up_plan}
-use Rattle.due_replies.specs.LiveChecks.{asks_with_notes, with_table, note_mark, tells_act, tells_live_at, is_live_history}
-use Rattle.due_replies.specs.Runs.{asks_of}
-use Rattle.due_replies.proofs.LiveChecked.{live_history_iff, legal_table_iff}
-use Rattle.due_replies.proofs.OneLiveHistory.{at_table}
+use Rattle.context_books.specs.Live.{LiveRun, run_of, looked_up_plan}
+use Rattle.context_books.specs.LiveChecks.{asks_with_notes, with_table, note_mark, tells_act, tells_live_at, is_live_history}
+use Rattle.context_books.specs.Runs.{asks_of}
+use Rattle.context_books.proofs.LiveChecked.{live_history_iff, legal_table_iff}
+use Rattle.context_books.proofs.OneLiveHistory.{at_table}
 use Rattle.result_lines.specs.declared.verdicts.Verdict.{Verdict}
 use Rattle.result_lines.specs.declared.verdicts.Verdict.TheVariants as verdicts
 use Rattle.result_lines.specs.Computed.{by_guess, by_reply, by_stamps, is_table, by_table, by_live_journal, live_verdict_on, live_by_form}

@@ -28,9 +28,9 @@ use Rattle.batch_plans.specs.declared.plan.Plan.{Plan}
 use Rattle.batch_plans.specs.declared.plan.CallLine.{CallLine}
 use Rattle.batch_plans.specs.declared.plan.CallLine.TheVariants as calls
 use Rattle.batch_plans.specs.declared.replies.CallRefusal.{CallRefusal}
-use Rattle.due_replies.specs.Standing.{standing_at, call_refusal}
-use Rattle.due_replies.specs.Asks.{asked_by, ask_unless, ask_of, batch_of}
-use Rattle.due_replies.specs.Runs.{LegalFor}
+use Rattle.context_books.specs.Standing.{standing_at, call_refusal}
+use Rattle.context_books.specs.Asks.{asked_by, ask_unless, ask_of, batch_of}
+use Rattle.context_books.specs.Runs.{LegalFor}
 use Rattle.result_lines.specs.Printed.{IsMarkWithin}
 use Rattle.result_lines.specs.Verdicts.{IsJournal, AreJournals, IsFirstBroken}
 use Rattle.result_lines.specs.Journals.{stamps_rise, is_journal, broken_journal, is_one_history}

@@ -23,9 +23,9 @@ use Rattle.batch_plans.specs.declared.replies.KeyReply.{KeyReply}
 use Rattle.batch_plans.specs.declared.replies.ContextReply.{ContextReply}
 use Rattle.batch_plans.specs.ReplyText.{all_lines, numbered, has_stamps, lane_lines, mark_line, journal_lines, version_line}
 use Rattle.batch_plans.specs.Lines.{key_line, context_line}
-use Rattle.due_replies.specs.Asks.{ask_of, batch_of, cipher_at}
-use Rattle.due_replies.specs.Runs.{Run, asks_of, journal_of, guesses_of, IsAllowed, run_text, run_along, LegalFor}
-use Rattle.due_replies.proofs.Done.{lane_asks}
+use Rattle.context_books.specs.Asks.{ask_of, batch_of, cipher_at}
+use Rattle.context_books.specs.Runs.{Run, asks_of, journal_of, guesses_of, IsAllowed, run_text, run_along, LegalFor}
+use Rattle.context_books.proofs.Done.{lane_asks}
 use Rattle.result_lines.specs.declared.told.GuessLine.{GuessLine}
 use Rattle.result_lines.specs.Told.{ToldView, told_by}
 use Rattle.result_lines.specs.Printed.{told_lanes, told_text, lines_told, guesses_told, AreComplete, IsLine, IsGuessWithin, IsMarkWithin, IsTextOf, IsReadBack}

@@ -32,15 +32,15 @@ use Rattle.batch_plans.specs.Limits.{IsWithinLimits}
 use Rattle.batch_plans.proofs.Rooms.{has_item}
 use Rattle.batch_plans.specs.ReplyText.{numbered}
 use Rattle.batch_plans.specs.LiveText.{tells_live}
-use Rattle.due_replies.specs.Asks.{ask_of}
-use Rattle.due_replies.specs.Live.{Noting, noting, noting_in, IsNoted, looked_up, looked_up_plan, LiveRun, run_of, LegalTable, LiveHistory}
-use Rattle.due_replies.specs.LiveChecks.{note_ask, pairs, asks_with_notes, note_mark, call_mark, with_table, tells_act, tells_live_at, is_live_history}
-use Rattle.due_replies.specs.Standing.{call_refusal}
-use Rattle.due_replies.specs.Runs.{asks_of}
-use Rattle.due_replies.proofs.LiveParts.{parts_of}
-use Rattle.due_replies.proofs.LiveChecked.{live_history_iff}
-use Rattle.due_replies.proofs.OneLiveHistory.{at_table}
-use Rattle.due_replies.proofs.LookedUp.{calls_looked}
+use Rattle.context_books.specs.Asks.{ask_of}
+use Rattle.context_books.specs.Live.{Noting, noting, noting_in, IsNoted, looked_up, looked_up_plan, LiveRun, run_of, LegalTable, LiveHistory}
+use Rattle.context_books.specs.LiveChecks.{note_ask, pairs, asks_with_notes, note_mark, call_mark, with_table, tells_act, tells_live_at, is_live_history}
+use Rattle.context_books.specs.Standing.{call_refusal}
+use Rattle.context_books.specs.Runs.{asks_of}
+use Rattle.context_books.proofs.LiveParts.{parts_of}
+use Rattle.context_books.proofs.LiveChecked.{live_history_iff}
+use Rattle.context_books.proofs.OneLiveHistory.{at_table}
+use Rattle.context_books.proofs.LookedUp.{calls_looked}
 use Rattle.result_lines.specs.PrintedLive.{note_told, IsNoteWithin}
 use Rattle.result_lines.specs.Printed.{IsPlaceWithin}
 use Rattle.result_lines.specs.Tables.{noting_at, entry_by, entry_of}

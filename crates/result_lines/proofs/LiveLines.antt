@@ -24,12 +24,12 @@ use Rattle.batch_plans.specs.Limits.{first_name, items_of, IsWithinLimits}
 use Rattle.batch_plans.specs.Names.{line_count, at_position}
 use Rattle.batch_plans.specs.ReplyText.{all_lines, numbered, guess_line}
 use Rattle.batch_plans.specs.LiveText.{live_lines}
-use Rattle.due_replies.specs.Standing.{call_refusal}
-use Rattle.due_replies.specs.Asks.{ask_of}
-use Rattle.due_replies.specs.Live.{LiveRun, run_of, was_live, looked_up, live_call_lines, live_lane_lines, live_run_text}
-use Rattle.due_replies.specs.Lanes.{calls_of}
-use Rattle.due_replies.specs.Runs.{Run, asks_of, journal_of, guesses_of, call_lines}
-use Rattle.due_replies.proofs.Refusals.{added_refused, retired_refused}
+use Rattle.context_books.specs.Standing.{call_refusal}
+use Rattle.context_books.specs.Asks.{ask_of}
+use Rattle.context_books.specs.Live.{LiveRun, run_of, was_live, looked_up, live_call_lines, live_lane_lines, live_run_text}
+use Rattle.context_books.specs.Lanes.{calls_of}
+use Rattle.context_books.specs.Runs.{Run, asks_of, journal_of, guesses_of, call_lines}
+use Rattle.context_books.proofs.Refusals.{added_refused, retired_refused}
 use Rattle.result_lines.specs.Printed.{call_replies, told_calls, told_lanes, AreComplete}
 use Rattle.result_lines.specs.Printed as printed
 use Rattle.result_lines.specs.PrintedLive.{IsReply, told_live_text}

@@ -15,9 +15,9 @@ use Rattle.batch_plans.specs.declared.plan.CallLine.{CallLine}
 use Rattle.batch_plans.specs.declared.replies.Batch.{Batch}
 use Rattle.batch_plans.specs.declared.replies.KeyReply.{KeyReply}
 use Rattle.batch_plans.specs.declared.replies.ContextReply.{ContextReply}
-use Rattle.due_replies.specs.Asks.{ask_of}
-use Rattle.due_replies.specs.Live.{LiveRun, run_of, LiveHistory, IsAllowedLive, live_run_text, live_run_along}
-use Rattle.due_replies.specs.Runs.{asks_of, journal_of, guesses_of}
+use Rattle.context_books.specs.Asks.{ask_of}
+use Rattle.context_books.specs.Live.{LiveRun, run_of, LiveHistory, IsAllowedLive, live_run_text, live_run_along}
+use Rattle.context_books.specs.Runs.{asks_of, journal_of, guesses_of}
 use Rattle.result_lines.specs.declared.told.GuessLine.{GuessLine}
 use Rattle.result_lines.specs.Printed.{lines_told}
 use Rattle.result_lines.specs.PrintedLive.{told_live_text}

@@ -16,7 +16,7 @@ use Rattle.batch_plans.specs.Limits.{first_name, items_of, size_of, text_size, I
 use Rattle.batch_plans.specs.Names.{position, at_position}
 use Rattle.batch_plans.specs.ReplyText.{numbered}
 use Rattle.batch_plans.proofs.Numbering.{length-numbered}
-use Rattle.due_replies.specs.Live.{was_live, looked_up, looked_up_plan}
+use Rattle.context_books.specs.Live.{was_live, looked_up, looked_up_plan}
 
 -- ---- one call
 

@@ -22,7 +22,7 @@ use Rattle.batch_plans.specs.declared.replies.CallRefusal.{CallRefusal}
 use Rattle.batch_plans.specs.declared.replies.CallRefusal.TheVariants as calls
 use Rattle.batch_plans.specs.Words.{key_refusal_word, context_refusal_word, call_refusal_word}
 use Rattle.batch_plans.specs.Lines.{key_words, key_line, context_words, context_line, exported_line, refused_line}
-use Rattle.due_replies.specs.Runs.{answer_line}
+use Rattle.context_books.specs.Runs.{answer_line}
 use Rattle.result_lines.specs.Printed.{IsLine}
 use Rattle.result_lines.proofs.FirstLines.{HasNoFeed}
 

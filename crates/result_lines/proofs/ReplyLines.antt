@@ -7,8 +7,8 @@ use Rattle.batch_plans.specs.declared.replies.ContextReply.{ContextReply}
 use Rattle.batch_plans.specs.declared.replies.ContextReply.TheVariants as contexts
 use Rattle.batch_plans.specs.declared.replies.ContextRefusal.TheVariants.{NoKey, NeedSecret, NoEnc, EncSize, PskPair, PskExtra, PskMissing}
 use Rattle.batch_plans.specs.Lines.{exported_line, refused_line, added_line, retired_line}
-use Rattle.due_replies.specs.Live.{add_line, retire_line}
-use Rattle.due_replies.specs.Runs.{answer_line}
+use Rattle.context_books.specs.Live.{add_line, retire_line}
+use Rattle.context_books.specs.Runs.{answer_line}
 use Rattle.result_lines.specs.PrintedLive.{IsReply}
 use Rattle.result_lines.proofs.PlainLines.{tested, answer_line_is, exported_line_is, refused_line_is}
 

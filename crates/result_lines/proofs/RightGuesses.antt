@@ -12,9 +12,9 @@ use Rattle.context_books.proofs.Truths.{and_left, and_right, both_true}
 use Rattle.batch_plans.specs.declared.plan.CallLine.{CallLine}
 use Rattle.batch_plans.specs.declared.replies.Batch.{Batch}
 use Rattle.batch_plans.specs.ReplyText.{numbered}
-use Rattle.due_replies.specs.Asks.{ask_of, cipher_at}
-use Rattle.due_replies.specs.Runs.{Run, asks_of, journal_of, guesses_of}
-use Rattle.due_replies.proofs.Done.{lane_asks}
+use Rattle.context_books.specs.Asks.{ask_of, cipher_at}
+use Rattle.context_books.specs.Runs.{Run, asks_of, journal_of, guesses_of}
+use Rattle.context_books.proofs.Done.{lane_asks}
 use Rattle.result_lines.specs.declared.told.GuessLine.{GuessLine}
 use Rattle.result_lines.proofs.Growing.{batches}
 use Rattle.result_lines.specs.Guesses.{is_right, wrong_guess, or_else, wrong_guesses}

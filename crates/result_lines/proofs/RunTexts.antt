@@ -24,11 +24,11 @@ use Rattle.batch_plans.specs.Limits.{items_from, IsWithinLimits, items_of}
 use Rattle.batch_plans.specs.Lines.{batch_line}
 use Rattle.batch_plans.specs.ReplyText as texts
 use Rattle.batch_plans.specs.ReplyText.{all_lines, numbered, guess_line}
-use Rattle.due_replies.specs.Standing.{call_refusal}
-use Rattle.due_replies.specs.Asks.{asked_by, ask_unless, ask_of, cipher_at}
-use Rattle.due_replies.specs.Runs.{Run, asks_of, journal_of, guesses_of, place_line, served_lines, lines_unless, call_lines, lane_call_lines, run_text, item_lines}
-use Rattle.due_replies.proofs.Refusals.{added_refused, retired_refused}
-use Rattle.due_replies.proofs.Done.{lane_asks, length-messages}
+use Rattle.context_books.specs.Standing.{call_refusal}
+use Rattle.context_books.specs.Asks.{asked_by, ask_unless, ask_of, cipher_at}
+use Rattle.context_books.specs.Runs.{Run, asks_of, journal_of, guesses_of, place_line, served_lines, lines_unless, call_lines, lane_call_lines, run_text, item_lines}
+use Rattle.context_books.proofs.Refusals.{added_refused, retired_refused}
+use Rattle.context_books.proofs.Done.{lane_asks, length-messages}
 use Rattle.result_lines.specs.Printed.{call_replies, call_guesses, told_calls, told_lanes, told_text, AreComplete}
 use Rattle.result_lines.specs.Printed as printed
 use Rattle.result_lines.proofs.Took.{calls_split, lanes_split}

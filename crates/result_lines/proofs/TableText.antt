@@ -22,7 +22,7 @@ use Rattle.batch_plans.specs.declared.replies.ContextReply.{ContextReply}
 use Rattle.batch_plans.specs.Lines.{key_line, context_line}
 use Rattle.batch_plans.specs.ReplyText.{guess_line, all_lines, numbered, lane_lines, mark_line, journal_lines, version_line}
 use Rattle.batch_plans.specs.LiveText.{added_journal_lines, note_line, table_lines, live_lines}
-use Rattle.due_replies.specs.Live.{looked_up_plan}
+use Rattle.context_books.specs.Live.{looked_up_plan}
 use Rattle.result_lines.specs.declared.stamps.Stamps.TheVariants.{PlacesAndNotes}
 use Rattle.result_lines.specs.declared.tables.NoteLine.{NoteLine}
 use Rattle.result_lines.specs.Forms.{guess_in, mark_in, guess_of_line, mark_of_line}

@@ -14,7 +14,7 @@ use Rattle.batch_plans.specs.declared.replies.ContextReply.{ContextReply}
 use Rattle.batch_plans.specs.Lines.{key_line, context_line}
 use Rattle.batch_plans.specs.ReplyText.{all_lines, numbered, lane_lines, mark_line, journal_lines, version_line}
 use Rattle.batch_plans.specs.LiveText.{added_journal_lines, table_lines, live_lines}
-use Rattle.due_replies.specs.Live.{looked_up_plan}
+use Rattle.context_books.specs.Live.{looked_up_plan}
 use Rattle.result_lines.specs.declared.told.GuessLine.{GuessLine}
 use Rattle.result_lines.specs.declared.stamps.Stamps.TheVariants.{PlacesAndNotes}
 use Rattle.result_lines.specs.Places.{marks_of}

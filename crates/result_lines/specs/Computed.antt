@@ -8,9 +8,9 @@ use Rattle.batch_plans.specs.declared.plan.Plan.{Plan}
 use Rattle.batch_plans.specs.declared.replies.ContextReply.{ContextReply}
 use Rattle.batch_plans.specs.Names.{line_count}
 use Rattle.batch_plans.specs.ReplyText.{has_stamps}
-use Rattle.due_replies.specs.Live.{LiveRun, run_of}
-use Rattle.due_replies.specs.LiveChecks.{asks_with_notes, note_mark, tells_act, tells_live_at, is_live_history}
-use Rattle.due_replies.specs.Runs.{asks_of}
+use Rattle.context_books.specs.Live.{LiveRun, run_of}
+use Rattle.context_books.specs.LiveChecks.{asks_with_notes, note_mark, tells_act, tells_live_at, is_live_history}
+use Rattle.context_books.specs.Runs.{asks_of}
 use Rattle.result_lines.specs.Told.{ToldView}
 use Rattle.result_lines.specs.declared.verdicts.Verdict.{Verdict}
 use Rattle.result_lines.specs.declared.verdicts.Verdict.TheVariants as verdicts

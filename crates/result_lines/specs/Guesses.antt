@@ -3,8 +3,8 @@ use Rattle.std.specs.Prelude.{ℕ, ◌+◌, ◌==◌, ◌&&◌, nat_le, Bool, Li
 use Rattle.context_books.specs.Batches.{Ask, Nothing, ToSeal, ToOpen, ToOpenAll, lane_of}
 use Rattle.context_books.specs.Guesses.{least_guess, greatest_guess, missed_in}
 use Rattle.batch_plans.specs.declared.replies.Batch.{Batch}
-use Rattle.due_replies.specs.Asks.{cipher_at}
-use Rattle.due_replies.specs.Runs.{Run, asks_of, journal_of}
+use Rattle.context_books.specs.Asks.{cipher_at}
+use Rattle.context_books.specs.Runs.{Run, asks_of, journal_of}
 use Rattle.result_lines.specs.declared.told.GuessLine.{GuessLine}
 
 -- the guess of an opening of so many messages may have been made, and it missed so many of them

@@ -14,8 +14,8 @@ use Rattle.batch_plans.specs.declared.replies.ContextReply.{ContextReply}
 use Rattle.batch_plans.specs.Limits.{first_name}
 use Rattle.batch_plans.specs.Names.{line_count}
 use Rattle.batch_plans.specs.ReplyText.{all_lines, numbered}
-use Rattle.due_replies.specs.Live.{LiveRun, LegalTable, LiveHistory, run_of, was_live, looked_up, add_line, retire_line, live_run_along}
-use Rattle.due_replies.specs.Runs.{asks_of}
+use Rattle.context_books.specs.Live.{LiveRun, LegalTable, LiveHistory, run_of, was_live, looked_up, add_line, retire_line, live_run_along}
+use Rattle.context_books.specs.Runs.{asks_of}
 use Rattle.result_lines.specs.declared.told.GuessLine.{GuessLine}
 use Rattle.result_lines.specs.Told.{ToldView}
 use Rattle.result_lines.specs.declared.verdicts.Verdict.{Verdict}

@@ -1,8 +1,8 @@
 -- What the text of a run tells of it.
 use Rattle.std.specs.Prelude.{◌≡◌, ℕ, true}
 use Rattle.batch_plans.specs.ReplyText.{has_stamps}
-use Rattle.due_replies.specs.Live.{LiveRun}
-use Rattle.due_replies.specs.Runs.{Run, journal_of}
+use Rattle.context_books.specs.Live.{LiveRun}
+use Rattle.context_books.specs.Runs.{Run, journal_of}
 
 -- two runs of one plan have the same guesses and the same places in their journals, and in version 2
 -- the same stamps

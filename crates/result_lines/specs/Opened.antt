@@ -3,8 +3,8 @@ use Rattle.std.specs.Prelude.{ℕ, ◌≡◌, ◌+◌, List, [], ◌∷◌, leng
 use Rattle.context_books.specs.Batches.{Ask, Nothing, ToSeal, ToOpen, ToOpenAll, lane_of}
 use Rattle.context_books.specs.Guesses.{missed_in, guess_count, guess_at}
 use Rattle.batch_plans.specs.declared.replies.Batch.{Batch}
-use Rattle.due_replies.specs.Asks.{cipher_at}
-use Rattle.due_replies.specs.Runs.{Run, asks_of, journal_of, guesses_of}
+use Rattle.context_books.specs.Asks.{cipher_at}
+use Rattle.context_books.specs.Runs.{Run, asks_of, journal_of, guesses_of}
 
 -- the guess of an opening of n messages, and how many of them it missed
 abbrev pub opened_with : Run → ℕ → ℕ → ℕ → ℕ → ℕ → Batch

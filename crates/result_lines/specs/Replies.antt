@@ -3,8 +3,8 @@ use Rattle.std.specs.Prelude.{ℕ, List, [], ◌∷◌, Option, Some, None, if�
 use Rattle.std.specs.Str.{bytes_eq}
 use Rattle.batch_plans.specs.declared.plan.CallLine.{CallLine}
 use Rattle.batch_plans.specs.ReplyText.{all_lines, numbered}
-use Rattle.due_replies.specs.Standing.{call_refusal}
-use Rattle.due_replies.specs.Runs.{Run, item_lines, lines_unless}
+use Rattle.context_books.specs.Standing.{call_refusal}
+use Rattle.context_books.specs.Runs.{Run, item_lines, lines_unless}
 use Rattle.result_lines.specs.Places.{with_feed}
 use Rattle.result_lines.specs.Told.{ReplyView}
 

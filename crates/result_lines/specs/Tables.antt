@@ -12,7 +12,7 @@ use Rattle.field_text.specs.Cuts.{lines_of, pieces_of}
 use Rattle.field_text.specs.Fields.{◌>>=◌, next, exactly, number}
 use Rattle.context_books.specs.Batches.{place}
 use Rattle.batch_plans.specs.declared.plan.Plan.{Plan}
-use Rattle.due_replies.specs.Live.{Noting, noting_in}
+use Rattle.context_books.specs.Live.{Noting, noting_in}
 use Rattle.result_lines.specs.declared.stamps.Stamps.TheVariants.{PlacesAndNotes}
 use Rattle.result_lines.specs.declared.tables.NoteLine.{NoteLine}
 use Rattle.result_lines.specs.Forms.{coordinate, stamp_in}

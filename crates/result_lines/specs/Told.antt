@@ -14,7 +14,7 @@ use Rattle.batch_plans.specs.declared.replies.ContextReply.{ContextReply}
 use Rattle.batch_plans.specs.declared.replies.CallRefusal.{CallRefusal}
 use Rattle.batch_plans.specs.Lines.{key_line, context_line}
 use Rattle.batch_plans.specs.ReplyText.{numbered, version_line, has_stamps}
-use Rattle.due_replies.specs.Standing.{call_refusal}
+use Rattle.context_books.specs.Standing.{call_refusal}
 use Rattle.result_lines.specs.declared.told.GuessLine.{GuessLine}
 use Rattle.result_lines.specs.declared.stamps.Stamps.{Stamps}
 use Rattle.result_lines.specs.Forms.{stamps_for}

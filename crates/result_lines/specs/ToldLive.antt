@@ -11,7 +11,7 @@ use Rattle.batch_plans.specs.declared.plan.ContextLine.{ContextLine}
 use Rattle.batch_plans.specs.declared.replies.KeyReply.{KeyReply}
 use Rattle.batch_plans.specs.declared.replies.ContextReply.{ContextReply}
 use Rattle.batch_plans.specs.LiveText.{table_lines}
-use Rattle.due_replies.specs.Live.{looked_up_plan}
+use Rattle.context_books.specs.Live.{looked_up_plan}
 use Rattle.result_lines.specs.declared.stamps.Stamps.TheVariants.{PlacesAndNotes}
 use Rattle.result_lines.specs.Places.{◌>>=◌, marks_of}
 use Rattle.result_lines.specs.Told.{ToldView, nothing_yet, with_line, with_lines, with_setup, with_lanes, journal_ended, with_journals, with_end}

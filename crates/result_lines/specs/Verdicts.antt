@@ -9,7 +9,7 @@ use Rattle.context_books.specs.Histories.{HasLowerStamp, marks_at, places}
 use Rattle.context_books.specs.Legal.{Legal}
 use Rattle.batch_plans.specs.declared.plan.Plan.{Plan}
 use Rattle.batch_plans.specs.ReplyText.{has_stamps}
-use Rattle.due_replies.specs.Runs.{Run, LegalFor, asks_of, run_along}
+use Rattle.context_books.specs.Runs.{Run, LegalFor, asks_of, run_along}
 use Rattle.result_lines.specs.declared.told.GuessLine.{GuessLine}
 use Rattle.result_lines.specs.Told.{ToldView}
 use Rattle.result_lines.specs.declared.verdicts.Verdict.{Verdict}

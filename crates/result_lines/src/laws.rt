@@ -10,7 +10,7 @@ ghost use Rattle.batch_plans.specs.declared.replies.Batch.{Batch};
 ghost use Rattle.batch_plans.specs.declared.replies.KeyReply.{KeyReply};
 ghost use Rattle.batch_plans.specs.declared.replies.ContextReply.{ContextReply};
 ghost use Rattle.batch_plans.specs.ReplyText.{has_stamps};
-ghost use Rattle.due_replies.specs.Live.{looked_up_plan};
+ghost use Rattle.context_books.specs.Live.{looked_up_plan};
 ghost use Rattle.result_lines.specs.declared.stamps.Stamps.TheVariants.{PlacesAndNotes};
 ghost use Rattle.result_lines.specs.Told.{ToldView, told_by};
 ghost use Rattle.result_lines.specs.Printed.{AreComplete, IsLine, IsGuessWithin, IsMarkWithin};

@@ -10,7 +10,7 @@ ghost use Rattle.batch_plans.specs.Calls.{context_of as context_of_call};
 ghost use Rattle.batch_plans.specs.Limits.{IsWithinLimits, first_name};
 ghost use Rattle.batch_plans.specs.Names.{at_position};
 ghost use Rattle.batch_plans.specs.ReplyText.{numbered};
-ghost use Rattle.due_replies.specs.Live.{was_live, looked_up as looked_up_call, looked_up_plan};
+ghost use Rattle.context_books.specs.Live.{was_live, looked_up as looked_up_call, looked_up_plan};
 
 use batch_plans::{CallLine, FIRST_NAME, LaneLines, PlainList, Plan, context_of};
 use call_places::Entry;

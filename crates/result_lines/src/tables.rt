@@ -4,9 +4,9 @@ ghost use Rattle.std.specs.Prelude.{◌≡◌, ◌+◌, Some, None, [], length, 
 ghost use Rattle.std.specs.Prelude.{MatchOption, IfSome, IfNone, IfOk};
 ghost use Rattle.batch_plans.specs.Limits.{IsWithinLimits};
 ghost use Rattle.batch_plans.specs.Names.{line_count};
-ghost use Rattle.due_replies.specs.Standing.{standing_at};
-ghost use Rattle.due_replies.specs.Live.{noting_of as noting_of_name, looking as looking_of};
-ghost use Rattle.due_replies.specs.Live.{adding as adding_of, noting as noting_of_call};
+ghost use Rattle.context_books.specs.Standing.{standing_at};
+ghost use Rattle.context_books.specs.Live.{noting_of as noting_of_name, looking as looking_of};
+ghost use Rattle.context_books.specs.Live.{adding as adding_of, noting as noting_of_call};
 ghost use Rattle.field_text.specs.Cuts.{lines_of};
 ghost use Rattle.result_lines.specs.Tables.{notes_from, notes_behind, entry_by as entry_of_noting};
 ghost use Rattle.result_lines.specs.Tables.{noting_at as noting_at_place, entry_of as entry_of_note};
@@ -38,7 +38,7 @@ pub struct NamedAct {
 }
 
 impl Model for NamedAct {
-    ghost use Rattle.due_replies.specs.Live.{Noting};
+    ghost use Rattle.context_books.specs.Live.{Noting};
 
     ghost Value = { Noting };
 

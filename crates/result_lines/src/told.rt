@@ -14,7 +14,7 @@ use crate::replies::Replies;
 use crate::stamps::Stamps;
 use crate::stop::Stop;
 use batch_plans::{Batch, CallLine, PlainList};
-use due_replies::refusal_of;
+use context_books::refusal_of;
 use hpke_context::Context;
 use reply_frames::numbered_line;
 use std::alloc::Global;

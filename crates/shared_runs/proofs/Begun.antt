@@ -9,9 +9,9 @@ use Rattle.hpke_context.specs.Contexts.{ContextView}
 use Rattle.shared_context.specs.Calls.{SharedView}
 use Rattle.batch_plans.specs.declared.plan.Plan.{Plan}
 use Rattle.batch_plans.specs.Limits.{IsWithinLimits}
-use Rattle.due_replies.specs.Standing.{standing_at}
-use Rattle.lane_replies.specs.Quotas.{lane_quota, quotas_on, all_quotas}
-use Rattle.lane_replies.proofs.Counts.{all_quotas_few, quotas_at}
+use Rattle.context_books.specs.Standing.{standing_at}
+use Rattle.context_books.specs.Quotas.{lane_quota, quotas_on, all_quotas}
+use Rattle.context_books.proofs.Counts.{all_quotas_few, quotas_at}
 use Rattle.lane_workers.specs.Handing.{list_at}
 use Rattle.lane_workers.specs.Turns.{shared_at, view_in, views}
 use Rattle.shared_runs.specs.Sharing.{IsSharedBy, Shares, SharesEach}

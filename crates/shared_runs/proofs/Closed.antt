@@ -20,9 +20,9 @@ use Rattle.lane_workers.specs.Showing.{Closes}
 use Rattle.batch_plans.specs.declared.plan.Plan.{Plan}
 use Rattle.batch_plans.specs.Calls.{context_of}
 use Rattle.batch_plans.specs.Room.{items_on}
-use Rattle.due_replies.specs.Standing.{AreOfLines, standing_at, refusal_on, export_limits}
-use Rattle.lane_replies.specs.Quotas.{lane_quota, quotas_on}
-use Rattle.lane_replies.proofs.Counts.{refused_call, other_context}
+use Rattle.context_books.specs.Standing.{AreOfLines, standing_at, refusal_on, export_limits}
+use Rattle.context_books.specs.Quotas.{lane_quota, quotas_on}
+use Rattle.context_books.proofs.Counts.{refused_call, other_context}
 use Rattle.lane_workers.specs.Handing.{list_at}
 use Rattle.lane_workers.specs.Served.{seen_of}
 use Rattle.lane_workers.specs.Turns.{shared_at, view_in, views}

@@ -20,8 +20,8 @@ use Rattle.batch_plans.specs.declared.plan.CallLine.{CallLine}
 use Rattle.batch_plans.specs.declared.replies.LaneAnswers.{LaneAnswers}
 use Rattle.batch_plans.specs.Room.{all_items_on, journal_room}
 use Rattle.batch_plans.specs.Replies.{IsPrintable}
-use Rattle.due_replies.specs.Standing.{export_limits}
-use Rattle.lane_replies.specs.Quotas.{lane_quota, quotas_on}
+use Rattle.context_books.specs.Standing.{export_limits}
+use Rattle.context_books.specs.Quotas.{lane_quota, quotas_on}
 use Rattle.lane_workers.specs.Gathered.{no_answers, AllLanesServed, AllClosed}
 use Rattle.lane_workers.specs.Served.{seen_of}
 use Rattle.lane_workers.specs.Turns.{views}

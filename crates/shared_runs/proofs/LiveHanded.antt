@@ -8,8 +8,8 @@ use Rattle.batch_plans.specs.declared.plan.Plan.{Plan}
 use Rattle.batch_plans.specs.declared.replies.LaneAnswers.{LaneAnswers}
 use Rattle.batch_plans.specs.Names.{at_position, all_live}
 use Rattle.batch_plans.specs.Room.{lane_room}
-use Rattle.due_replies.specs.Standing.{export_limits}
-use Rattle.lane_replies.specs.LaneCalls.{lane_calls}
+use Rattle.context_books.specs.Standing.{export_limits}
+use Rattle.context_books.specs.LaneCalls.{lane_calls}
 use Rattle.lane_workers.specs.declared.works.LaneWork.{LaneWork}
 use Rattle.lane_workers.specs.declared.live_lane.LiveLane.{LiveLane}
 use Rattle.lane_workers.specs.LiveLanes.{LiveView}

@@ -9,7 +9,7 @@ use Rattle.batch_plans.specs.declared.plan.Plan.{Plan}
 use Rattle.batch_plans.specs.declared.plan.CallLine.{CallLine}
 use Rattle.batch_plans.specs.declared.plan.CallLine.TheVariants as calls
 use Rattle.batch_plans.specs.Limits.{items_of, all_items, IsCallWithin, IsWithinLimits}
-use Rattle.due_replies.specs.Live.{Noting, noting}
+use Rattle.context_books.specs.Live.{Noting, noting}
 use Rattle.lane_workers.specs.LiveServed.{note_place, noted_from}
 use Rattle.shared_runs.specs.Noting.{note_count, notes_of, note_quota, note_quotas}
 

@@ -6,11 +6,11 @@ use Rattle.call_places.specs.declared.listed.Terms.{Terms}
 use Rattle.stamp_counter.specs.Seats.{CounterView}
 use Rattle.batch_plans.specs.declared.plan.Plan.{Plan}
 use Rattle.batch_plans.specs.Limits.{IsWithinLimits}
-use Rattle.lane_replies.specs.Quotas.{lane_quota}
-use Rattle.lane_replies.proofs.Places.{quota_is}
+use Rattle.context_books.specs.Quotas.{lane_quota}
+use Rattle.context_books.proofs.ItemPlaces.{quota_is}
 use Rattle.lane_workers.specs.declared.works.LaneWork.{LaneWork}
 use Rattle.lane_workers.specs.Groups.{IsServed, Each, EachServed, AllServed}
-use Rattle.lane_replies.specs.LaneCalls.{lane_calls}
+use Rattle.context_books.specs.LaneCalls.{lane_calls}
 use Rattle.lane_workers.specs.Lanes.{AreShared, LaneIsAt}
 use Rattle.lane_workers.specs.Turns.{views}
 use Rattle.batch_plans.specs.declared.replies.Answers.{Answers}

@@ -11,7 +11,7 @@ use Rattle.context_books.specs.Books.{BookView}
 use Rattle.batch_plans.specs.declared.plan.CallLine.{CallLine}
 use Rattle.batch_plans.specs.declared.plan.ContextLine.{ContextLine}
 use Rattle.batch_plans.specs.Room.{all_items_on, journal_room, blank_mark}
-use Rattle.lane_replies.specs.Journals.{written, HasRoom}
+use Rattle.context_books.specs.Journals.{written, HasRoom}
 use Rattle.shared_runs.specs.Closing.{entries_of}
 use Rattle.shared_runs.proofs.Closed.{book_at, entries_at}
 

@@ -11,7 +11,7 @@ use Rattle.lane_workers.specs.Showing.{Closes}
 use Rattle.lane_workers.specs.Served.{seen_of}
 use Rattle.lane_workers.specs.Turns.{views}
 use Rattle.shared_runs.specs.declared.tables.Table.{Table}
-use Rattle.lane_replies.specs.Quotas.{quotas_on}
+use Rattle.context_books.specs.Quotas.{quotas_on}
 use Rattle.shared_runs.specs.Tables.{planned}
 use Rattle.shared_runs.specs.Collected.{passes_of}
 

@@ -8,7 +8,7 @@ use Rattle.stamp_counter.specs.Seats.{CounterView}
 use Rattle.batch_plans.specs.declared.plan.Plan.{Plan}
 use Rattle.batch_plans.specs.Limits.{IsWithinLimits}
 use Rattle.batch_plans.specs.Names.{line_count, all_live}
-use Rattle.due_replies.specs.Standing.{standing_at}
+use Rattle.context_books.specs.Standing.{standing_at}
 use Rattle.lane_workers.specs.declared.live_lane.LiveLane.{LiveLane}
 use Rattle.lane_workers.specs.LiveLanes.{LiveView, lives, AddsOneOf, AreSharedLive, add_refusal}
 use Rattle.lane_workers.specs.LiveReturned.{IsFreshLive, IsDoneLive}

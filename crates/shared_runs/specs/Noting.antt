@@ -3,7 +3,7 @@ use Rattle.std.specs.Prelude.{ℕ, List, map, sum_by, Option, Some, None}
 use Rattle.hpke_context.specs.Contexts.{ContextView}
 use Rattle.batch_plans.specs.declared.plan.Plan.{Plan}
 use Rattle.batch_plans.specs.declared.plan.CallLine.{CallLine}
-use Rattle.due_replies.specs.Live.{Noting, noting}
+use Rattle.context_books.specs.Live.{Noting, noting}
 
 abbrev pub note_count : Option Noting → ℕ
 note_count None = 0

@@ -4,7 +4,7 @@ use Rattle.turn_lock.specs.Passes.{PassListView, fresh_from}
 use Rattle.stamp_counter.specs.Seats.{SeatView}
 use Rattle.hpke_context.specs.Contexts.{ContextView}
 use Rattle.shared_context.specs.Calls.{SharedView}
-use Rattle.due_replies.specs.Standing.{standing_at}
+use Rattle.context_books.specs.Standing.{standing_at}
 use Rattle.lane_workers.specs.Handing.{list_at}
 use Rattle.lane_workers.specs.Turns.{shared_at}
 

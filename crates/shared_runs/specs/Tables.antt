@@ -11,13 +11,13 @@ use Rattle.shared_context.specs.Calls.{SharedView}
 use Rattle.batch_plans.specs.declared.plan.Plan.{Plan}
 use Rattle.batch_plans.specs.Limits.{IsWithinLimits}
 use Rattle.batch_plans.specs.Room.{journal_room}
-use Rattle.due_replies.specs.Standing.{AreOfLines, export_limits}
+use Rattle.context_books.specs.Standing.{AreOfLines, export_limits}
 use Rattle.lane_workers.specs.declared.works.LaneWork.{LaneWork}
 use Rattle.lane_workers.specs.Groups.{IsFresh, IsDone}
 use Rattle.lane_workers.specs.Handing.{list_at}
 use Rattle.lane_workers.specs.Served.{seen_of}
 use Rattle.lane_workers.specs.Turns.{shared_at, pass_at, views}
-use Rattle.lane_replies.specs.Quotas.{quotas_on, all_quotas}
+use Rattle.context_books.specs.Quotas.{quotas_on, all_quotas}
 use Rattle.shared_runs.specs.declared.tables.Table.{Table}
 use Rattle.shared_runs.specs.declared.tables.Left.{Left}
 use Rattle.shared_runs.specs.Sharing.{IsSharedBy}

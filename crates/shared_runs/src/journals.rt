@@ -6,8 +6,7 @@ ghost use Rattle.shared_runs.specs.Closing.{entries_of};
 
 use batch_plans::PlainList;
 use call_places::Mark;
-use context_books::Book;
-use lane_replies::write_journals;
+use context_books::{Book, write_journals};
 
 // How many places a context has in its journal.
 fn place_count(book: &Option<Book>) -> usize

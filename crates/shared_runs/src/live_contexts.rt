@@ -3,7 +3,7 @@
 ghost use Rattle.std.specs.Prelude.{◌≡◌, ◌<◌, List, All, IfOk, length};
 ghost use Rattle.batch_plans.specs.Limits.{IsWithinLimits};
 ghost use Rattle.batch_plans.specs.Names.{all_live};
-ghost use Rattle.due_replies.specs.Standing.{AreOfLines};
+ghost use Rattle.context_books.specs.Standing.{AreOfLines};
 ghost use Rattle.lane_workers.specs.LiveLanes.{AddsOneOf};
 ghost use Rattle.lane_workers.specs.Turns.{views};
 ghost use Rattle.shared_runs.specs.LiveContexts.{AddsStand, AreLive, HasGivenLive};

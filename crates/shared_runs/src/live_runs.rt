@@ -6,7 +6,7 @@ ghost use Rattle.batch_plans.specs.Limits.{IsWithinLimits};
 ghost use Rattle.batch_plans.specs.Names.{all_live, line_count};
 ghost use Rattle.batch_plans.specs.Room.{room_for};
 ghost use Rattle.batch_plans.specs.ReplyText.{IsAnswered};
-ghost use Rattle.due_replies.specs.Standing.{AreOfLines, export_limits, standing_at};
+ghost use Rattle.context_books.specs.Standing.{AreOfLines, export_limits, standing_at};
 ghost use Rattle.lane_workers.specs.LiveGathered.{AreOfALiveRun};
 ghost use Rattle.lane_workers.specs.LiveLanes.{AddsAre, AddsOneOf, add_refusal};
 

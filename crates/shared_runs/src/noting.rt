@@ -6,7 +6,7 @@ ghost use Rattle.lane_workers.specs.LiveLanes.{AddsOneOf};
 ghost use Rattle.shared_runs.specs.Noting.{notes_of, note_quota, note_quotas};
 
 use batch_plans::{CallLine, FIRST_NAME, Plan, context_of};
-use due_replies::standing;
+use context_books::standing;
 use hpke_context::Context;
 use std::alloc::{AllocError as OutOfMemory, Global};
 

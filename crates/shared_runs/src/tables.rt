@@ -4,15 +4,15 @@ ghost use Rattle.std.specs.Prelude.{ℕ, ◌≡◌, ◌+◌, ◌<◌, ◌≤◌,
 ghost use Rattle.turn_lock.specs.Passes.{PassView};
 ghost use Rattle.stamp_counter.specs.Seats.{fresh_seat};
 ghost use Rattle.batch_plans.specs.Limits.{IsWithinLimits};
-ghost use Rattle.due_replies.specs.Standing.{AreOfLines};
+ghost use Rattle.context_books.specs.Standing.{AreOfLines};
 ghost use Rattle.lane_workers.specs.Turns.{views};
 ghost use Rattle.shared_runs.specs.Tables.{IsTable, HasStamps, HasGiven, IsHanded};
 ghost use Rattle.shared_runs.specs.Collected.{ArePassesOf, AreBack};
 
 use crate::sharing::{share_all, shares};
 use batch_plans::{LaneLines, PlainList, Plan};
+use context_books::all_quotas;
 use hpke_context::Context;
-use lane_replies::all_quotas;
 use lane_workers::{LanePasses, SharedList, put_passes, take_passes};
 use stamp_counter::{StampCounter, StampSeat};
 use std::alloc::{AllocError as OutOfMemory, Global};

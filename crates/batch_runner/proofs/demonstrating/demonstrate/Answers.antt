@@ -1,4 +1,4 @@
-use Rattle.demo_texts.specs.Demo.{report_text}
+use Rattle.demo_runs.specs.Demo.{report_text}
 use Rattle.batch_serving.specs.declared.outcomes.Outcome.TheVariants.{Done}
 use Rattle.batch_serving.specs.Effects.{Says}
 use Rattle.batch_serving.specs.Text.{Demonstrates}

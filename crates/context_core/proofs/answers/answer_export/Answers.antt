@@ -4,8 +4,8 @@ use Rattle.hpke_context.specs.Contexts.{exported_by}
 use Rattle.batch_plans.specs.Limits.{items_of, IsCallWithin}
 use Rattle.batch_plans.specs.Room.{served_room}
 use Rattle.batch_plans.specs.Lines.{exported_line}
-use Rattle.lane_replies.specs.Writing.{PutsReplies}
-use Rattle.lane_replies.proofs.Within.{line_within}
+use Rattle.context_books.specs.Writing.{PutsReplies}
+use Rattle.context_books.proofs.Within.{line_within}
 use Rattle.context_core.specs.declared.lanes.Stage.TheVariants.{Fresh}
 use Rattle.context_core.proofs.Answering.{finds_room, exported_on}
 use Rattle.context_core.proofs.answers.answer_export.Goals as goal

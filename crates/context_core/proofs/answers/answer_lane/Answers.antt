@@ -1,6 +1,6 @@
 use Rattle.std.proofs.Common.{◌≡◌, length, get_or, refl, sym, ap, ◌∙◌, subst, arith}
-use Rattle.lane_replies.specs.Answered.{KeepsUp}
-use Rattle.lane_replies.specs.LaneCalls.{lane_calls}
+use Rattle.context_books.specs.Answered.{KeepsUp}
+use Rattle.context_books.specs.LaneCalls.{lane_calls}
 use Rattle.context_core.specs.Following.{run_of}
 use Rattle.context_core.proofs.Events.{calls_read}
 use Rattle.context_core.proofs.Answering.{begun_up, may_reply}

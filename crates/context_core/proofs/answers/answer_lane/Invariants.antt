@@ -1,6 +1,6 @@
 use Rattle.std.proofs.Common.{◌≡◌}
 use Rattle.context_core.specs.Core.{Core}
-use Rattle.lane_replies.specs.Answered.{KeepsUp}
+use Rattle.context_books.specs.Answered.{KeepsUp}
 use Rattle.context_core.specs.Following.{run_of, AllDone}
 use Rattle.context_core.proofs.answers.answer_lane.Given as goal
 

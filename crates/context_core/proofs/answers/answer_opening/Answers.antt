@@ -7,11 +7,11 @@ use Rattle.hpke_context.specs.Answers.{run}
 use Rattle.hpke_context.specs.Contexts.{cipher_of}
 use Rattle.context_books.specs.Openings.{unseals}
 use Rattle.batch_plans.specs.Room.{opened_room}
-use Rattle.due_replies.specs.Standing.{standing_at}
-use Rattle.due_replies.specs.Runs.{answer_line}
-use Rattle.lane_replies.specs.Writing.{PutsReplies}
-use Rattle.lane_replies.specs.LaneCalls.{opening_items}
-use Rattle.lane_replies.proofs.Within.{line_within, opening_spans, opening_count, opening_room}
+use Rattle.context_books.specs.Standing.{standing_at}
+use Rattle.context_books.specs.Runs.{answer_line}
+use Rattle.context_books.specs.Writing.{PutsReplies}
+use Rattle.context_books.specs.LaneCalls.{opening_items}
+use Rattle.context_books.proofs.Within.{line_within, opening_spans, opening_count, opening_room}
 use Rattle.context_core.specs.declared.lanes.Stage.TheVariants.{Settled}
 use Rattle.context_core.proofs.Answering.{finds_room, opened_on}
 use Rattle.context_core.proofs.answers.answer_opening.Goals as goal

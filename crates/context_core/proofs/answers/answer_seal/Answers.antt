@@ -6,9 +6,9 @@ use Rattle.hpke_context.specs.Answers.{Seal, answer}
 use Rattle.hpke_context.specs.Contexts.{cipher_of}
 use Rattle.batch_plans.specs.Limits.{items_of, IsCallWithin}
 use Rattle.batch_plans.specs.Room.{served_room}
-use Rattle.due_replies.specs.Runs.{answer_line}
-use Rattle.lane_replies.specs.Writing.{due_at, PutsReplies}
-use Rattle.lane_replies.proofs.Within.{line_within, span_size}
+use Rattle.context_books.specs.Runs.{answer_line}
+use Rattle.context_books.specs.Writing.{due_at, PutsReplies}
+use Rattle.context_books.proofs.Within.{line_within, span_size}
 use Rattle.context_core.specs.declared.lanes.Stage.TheVariants.{Drawn}
 use Rattle.context_core.proofs.Answering.{finds_room, sealed_on}
 use Rattle.context_core.proofs.answers.answer_seal.Goals as goal

@@ -4,12 +4,12 @@ use Rattle.std.proofs.lemmas.List.{take-append-le, take_all}
 use Rattle.hpke_context.specs.Contexts.{cipher_of}
 use Rattle.context_books.specs.Entries.{entries_from}
 use Rattle.context_books.proofs.EntryNumbers.{length-steps_from}
-use Rattle.lane_replies.proofs.Items.{length-unseals}
+use Rattle.context_books.proofs.Items.{length-unseals}
 use Rattle.context_books.specs.Openings.{opening_steps, opening_misses, unseals}
 use Rattle.std.specs.Vec.{with_item}
 use Rattle.context_core.specs.declared.books.Books.{Books}
 use Rattle.context_core.specs.Books.{Settles}
-use Rattle.lane_replies.proofs.Misses.{few_missed}
+use Rattle.context_books.proofs.Misses.{few_missed}
 use Rattle.context_core.proofs.Adding.{book_read, may_add_read}
 use Rattle.context_core.proofs.books.settle.Goals as goal
 

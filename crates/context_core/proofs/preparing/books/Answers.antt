@@ -5,8 +5,8 @@ use Rattle.std.proofs.lemmas.List.FromFn.{map-range_with_len_more, length-map-ra
 use Rattle.context_books.specs.Books.{BookView}
 use Rattle.hpke_context.specs.Contexts.{ContextView}
 use Rattle.batch_plans.specs.declared.plan.Plan.{Plan}
-use Rattle.lane_replies.specs.Quotas.{quotas_on, all_quotas}
-use Rattle.lane_replies.proofs.Counts.{quotas_few}
+use Rattle.context_books.specs.Quotas.{quotas_on, all_quotas}
+use Rattle.context_books.proofs.Counts.{quotas_few}
 use Rattle.context_core.specs.Preparing.{fresh_at}
 use Rattle.context_core.proofs.preparing.books.Goals as goal
 

@@ -6,13 +6,13 @@ use Rattle.batch_plans.specs.declared.replies.Answers.{Answers}
 use Rattle.batch_plans.specs.declared.replies.LaneAnswers.{LaneAnswers}
 use Rattle.batch_plans.specs.Replies.{IsPrintable}
 use Rattle.batch_plans.specs.ReplyText.{lanes_lines, UsesUp}
-use Rattle.lane_replies.specs.LaneCalls.{lane_calls}
+use Rattle.context_books.specs.LaneCalls.{lane_calls}
 use Rattle.context_core.specs.Core.{core}
-use Rattle.due_replies.specs.Standing.{export_limits}
-use Rattle.due_replies.specs.Asks.{batch_of, cipher_at}
+use Rattle.context_books.specs.Standing.{export_limits}
+use Rattle.context_books.specs.Asks.{batch_of, cipher_at}
 use Rattle.context_core.specs.declared.lanes.Lane.{Lane}
 use Rattle.context_core.specs.Books.{book_at}
-use Rattle.lane_replies.specs.Journals.{written, HasRoom}
+use Rattle.context_books.specs.Journals.{written, HasRoom}
 use Rattle.context_core.specs.Following.{AreDone}
 use Rattle.context_core.specs.Preparing.{answers_of, IsEnded}
 use Rattle.context_core.proofs.Ended.{refill_is, answered_are, all_done, ended, lines_are, used, has_room, journals_are, lane_count, journals_count}

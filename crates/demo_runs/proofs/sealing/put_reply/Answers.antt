@@ -1,5 +1,5 @@
 use Rattle.std.proofs.Common.{◌≡◌, ℕ, ◌<◌, List, length, slice_set, ap, sym, ◌∙◌, arith}
-use Rattle.demo_texts.specs.Demo.{sealed_at}
+use Rattle.demo_runs.specs.Demo.{sealed_at}
 use Rattle.demo_runs.proofs.Puts.{sealed_told}
 use Rattle.demo_runs.proofs.sealing.put_reply.Goals as goal
 

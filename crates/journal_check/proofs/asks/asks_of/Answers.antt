@@ -1,7 +1,7 @@
 use Rattle.std.proofs.Common.{◌≡◌, List, map, sym, ap, ◌∙◌, subst}
 use Rattle.std.proofs.lemmas.Result.{IfOk-weaker}
 use Rattle.batch_plans.specs.declared.plan.CallLine.{CallLine}
-use Rattle.due_replies.specs.Asks.{batch_of}
+use Rattle.context_books.specs.Asks.{batch_of}
 use Rattle.journal_check.specs.Asks.{size_in, sizes_of, AreFew}
 use Rattle.journal_check.proofs.Asking.{plan_sizes, plan_few}
 use Rattle.journal_check.proofs.asks.asks_of.Goals as goal

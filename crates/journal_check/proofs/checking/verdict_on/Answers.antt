@@ -1,7 +1,7 @@
 use Rattle.std.proofs.Common.{List, subst, sym, ◌∙◌}
 use Rattle.std.proofs.lemmas.Result.{IfOk-weaker}
 use Rattle.call_places.specs.declared.entries.Mark.{Mark}
-use Rattle.due_replies.specs.Asks.{batch_of}
+use Rattle.context_books.specs.Asks.{batch_of}
 use Rattle.journal_check.specs.Piles.{IsKept}
 use Rattle.journal_check.proofs.Judged.{found_early, each_for, all_run, found_late}
 use Rattle.journal_check.proofs.checking.verdict_on.Goals as goal

@@ -1,5 +1,5 @@
 use Rattle.std.proofs.Common.{ℕ, ◌+◌, Bool, cond, Some, map, drop, get_or, sym, ap, ◌∙◌, arith}
-use Rattle.due_replies.specs.Asks.{ask_of}
+use Rattle.context_books.specs.Asks.{ask_of}
 use Rattle.result_lines.specs.declared.told.GuessLine.{GuessLine}
 use Rattle.result_lines.specs.Guesses.{wrong_guess}
 use Rattle.journal_check.specs.Passing.{is_right_by}

@@ -1,5 +1,5 @@
 use Rattle.std.proofs.Common.{◌≡◌, ◌≤◌, map, drop, length}
-use Rattle.due_replies.specs.Asks.{ask_of}
+use Rattle.context_books.specs.Asks.{ask_of}
 use Rattle.result_lines.specs.Guesses.{wrong_guess}
 use Rattle.journal_check.specs.Passing.{AllReach}
 use Rattle.journal_check.specs.Walks.{PointsTo, run_in}

@@ -1,5 +1,5 @@
 use Rattle.std.proofs.Common.{ℕ, ◌-◌, sym, ap, ◌∙◌, arith}
-use Rattle.due_replies.specs.Standing.{call_refusal}
+use Rattle.context_books.specs.Standing.{call_refusal}
 use Rattle.result_lines.specs.Guesses.{is_right}
 use Rattle.journal_check.specs.Asks.{items_asked}
 use Rattle.journal_check.specs.Walks.{run_in}

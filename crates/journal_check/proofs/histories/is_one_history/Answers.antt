@@ -1,7 +1,7 @@
 use Rattle.std.proofs.Common.{◌≡◌, List, ◌∙◌}
 use Rattle.std.proofs.lemmas.Result.{IfOk-weaker}
 use Rattle.context_books.specs.Checks.{is_legal_history}
-use Rattle.due_replies.specs.Asks.{batch_of}
+use Rattle.context_books.specs.Asks.{batch_of}
 use Rattle.journal_check.specs.declared.asks.Asked.{Asked}
 use Rattle.journal_check.specs.Asks.{batch_from}
 use Rattle.journal_check.proofs.Alike.{made, history_same}

@@ -3,7 +3,7 @@ use Rattle.std.specs.Prelude.{codes}
 use Rattle.std.proofs.lemmas.Result.{IfOk-weaker}
 use Rattle.call_places.specs.Spans.{span_bytes}
 use Rattle.batch_plans.specs.Lines.{served_line}
-use Rattle.due_replies.specs.Runs.{answer_line}
+use Rattle.context_books.specs.Runs.{answer_line}
 use Rattle.journal_check.proofs.Along.{written_whole, always}
 use Rattle.journal_check.proofs.items.open.Goals as goal
 

@@ -1,6 +1,6 @@
 use Rattle.std.proofs.Common.{◌≡◌, List, ◌∙◌}
 use Rattle.std.proofs.lemmas.Result.{IfOk-weaker}
-use Rattle.due_replies.specs.Asks.{batch_of}
+use Rattle.context_books.specs.Asks.{batch_of}
 use Rattle.result_lines.specs.Journals.{broken_journal}
 use Rattle.journal_check.specs.declared.asks.Asked.{Asked}
 use Rattle.journal_check.specs.Asks.{batch_from}

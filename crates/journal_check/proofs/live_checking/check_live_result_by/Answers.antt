@@ -3,7 +3,7 @@ use Rattle.std.specs.List.{list_all}
 use Rattle.std.proofs.lemmas.Result.{IfOk-weaker}
 use Rattle.hpke_context.specs.Contexts.{ContextView}
 use Rattle.context_table.specs.ReplyTo.{IsLiveReply}
-use Rattle.due_replies.specs.LiveChecks.{tells_act}
+use Rattle.context_books.specs.LiveChecks.{tells_act}
 use Rattle.result_lines.specs.declared.stop.Stop.{Stop}
 use Rattle.result_lines.specs.declared.stop.Stop.TheVariants.{Wrong}
 use Rattle.result_lines.specs.Places.{Tells}

@@ -1,5 +1,5 @@
 use Rattle.std.proofs.Common.{sym, ◌∙◌, arith}
-use Rattle.due_replies.specs.Asks.{batch_of}
+use Rattle.context_books.specs.Asks.{batch_of}
 use Rattle.journal_check.proofs.LiveSound.{broken_low}
 use Rattle.journal_check.proofs.orders.wrong_order.Goals as goal
 

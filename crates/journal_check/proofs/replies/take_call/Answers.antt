@@ -1,6 +1,6 @@
 use Rattle.std.proofs.Common.{ℕ, List, Option, subst, sym, ap, ◌∙◌}
 use Rattle.batch_plans.specs.declared.replies.CallRefusal.{CallRefusal}
-use Rattle.due_replies.specs.Runs.{lines_unless, item_lines}
+use Rattle.context_books.specs.Runs.{lines_unless, item_lines}
 use Rattle.journal_check.specs.Walks.{Holds, run_in}
 use Rattle.journal_check.proofs.replies.take_call.Goals as goal
 

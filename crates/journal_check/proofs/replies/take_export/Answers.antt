@@ -2,7 +2,7 @@ use Rattle.std.proofs.Common.{ℕ, List, ◌∷◌, [], Option, subst, sym, ap, 
 use Rattle.call_places.specs.Spans.{span_bytes}
 use Rattle.hpke_context.specs.Contexts.{ContextView, exported_by}
 use Rattle.batch_plans.specs.Lines.{exported_line}
-use Rattle.due_replies.specs.Runs.{export_line}
+use Rattle.context_books.specs.Runs.{export_line}
 use Rattle.journal_check.specs.Walks.{Holds}
 use Rattle.journal_check.proofs.replies.take_export.Goals as goal
 

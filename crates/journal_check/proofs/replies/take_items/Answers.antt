@@ -2,7 +2,7 @@ use Rattle.std.proofs.Common.{◌+◌, ◌++◌, List, map, drop, get_or, ap, �
 use Rattle.std.proofs.lemmas.Result.{err_from_is_err_and}
 use Rattle.std.proofs.lemmas.List.{drop_all}
 use Rattle.call_places.specs.declared.entries.Place.{Place}
-use Rattle.due_replies.specs.Runs.{place_line}
+use Rattle.context_books.specs.Runs.{place_line}
 use Rattle.result_lines.specs.Replies.{wrong_reply}
 use Rattle.journal_check.specs.Walks.{run_in}
 use Rattle.journal_check.proofs.Pulling.{holds_halt, no_place, next_place, next_line}

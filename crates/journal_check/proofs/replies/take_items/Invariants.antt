@@ -1,7 +1,7 @@
 use Rattle.std.proofs.Common.{◌≡◌, ◌≢◌, ◌++◌, ℕ, List, length, map, drop}
 use Rattle.std.specs.Prelude.{slice_index}
 use Rattle.call_places.specs.declared.entries.Place.{Place}
-use Rattle.due_replies.specs.Runs.{place_line}
+use Rattle.context_books.specs.Runs.{place_line}
 use Rattle.result_lines.specs.Replies.{wrong_reply}
 use Rattle.journal_check.specs.Walks.{run_in, left_in}
 use Rattle.journal_check.proofs.replies.take_items.Given as goal

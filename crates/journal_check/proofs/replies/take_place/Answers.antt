@@ -1,6 +1,6 @@
 use Rattle.std.proofs.Common.{ℕ, ◌<◌, List, [], ◌∷◌, subst, sym, ◌∙◌}
 use Rattle.context_books.specs.Histories.{marks_at}
-use Rattle.due_replies.specs.Runs.{place_line}
+use Rattle.context_books.specs.Runs.{place_line}
 use Rattle.journal_check.specs.Walks.{Holds, run_in, left_in}
 use Rattle.journal_check.proofs.OneContext.{lines_on, size_on}
 use Rattle.journal_check.proofs.Pulling.{value_here, behind_here}

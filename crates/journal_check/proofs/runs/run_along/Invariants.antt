@@ -3,7 +3,7 @@ use Rattle.hpke_context.specs.Answers.{run}
 use Rattle.hpke_context.specs.Contexts.{cipher_of}
 use Rattle.context_books.specs.Histories.{places}
 use Rattle.context_books.specs.Entries.{numbers_from}
-use Rattle.due_replies.specs.Runs.{answer_line}
+use Rattle.context_books.specs.Runs.{answer_line}
 use Rattle.journal_check.specs.Runs.{items_at}
 use Rattle.journal_check.proofs.runs.run_along.Given as goal
 

@@ -3,7 +3,7 @@ use Rattle.std.proofs.lemmas.List.{get_or_default}
 use Rattle.call_places.specs.declared.entries.Mark.{Mark}
 use Rattle.hpke_context.specs.Contexts.{ContextView}
 use Rattle.context_books.specs.Histories.{marks_at}
-use Rattle.due_replies.specs.Standing.{standing_at}
+use Rattle.context_books.specs.Standing.{standing_at}
 use Rattle.journal_check.specs.Runs.{IsRunOf, AreRuns}
 use Rattle.journal_check.proofs.Slots.{runs_push}
 use Rattle.journal_check.proofs.runs.run_journals.Goals as goal

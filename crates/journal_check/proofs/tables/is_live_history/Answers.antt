@@ -1,7 +1,7 @@
 use Rattle.std.proofs.Common.{◌≡◌, false, sym, ◌∙◌, subst}
 use Rattle.std.specs.Option.{MatchOption}
 use Rattle.std.proofs.lemmas.Result.{IfOk-weaker}
-use Rattle.due_replies.specs.LiveChecks.{is_live_history}
+use Rattle.context_books.specs.LiveChecks.{is_live_history}
 use Rattle.journal_check.specs.Asks.{AreFew}
 use Rattle.journal_check.specs.Served.{table_along}
 use Rattle.journal_check.specs.Tables.{are_low, with_marks}

@@ -2,7 +2,7 @@ use Rattle.std.proofs.Common.{◌≡◌, false, map, sym, ◌∙◌, subst}
 use Rattle.std.specs.Option.{MatchOption}
 use Rattle.std.specs.List.{list_all}
 use Rattle.std.proofs.lemmas.Result.{IfOk-weaker}
-use Rattle.due_replies.specs.LiveChecks.{note_mark}
+use Rattle.context_books.specs.LiveChecks.{note_mark}
 use Rattle.journal_check.specs.Asks.{AreFew}
 use Rattle.journal_check.specs.Served.{table_along}
 use Rattle.journal_check.specs.Tables.{is_low_note}

@@ -2,7 +2,7 @@ use Rattle.std.proofs.Common.{◌≡◌, ◌+◌, ◌++◌, drop, true, false, L
 use Rattle.std.specs.Option.{MatchOption}
 use Rattle.std.specs.List.{list_all}
 use Rattle.call_places.specs.declared.entries.Mark.{Mark}
-use Rattle.due_replies.specs.LiveChecks.{call_mark}
+use Rattle.context_books.specs.LiveChecks.{call_mark}
 use Rattle.journal_check.specs.Tables.{is_low}
 use Rattle.journal_check.proofs.NotedCalls.{marks_next, low_next}
 use Rattle.journal_check.proofs.tables.journal_marks.Goals as goal

@@ -1,6 +1,6 @@
 use Rattle.std.proofs.Common.{◌≡◌, ◌++◌, map, drop}
 use Rattle.std.specs.List.{list_all}
-use Rattle.due_replies.specs.LiveChecks.{call_mark}
+use Rattle.context_books.specs.LiveChecks.{call_mark}
 use Rattle.journal_check.specs.Tables.{is_low}
 use Rattle.journal_check.proofs.tables.journal_marks.Given as goal
 

@@ -1,6 +1,6 @@
 use Rattle.std.proofs.Common.{◌≡◌, ◌++◌, map, drop}
 use Rattle.std.specs.List.{list_all}
-use Rattle.due_replies.specs.LiveChecks.{note_mark}
+use Rattle.context_books.specs.LiveChecks.{note_mark}
 use Rattle.journal_check.specs.Tables.{is_low_note}
 use Rattle.journal_check.proofs.tables.note_marks.Given as goal
 

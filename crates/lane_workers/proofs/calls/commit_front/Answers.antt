@@ -3,7 +3,7 @@ use Rattle.std.proofs.lemmas.List.{take-append-le, take_all, length-append, leng
 use Rattle.call_places.specs.declared.entries.Step.{Step}
 use Rattle.hpke_context.specs.Contexts.{cipher_of}
 use Rattle.context_books.proofs.EntryNumbers.{length-steps_from}
-use Rattle.lane_replies.proofs.Items.{length-unseals}
+use Rattle.context_books.proofs.Items.{length-unseals}
 use Rattle.context_books.specs.Openings.{unseals}
 use Rattle.shared_context.specs.Calls.{HasCommitted}
 use Rattle.lane_workers.proofs.calls.commit_front.Goals as goal

@@ -1,7 +1,7 @@
 use Rattle.std.proofs.Common.{◌≡◌, ◌<◌, ℕ, false, length, take}
 use Rattle.std.specs.Prelude.{slice_index_or}
 use Rattle.context_books.specs.Batches.{place}
-use Rattle.due_replies.specs.Live.{was_live}
+use Rattle.context_books.specs.Live.{was_live}
 use Rattle.result_lines.proofs.looking_up.live_calls.Given as goal
 
 abbrev pub invariant-notes : goal.invariant-notes

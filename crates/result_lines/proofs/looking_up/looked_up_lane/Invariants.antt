@@ -1,6 +1,6 @@
 use Rattle.std.proofs.Common.{◌≡◌, ◌++◌, drop}
 use Rattle.batch_plans.specs.ReplyText.{numbered}
-use Rattle.due_replies.specs.Live.{looked_up}
+use Rattle.context_books.specs.Live.{looked_up}
 use Rattle.result_lines.proofs.looking_up.looked_up_lane.Given as goal
 
 abbrev pub invariant-calls : goal.invariant-calls

@@ -1,7 +1,7 @@
 use Rattle.std.proofs.Common.{◌≡◌, ◌++◌, ℕ, List, drop}
 use Rattle.batch_plans.specs.declared.plan.CallLine.{CallLine}
 use Rattle.batch_plans.specs.ReplyText.{numbered}
-use Rattle.due_replies.specs.Live.{looked_up}
+use Rattle.context_books.specs.Live.{looked_up}
 use Rattle.result_lines.proofs.looking_up.looked_up_lanes.Given as goal
 
 abbrev pub invariant-lanes : goal.invariant-lanes

@@ -1,5 +1,5 @@
 use Rattle.std.proofs.Common.{refl}
-use Rattle.due_replies.specs.Live.{live_run_text, live_run_along}
+use Rattle.context_books.specs.Live.{live_run_text, live_run_along}
 use Rattle.result_lines.proofs.LiveTexts.{one_live_run}
 use Rattle.result_lines.proofs.verdict_laws.a_live_text_tells_one_run.Goals as goal
 

@@ -1,5 +1,5 @@
 use Rattle.std.proofs.Common.{refl}
-use Rattle.due_replies.specs.Runs.{run_text, run_along}
+use Rattle.context_books.specs.Runs.{run_text, run_along}
 use Rattle.result_lines.proofs.LegalTexts.{one_run}
 use Rattle.result_lines.proofs.verdict_laws.a_text_tells_one_run.Goals as goal
 

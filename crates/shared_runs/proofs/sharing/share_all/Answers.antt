@@ -5,7 +5,7 @@ use Rattle.stamp_counter.specs.Seats.{SeatView, fresh_seats}
 use Rattle.turn_lock.specs.Passes.{PassListView}
 use Rattle.hpke_context.specs.Contexts.{ContextView}
 use Rattle.shared_context.specs.Calls.{SharedView}
-use Rattle.due_replies.specs.Standing.{standing_at}
+use Rattle.context_books.specs.Standing.{standing_at}
 use Rattle.lane_workers.specs.Turns.{shared_at}
 use Rattle.lane_workers.specs.Handing.{list_at}
 use Rattle.lane_workers.proofs.Handing.{found_here}

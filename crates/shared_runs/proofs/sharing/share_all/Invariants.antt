@@ -1,7 +1,7 @@
 use Rattle.std.proofs.Common.{◌≡◌, ◌<◌, ◌≤◌, ℕ, List, [], length, map, drop, vec_capacity}
 use Rattle.std.specs.Prelude.{sum, slice_index_or}
 use Rattle.stamp_counter.specs.Seats.{fresh_seats}
-use Rattle.due_replies.specs.Standing.{standing_at}
+use Rattle.context_books.specs.Standing.{standing_at}
 use Rattle.lane_workers.specs.Handing.{list_at}
 use Rattle.lane_workers.specs.Turns.{shared_at}
 use Rattle.shared_runs.specs.Sharing.{Shares}

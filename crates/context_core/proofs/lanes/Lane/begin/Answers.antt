@@ -1,11 +1,11 @@
 use Rattle.std.proofs.Common.{◌≡◌, refl, sym, ap, ◌∙◌, subst, arith, inl, inr}
 use Rattle.std.proofs.lemmas.Option.{slice_get_within}
 use Rattle.batch_plans.specs.Calls.{context_of}
-use Rattle.due_replies.specs.Standing.{standing_at}
+use Rattle.context_books.specs.Standing.{standing_at}
 use Rattle.context_core.specs.Books.{book_at}
-use Rattle.lane_replies.specs.LaneCalls.{lane_calls, IsOpening}
+use Rattle.context_books.specs.LaneCalls.{lane_calls, IsOpening}
 use Rattle.context_core.specs.declared.lanes.Stage.TheVariants.{Drawn, Guessed}
-use Rattle.lane_replies.proofs.Within.{call_low}
+use Rattle.context_books.proofs.Within.{call_low}
 use Rattle.context_core.proofs.Allowed.{stands_of}
 use Rattle.context_core.proofs.Served.{some_of, none_of, done_fresh, refused_nothing, export_nothing, may_draw, drawn_follows, guessed_follows}
 use Rattle.context_core.proofs.lanes.Lane.begin.Goals as goal

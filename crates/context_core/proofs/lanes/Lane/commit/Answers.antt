@@ -4,11 +4,11 @@ use Rattle.std.proofs.lemmas.List.{take_rest, length-drop}
 use Rattle.call_places.specs.declared.spans.Item.{Item}
 use Rattle.call_places.specs.Spans.{ItemIsInPool}
 use Rattle.batch_plans.specs.Calls.{context_of}
-use Rattle.due_replies.specs.Standing.{standing_at}
+use Rattle.context_books.specs.Standing.{standing_at}
 use Rattle.context_core.specs.Books.{book_at, MayAdd, Settles}
 use Rattle.context_core.specs.declared.lanes.Stage.TheVariants.{Settled}
-use Rattle.lane_replies.specs.LaneCalls.{opening_items}
-use Rattle.lane_replies.proofs.Within.{call_low, line_within, opening_spans, opening_count, opening_few}
+use Rattle.context_books.specs.LaneCalls.{opening_items}
+use Rattle.context_books.proofs.Within.{call_low, line_within, opening_spans, opening_count, opening_few}
 use Rattle.context_core.proofs.Notes.{written_front, written_size, written_back}
 use Rattle.context_core.proofs.Served.{may_settle, settled_follows, tested_opens, steps_left}
 use Rattle.context_core.proofs.lanes.Lane.commit.Goals as goal

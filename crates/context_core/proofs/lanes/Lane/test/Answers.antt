@@ -6,10 +6,10 @@ use Rattle.call_places.specs.Messages.{sealed_messages}
 use Rattle.hpke_context.specs.Contexts.{key_in}
 use Rattle.speculative_open.specs.Tables.{Fits}
 use Rattle.batch_plans.specs.Limits.{items_of}
-use Rattle.due_replies.specs.Standing.{standing_at}
-use Rattle.lane_replies.specs.LaneCalls.{opening_items, lane_calls}
+use Rattle.context_books.specs.Standing.{standing_at}
+use Rattle.context_books.specs.LaneCalls.{opening_items, lane_calls}
 use Rattle.context_core.specs.declared.lanes.Stage.TheVariants.{Tested}
-use Rattle.lane_replies.proofs.Within.{line_within, opening_spans, opening_count, of_call}
+use Rattle.context_books.proofs.Within.{line_within, opening_spans, opening_count, of_call}
 use Rattle.context_core.proofs.Served.{tested_follows, guessed_opens}
 use Rattle.context_core.proofs.lanes.Lane.test.Goals as goal
 

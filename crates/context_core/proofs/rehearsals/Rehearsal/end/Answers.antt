@@ -3,8 +3,8 @@ use Rattle.std.proofs.lemmas.List.{get_or_read}
 use Rattle.std.specs.Prelude.{replicate}
 use Rattle.batch_plans.specs.declared.plan.CallLine.{CallLine}
 use Rattle.context_core.specs.Core.{Core, all_happen, happens}
-use Rattle.lane_replies.specs.LaneCalls.{lane_calls}
-use Rattle.due_replies.specs.Asks.{batch_of, cipher_at}
+use Rattle.context_books.specs.LaneCalls.{lane_calls}
+use Rattle.context_books.specs.Asks.{batch_of, cipher_at}
 use Rattle.context_core.specs.Following.{IsRehearsal}
 use Rattle.context_core.proofs.Events.{four_more}
 use Rattle.context_core.proofs.rehearsals.Rehearsal.end.Goals as goal

@@ -1,7 +1,7 @@
 use Rattle.std.proofs.Common.{◌*◌}
 use Rattle.std.specs.Prelude.{replicate}
 use Rattle.context_core.specs.Core.{Core, all_happen}
-use Rattle.due_replies.specs.Asks.{batch_of, cipher_at}
+use Rattle.context_books.specs.Asks.{batch_of, cipher_at}
 use Rattle.context_core.specs.Following.{IsRehearsal}
 use Rattle.context_core.proofs.rehearsals.Rehearsal.end.Given as goal
 

@@ -2,7 +2,7 @@ use Rattle.std.proofs.Common.{◌<◌, List, take, length, sym, ap, subst, arith
 use Rattle.std.proofs.lemmas.List.{take_all}
 use Rattle.batch_plans.specs.declared.plan.CallLine.{CallLine}
 use Rattle.context_core.specs.Core.{Core, all_happen}
-use Rattle.due_replies.specs.Asks.{batch_of, cipher_at}
+use Rattle.context_books.specs.Asks.{batch_of, cipher_at}
 use Rattle.context_core.specs.Following.{long_ends, IsRehearsal}
 use Rattle.context_core.proofs.Events.{one_lane_more}
 use Rattle.context_core.proofs.rehearsals.Rehearsal.end_all.Goals as goal

@@ -1,6 +1,6 @@
 use Rattle.std.proofs.Common.{take}
 use Rattle.context_core.specs.Core.{Core, all_happen}
-use Rattle.due_replies.specs.Asks.{batch_of, cipher_at}
+use Rattle.context_books.specs.Asks.{batch_of, cipher_at}
 use Rattle.context_core.specs.Following.{long_ends, IsRehearsal}
 use Rattle.context_core.proofs.rehearsals.Rehearsal.end_all.Given as goal
 

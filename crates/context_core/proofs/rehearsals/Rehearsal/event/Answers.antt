@@ -3,9 +3,9 @@ use Rattle.std.specs.Prelude.{slice_get, slice_set}
 use Rattle.std.proofs.lemmas.List.{set-get_or}
 use Rattle.std.proofs.lemmas.Option.{slice_get_past}
 use Rattle.context_core.specs.Core.{Core, happens}
-use Rattle.due_replies.specs.Asks.{batch_of, cipher_at}
+use Rattle.context_books.specs.Asks.{batch_of, cipher_at}
 use Rattle.context_core.specs.declared.lanes.Lane.{Lane}
-use Rattle.lane_replies.specs.LaneCalls.{lane_calls}
+use Rattle.context_books.specs.LaneCalls.{lane_calls}
 use Rattle.context_core.specs.Following.{MayStep, IsRehearsal, Follows}
 use Rattle.context_core.proofs.Events.{read_at, calls_read, few_places, lane_steps, idle_event, not_there_event}
 use Rattle.context_core.proofs.rehearsals.Rehearsal.event.Goals as goal

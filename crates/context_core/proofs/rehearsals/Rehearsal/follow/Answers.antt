@@ -2,7 +2,7 @@ use Rattle.std.proofs.Common.{ℕ, List, take, get_or, sym, subst, arith}
 use Rattle.std.proofs.lemmas.List.{take_all}
 use Rattle.std.proofs.lemmas.Option.{slice_get-get_or}
 use Rattle.context_core.specs.Core.{Core, all_happen}
-use Rattle.due_replies.specs.Asks.{batch_of, cipher_at}
+use Rattle.context_books.specs.Asks.{batch_of, cipher_at}
 use Rattle.context_core.specs.Following.{IsRehearsal}
 use Rattle.context_core.proofs.Events.{one_more}
 use Rattle.context_core.proofs.rehearsals.Rehearsal.follow.Goals as goal

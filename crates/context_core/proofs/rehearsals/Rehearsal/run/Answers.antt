@@ -1,5 +1,5 @@
 use Rattle.context_core.specs.Core.{start, all_happen}
-use Rattle.due_replies.specs.Asks.{batch_of, cipher_at}
+use Rattle.context_books.specs.Asks.{batch_of, cipher_at}
 use Rattle.context_core.proofs.Ended.{last_follows}
 use Rattle.context_core.proofs.rehearsals.Rehearsal.run.Goals as goal
 

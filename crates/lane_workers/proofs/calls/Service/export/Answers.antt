@@ -1,7 +1,7 @@
 use Rattle.std.proofs.Common.{◌≤◌, ◌∷◌, [], ℕ, List, length, sym, refl, ap, ◌∙◌, subst}
 use Rattle.call_places.specs.Spans.{IsInPool, span_bytes}
 use Rattle.hpke_context.specs.Contexts.{ContextView, export_limit, exported_by}
-use Rattle.lane_replies.specs.Writing.{PutsReplies}
+use Rattle.context_books.specs.Writing.{PutsReplies}
 use Rattle.batch_plans.specs.Lines.{exported_line}
 use Rattle.lane_workers.proofs.calls.Service.export.Goals as goal
 

@@ -9,17 +9,17 @@ use Rattle.batch_plans.specs.Limits.{items_of}
 use Rattle.batch_plans.specs.Calls.{context_of}
 use Rattle.batch_plans.specs.Room.{opened_room, served_room}
 use Rattle.batch_plans.specs.Progress.{Progress}
-use Rattle.due_replies.specs.Runs.{answer_line}
-use Rattle.lane_replies.specs.Writing.{PutsReplies}
+use Rattle.context_books.specs.Runs.{answer_line}
+use Rattle.context_books.specs.Writing.{PutsReplies}
 use Rattle.lane_workers.specs.declared.works.LaneWork.{LaneWork}
-use Rattle.lane_replies.specs.LaneCalls.{opening_items}
+use Rattle.context_books.specs.LaneCalls.{opening_items}
 use Rattle.lane_workers.specs.Turns.{CanTurn, Guesses, Commits, with_table}
-use Rattle.lane_replies.specs.LaneCalls.{lane_calls}
+use Rattle.context_books.specs.LaneCalls.{lane_calls}
 use Rattle.lane_workers.specs.Readings.{hears}
 use Rattle.lane_workers.proofs.Heard.{turn_of, tested_turn_of, guesses_heard, items_same, spans_here, call_here}
 use Rattle.lane_workers.proofs.Answering.{fits, finds_room}
 use Rattle.lane_workers.proofs.Ready.{can_open, look_turn, commit_turn}
-use Rattle.lane_replies.proofs.Within.{of_call, opening_count, opening_spans, opening_room}
+use Rattle.context_books.proofs.Within.{of_call, opening_count, opening_spans, opening_room}
 use Rattle.lane_workers.proofs.calls.Service.open.Goals as goal
 
 pub items_of_opening-items-requires : goal.items_of_opening-items-requires

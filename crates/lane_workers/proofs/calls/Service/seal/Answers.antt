@@ -8,15 +8,15 @@ use Rattle.context_books.specs.declared.book.Draw.TheVariants.{Number}
 use Rattle.batch_plans.specs.Limits.{items_of, most_plaintext, most_field}
 use Rattle.batch_plans.specs.Room.{served_room}
 use Rattle.batch_plans.specs.Progress.{Progress}
-use Rattle.due_replies.specs.Runs.{answer_line}
-use Rattle.lane_replies.specs.Writing.{due_at, PutsReplies}
+use Rattle.context_books.specs.Runs.{answer_line}
+use Rattle.context_books.specs.Writing.{due_at, PutsReplies}
 use Rattle.lane_workers.specs.Readings.{heard, hears, with_more}
 use Rattle.lane_workers.proofs.Heard.{turn_of, draws_heard, enough_left, puts_heard}
 use Rattle.lane_workers.proofs.Adding.{answers_words, adds_one}
 use Rattle.lane_workers.proofs.Later.{pass_of, draws_later}
 use Rattle.lane_workers.proofs.Answering.{fits, finds_room, sealed_on}
 use Rattle.lane_workers.proofs.Ready.{can_seal, drawn_below, seal_turn, seal_context, stands_at}
-use Rattle.lane_replies.proofs.Within.{span_size}
+use Rattle.context_books.proofs.Within.{span_size}
 use Rattle.lane_workers.proofs.calls.Service.seal.Goals as goal
 
 -- the replies of a seal, by what its function was given

@@ -8,9 +8,9 @@ use Rattle.batch_plans.specs.Progress.{Progress, with_batch}
 use Rattle.call_places.specs.Spans.{IsInPool, span_bytes}
 use Rattle.hpke_context.specs.Contexts.{exported_by}
 use Rattle.batch_plans.specs.Lines.{exported_line}
-use Rattle.lane_replies.specs.Writing.{PutsReplies}
+use Rattle.context_books.specs.Writing.{PutsReplies}
 use Rattle.lane_workers.specs.declared.works.LaneWork.{LaneWork}
-use Rattle.lane_replies.specs.LaneCalls.{IsOpening}
+use Rattle.context_books.specs.LaneCalls.{IsOpening}
 use Rattle.lane_workers.specs.Turns.{shared_at, with_progress}
 use Rattle.lane_workers.specs.Lanes.{LaneIsAt}
 use Rattle.lane_workers.proofs.Answering.{fits, finds_room, exported_on, standing_is}

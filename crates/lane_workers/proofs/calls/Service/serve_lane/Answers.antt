@@ -5,14 +5,14 @@ use Rattle.batch_plans.specs.declared.plan.Plan.{Plan}
 use Rattle.batch_plans.specs.declared.plan.CallLine.{CallLine}
 use Rattle.shared_context.specs.Calls.{SharedView}
 use Rattle.stamp_counter.specs.Seats.{CounterView}
-use Rattle.lane_replies.specs.LaneCalls.{lane_calls}
+use Rattle.context_books.specs.LaneCalls.{lane_calls}
 use Rattle.lane_workers.specs.Lanes.{AreShared, LaneIsAt}
 use Rattle.lane_workers.specs.declared.works.LaneWork.{LaneWork}
 use Rattle.lane_workers.specs.Readings.{as_it_is, hears, with_more, MayAnswerAs}
 use Rattle.lane_workers.proofs.Ended.{is_served}
 use Rattle.lane_workers.proofs.Heard.{is_as_it_is, is_as_it_was}
 use Rattle.lane_workers.proofs.Found.{lane_here}
-use Rattle.lane_replies.proofs.Within.{calls_few}
+use Rattle.context_books.proofs.Within.{calls_few}
 use Rattle.lane_workers.proofs.calls.Service.serve_lane.Goals as goal
 
 pub overflow_cast-call : goal.overflow_cast-call

@@ -4,7 +4,7 @@ use Rattle.call_places.specs.declared.entries.Act.TheVariants as acts
 use Rattle.context_books.specs.Batches.{place}
 use Rattle.batch_plans.specs.Calls.{context_of}
 use Rattle.batch_plans.specs.Limits.{first_name}
-use Rattle.due_replies.specs.Live.{was_live}
+use Rattle.context_books.specs.Live.{was_live}
 use Rattle.lane_workers.specs.LiveLanes.{lives, standing}
 use Rattle.lane_workers.proofs.LiveCalls.{told_nothing}
 use Rattle.lane_workers.proofs.LiveNoting.{line_unnoted, name_noting, name_unnoted}

@@ -1,6 +1,6 @@
 use Rattle.std.proofs.Common.{◌≡◌, Bor, Some, refl, sym, ap, ◌∙◌, subst, arith}
 use Rattle.std.proofs.lemmas.Grind.{elements}
-use Rattle.due_replies.specs.Live.{Noting}
+use Rattle.context_books.specs.Live.{Noting}
 use Rattle.lane_workers.specs.LiveLanes.{lives}
 use Rattle.stamp_counter.specs.Seats.{CounterView, SeatView}
 use Rattle.shared_context.specs.Stamped.{IsNote}

@@ -2,8 +2,8 @@ use Rattle.std.proofs.Common.{◌≡◌, ◌+◌, ◌<◌, ℕ, Option, Some, Li
 use Rattle.std.specs.Prelude.{slice_get}
 use Rattle.std.proofs.lemmas.Option.{slice_get-get_or}
 use Rattle.batch_plans.specs.declared.plan.CallLine.{CallLine}
-use Rattle.lane_replies.specs.LaneCalls.{lane_calls}
-use Rattle.lane_replies.proofs.Within.{calls_few}
+use Rattle.context_books.specs.LaneCalls.{lane_calls}
+use Rattle.context_books.proofs.Within.{calls_few}
 use Rattle.lane_workers.specs.declared.live_lane.LiveLane.{LiveLane}
 use Rattle.turn_lock.specs.Passes.{PassView}
 use Rattle.lane_workers.specs.Groups.{answers_in}

@@ -3,7 +3,7 @@ use Rattle.turn_lock.specs.Passes.{PassView}
 use Rattle.batch_plans.specs.Limits.{items_of}
 use Rattle.batch_plans.specs.declared.plan.CallLine.{CallLine}
 use Rattle.lane_workers.specs.declared.works.LaneWork.{LaneWork}
-use Rattle.lane_replies.specs.LaneCalls.{lane_calls}
+use Rattle.context_books.specs.LaneCalls.{lane_calls}
 use Rattle.lane_workers.specs.Returned.{IsGiven}
 use Rattle.lane_workers.specs.LiveReturned.{IsPrepared}
 use Rattle.lane_workers.proofs.Ended.{begins}

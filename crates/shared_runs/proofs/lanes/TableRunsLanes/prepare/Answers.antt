@@ -1,8 +1,8 @@
 use Rattle.std.proofs.Common.{◌+◌, ◌<◌, Some, length, sym, ap, ◌∙◌, subst, arith}
 use Rattle.batch_plans.specs.declared.plan.Plan.{Plan}
 use Rattle.batch_plans.specs.Room.{lane_room}
-use Rattle.due_replies.specs.Standing.{export_limits}
-use Rattle.lane_replies.specs.LaneCalls.{lane_calls}
+use Rattle.context_books.specs.Standing.{export_limits}
+use Rattle.context_books.specs.LaneCalls.{lane_calls}
 use Rattle.lane_workers.specs.Returned.{IsGiven}
 use Rattle.lane_workers.specs.Turns.{views}
 use Rattle.shared_runs.specs.Tables.{HasGiven, IsReady}

@@ -5,11 +5,11 @@ use Rattle.stamp_counter.specs.Seats.{SeatView, fresh_seats}
 use Rattle.shared_context.specs.Calls.{SharedView}
 use Rattle.hpke_context.specs.Contexts.{ContextView}
 use Rattle.batch_plans.specs.declared.plan.Plan.{Plan}
-use Rattle.lane_replies.proofs.Counts.{quotas_few, lanes_few, quotas_at, quotas_count}
-use Rattle.due_replies.specs.Standing.{AreOfLines}
+use Rattle.context_books.proofs.Counts.{quotas_few, lanes_few, quotas_at, quotas_count}
+use Rattle.context_books.specs.Standing.{AreOfLines}
 use Rattle.lane_workers.specs.Turns.{shared_at, views}
 use Rattle.shared_runs.specs.Sharing.{shares, IsSharedBy, SharesEach}
-use Rattle.lane_replies.specs.Quotas.{quotas_on, all_quotas}
+use Rattle.context_books.specs.Quotas.{quotas_on, all_quotas}
 use Rattle.shared_runs.specs.Tables.{AreLeft}
 use Rattle.shared_runs.proofs.Seats.{first_seats, some_first, some_next, sum_shares}
 use Rattle.shared_runs.proofs.Begun.{lanes_count, all_few, views_are, is_shared, all_left}

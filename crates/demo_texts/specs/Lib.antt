@@ -1,4 +1,0 @@
-pub mod Texts
-pub mod Plans
-pub mod Ciphertexts
-pub mod Demo

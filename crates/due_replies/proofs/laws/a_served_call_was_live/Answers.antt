@@ -1,5 +1,0 @@
-use Rattle.due_replies.proofs.FoundLive.{found_live}
-use Rattle.due_replies.proofs.laws.a_served_call_was_live.Goals as goal
-
-pub returns : goal.returns
-returns c = found_live

@@ -1,5 +1,0 @@
-use Rattle.due_replies.proofs.LiveChecked.{live_history_is_one_list}
-use Rattle.due_replies.proofs.live_laws.a_live_history_is_one_list.Goals as goal
-
-pub returns : goal.returns
-returns c = live_history_is_one_list

@@ -1,7 +1,0 @@
-use Rattle.std.proofs.Common.{◌≡◌, ℕ, List, take, map}
-use Rattle.std.specs.Prelude.{slice_index}
-use Rattle.lane_replies.proofs.counting.column.Given as goal
-
-abbrev pub invariant-rows : goal.invariant-rows
-invariant-rows l =
-    l.counts.items ≡ map (λ (row : List ℕ). slice_index row l.number) (take l.row-index l.rows)
