@@ -1,7 +1,7 @@
 //! Messages of RFC 9458, answered: `capsules`.
 
 ghost use Rattle.capsule_frames.specs.Capsules.{capsules};
-ghost use Rattle.capsule_runs.specs.Replies.{IsCapsuleReply};
+ghost use Rattle.capsule_frames.specs.Replies.{IsCapsuleReply};
 ghost use Rattle.batch_serving.specs.Effects.{Writes};
 ghost use Rattle.batch_serving.specs.Text.{AnswersBy};
 
@@ -9,8 +9,7 @@ use aes_gcm::MayCheck;
 use batch_io::Sink;
 use batch_serving::{Named, Outcome, tell_exchange, tell_fault};
 use batch_words::Mult;
-use capsule_frames::read_capsules;
-use capsule_runs::serve_capsules_alone;
+use capsule_frames::{read_capsules, serve_capsules_alone};
 use std::alloc::Global;
 
 /// Answers a batch of capsules, or tells its first bad line.

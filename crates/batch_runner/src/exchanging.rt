@@ -1,15 +1,14 @@
 //! Messages of RFC 9458, answered by threads: `capsules`.
 
 ghost use Rattle.capsule_frames.specs.Capsules.{capsules};
-ghost use Rattle.capsule_runs.specs.Replies.{IsCapsuleReply};
+ghost use Rattle.capsule_frames.specs.Replies.{IsCapsuleReply};
 ghost use Rattle.batch_serving.specs.Effects.{Writes};
 ghost use Rattle.batch_serving.specs.Text.{AnswersBy};
 
 use batch_io::Sink;
 use batch_serving::{Named, Outcome, tell_exchange, tell_fault};
 use batch_words::Mult;
-use capsule_frames::read_capsules;
-use capsule_runs::serve_capsules;
+use capsule_frames::{read_capsules, serve_capsules};
 use std::alloc::Global;
 use std::thread::Threads;
 

@@ -13,7 +13,7 @@ use Rattle.batch_plans.specs.ReplyText.{bad_text}
 use Rattle.request_frames.specs.Batch.{batch, batch_lines, ended, front_batch}
 use Rattle.request_frames.specs.Live.{front_live, live, live_lines}
 use Rattle.capsule_frames.specs.Capsules.{capsules, capsule_lines}
-use Rattle.capsule_runs.specs.Replies.{IsCapsuleReply}
+use Rattle.capsule_frames.specs.Replies.{IsCapsuleReply}
 use Rattle.context_table.specs.ReplyTo.{IsLiveReply, IsReply}
 use Rattle.result_lines.specs.declared.verdicts.Verdict.{Verdict}
 use Rattle.result_lines.specs.declared.verdicts.Verdict.TheVariants.{Legal}

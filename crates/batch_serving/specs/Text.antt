@@ -20,7 +20,7 @@ use Rattle.result_lines.specs.VerdictText.{verdict_text}
 use Rattle.journal_check.specs.Verdicts.{IsVerdict, IsLiveVerdict}
 use Rattle.capsule_frames.specs.Capsules.{capsules}
 use Rattle.capsule_frames.specs.Capsules.{BadAt as BadCapsulesAt}
-use Rattle.capsule_runs.specs.Replies.{IsCapsuleReply}
+use Rattle.capsule_frames.specs.Replies.{IsCapsuleReply}
 use Rattle.demo_runs.specs.declared.report_lines.DemoReport.{DemoReport}
 use Rattle.demo_runs.specs.Demo.{IsDemo, report_text}
 use Rattle.batch_words.specs.declared.commands.Command.{Command}

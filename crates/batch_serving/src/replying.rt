@@ -4,7 +4,7 @@ ghost use Rattle.std.specs.Prelude.{IfOk, Ok};
 ghost use Rattle.batch_plans.specs.ReplyText.{answers_text, IsAnswered};
 ghost use Rattle.batch_plans.specs.LiveText.{live_text};
 ghost use Rattle.context_table.specs.ReplyTo.{IsLiveReply};
-ghost use Rattle.capsule_runs.specs.Replies.{AreReplies, IsCapsuleReply};
+ghost use Rattle.capsule_frames.specs.Replies.{AreReplies, IsCapsuleReply};
 ghost use Rattle.batch_serving.specs.Effects.{SaysReply, Writes};
 ghost use Rattle.batch_serving.specs.Text.{AnswersBy};
 
@@ -12,8 +12,7 @@ use crate::outcomes::Outcome;
 use crate::telling::{tell_answers, tell_capsules, tell_live};
 use batch_io::Sink;
 use batch_plans::{Answers, Plan};
-use capsule_frames::CapsulePlan;
-use capsule_runs::CapsuleAnswers;
+use capsule_frames::{CapsuleAnswers, CapsulePlan};
 use std::alloc::AllocError;
 
 /// Writes the replies to a plan.

@@ -15,8 +15,7 @@ ghost use Rattle.batch_serving.specs.Text.{IsTold};
 
 use crate::outcomes::{Outcome, outcome_on};
 use batch_io::Sink;
-use capsule_frames::print_capsules;
-use capsule_runs::CapsuleAnswers;
+use capsule_frames::{CapsuleAnswers, print_capsules};
 use demo_runs::{DemoReport, print_report};
 use reply_frames::{print_answers, print_bad, print_live};
 use request_frames::{Answers, BadBatch, Plan, Printed, ReadBatchFault};

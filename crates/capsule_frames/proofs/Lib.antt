@@ -1,3 +1,12 @@
 pub mod SpelledLines
 pub mod SpelledPlans
 pub mod Differences
+pub mod Telling
+pub mod Ordering
+pub mod Placing
+pub mod Filling
+pub mod OneReply
+pub mod Exchanging
+pub mod Earlier
+pub mod Answering
+pub mod Causes

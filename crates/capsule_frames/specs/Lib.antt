@@ -6,3 +6,9 @@ pub mod PlanText
 pub mod Within
 pub mod Drafts
 pub mod Text
+pub mod Results
+pub mod Lines
+pub mod Replies
+pub mod Orders
+pub mod Laws
+pub mod Refusals

@@ -8,7 +8,7 @@ use Rattle.batch_plans.specs.ReplyText.{bad_text}
 use Rattle.request_frames.specs.Batch.{batch}
 use Rattle.request_frames.specs.Live.{live}
 use Rattle.capsule_frames.specs.Capsules.{capsules}
-use Rattle.capsule_runs.specs.Replies.{IsCapsuleReply}
+use Rattle.capsule_frames.specs.Replies.{IsCapsuleReply}
 use Rattle.context_table.specs.ReplyTo.{IsReply, IsLiveReply}
 use Rattle.result_lines.specs.declared.verdicts.Verdict.{Verdict}
 use Rattle.result_lines.specs.declared.verdicts.Verdict.TheVariants.{Legal, Form, Journal, Table, Stamps, Reply, Guess}

@@ -1,6 +1,6 @@
 use Rattle.std.proofs.Common.{Err, ap, subst, sym}
 use Rattle.capsule_frames.specs.Capsules.{capsules}
-use Rattle.capsule_runs.specs.Replies.{IsCapsuleReply}
+use Rattle.capsule_frames.specs.Replies.{IsCapsuleReply}
 use Rattle.batch_serving.specs.Text.{AnswersBy}
 use Rattle.batch_serving.specs.Effects.{Writes}
 use Rattle.batch_serving.proofs.Writing.{bad_told}

@@ -1,7 +1,7 @@
 use Rattle.std.proofs.Common.{Ok, refl, subst}
 use Rattle.std.specs.Prelude.{IfOk}
 use Rattle.capsule_frames.specs.Text.{capsules_text}
-use Rattle.capsule_runs.specs.Replies.{AreReplies, IsCapsuleReply}
+use Rattle.capsule_frames.specs.Replies.{AreReplies, IsCapsuleReply}
 use Rattle.batch_serving.specs.Text.{AnswersBy}
 use Rattle.batch_serving.proofs.Writing.{replied, unwritten}
 use Rattle.batch_serving.proofs.replying.tell_exchange.Goals as goal

@@ -1,0 +1,313 @@
+//! The answers of a plan, by several threads or by the calling thread alone.
+
+ghost use Rattle.std.specs.Prelude.{◌≡◌, ◌≢◌, ◌≤◌, ◌<◌, ℕ, map, length, slice_get, Some, Ok, IfOk, IfSome, OnOk, All, option_copied};
+ghost use Rattle.context_table.specs.Slots.{HoldKeys};
+ghost use Rattle.capsule_frames.specs.Forms.{most_text, most_request};
+ghost use Rattle.capsule_frames.specs.Within.{IsMessageWithin, IsWithin};
+ghost use Rattle.capsule_frames.specs.declared.jobs.AnswerJob.{AnswerJob};
+ghost use Rattle.capsule_frames.specs.Lines.{request_at, given_with};
+ghost use Rattle.capsule_frames.specs.Orders.{IsJobWithin, jobs_from, given_for, AreGiven};
+
+use crate::finding::{first, refusal_of, sent_by};
+use crate::jobs::{AnswerJob, jobs};
+use crate::known::KnownText;
+use crate::lines::CapsulePlan;
+use crate::replies::CapsuleRefusal;
+use crate::results::{AnswerResult, AskResult, Given};
+use aes_gcm::MayCheck;
+use batch_plans::{EncField, Plan};
+use context_table::{Key, KeyPair, KeyTable};
+use ohttp_capsule::answer_by;
+use ring_core::Multiplier;
+use sntrup_kem::KemParams;
+use std::alloc::{AllocError as OutOfMemory, Global};
+use std::thread::{Threads, for_each_mut};
+
+/// The most threads that answer at once.
+const MOST_THREADS: usize = 16;
+
+// The request of an answer: bytes of its line, or what an earlier ask made.
+fn request_at<'a>(pool: &'a [u8], asks: &'a [AskResult], request: EncField) -> Option<&'a [u8]>
+    requires { IsMessageWithin most_request (length pool.now) request }
+    ensures request { option_copied result ≡ request_at pool.now asks.now request }
+    ensures size { IfSome result (λ r. length r.now ≤ most_request) }
+{
+    match request {
+        EncField::Bytes(bytes) => Some(bytes.of(pool)),
+        EncField::Of(number) => Some(sent_by(asks, number)?.request()),
+    }
+}
+
+// The text that a request has where it is that of an ask, with a key of that ask: the ask's.
+fn text_asked<'p>(asks: &[AskResult<'p>], request: EncField) -> &'p [u8] {
+    let EncField::Of(number) = request else {
+        return &[];
+    };
+    match sent_by(asks, number) {
+        Some(sent) => sent.text(),
+        None => &[],
+    }
+}
+
+// The answer of a key to a request, where there is one. Its text may be one that is known.
+fn given_with<'p, S: KemParams, M: Multiplier>(
+    permission: MayCheck,
+    alloc: Global,
+    mult: &M,
+    key: &KeyPair<S>,
+    id: u8,
+    request: Option<&[u8]>,
+    known: &'p [u8],
+    nonce: &[u8],
+    text: &'p [u8],
+) -> Result<AnswerResult<'p>, OutOfMemory>
+    requires request { IfSome request (λ r. length r.now ≤ most_request) }
+    requires text { length text.now ≤ most_text }
+    ensures { IfOk result (λ g. g ≡ given_with key.now.kem key.now.secret id
+        (option_copied request.entry) nonce.now text.now) }
+{
+    let Some(secret) = key.secret() else {
+        return Ok(Err(CapsuleRefusal::NeedSecret));
+    };
+    let Some(request) = request else {
+        return Ok(Err(CapsuleRefusal::NoAsk));
+    };
+    match answer_by(permission, alloc, mult, secret, id, request, nonce, text) {
+        Ok((question, response)) => {
+            let question = KnownText::held_in(known, question);
+            Ok(Ok(Given::new(question, response, text)))
+        }
+        Err(fault) => Ok(Err(refusal_of(fault)?)),
+    }
+}
+
+// What answers are made with, besides their lines.
+#[derive(Drop)]
+struct Gateway<'a, 'p, M: Multiplier> {
+    plan: &'p Plan,
+    mult: &'a M,
+    keys: &'a KeyTable,
+    asks: &'a [AskResult<'p>],
+}
+
+impl<'p, M: Multiplier> Gateway<'_, 'p, M> {
+    // What becomes of an answer.
+    #[tactic(auto, unfolding(crate::specs::Lines::given))]
+    fn given(
+        &self,
+        permission: MayCheck,
+        alloc: Global,
+        job: AnswerJob,
+    ) -> Result<AnswerResult<'p>, OutOfMemory>
+        requires keys { HoldKeys self.now.plan.now self.now.keys.now.replies
+            self.now.keys.now.slots }
+        requires job { IsJobWithin (length self.now.plan.now.pool) job }
+        ensures { IfOk result (λ g. g ≡ given_for self.now.plan.now self.now.keys.now.replies
+            self.now.asks.now job) }
+    {
+        let pool = self.plan.pool.as_slice();
+        let asks = first(self.asks, job.asks);
+        let request = request_at(pool, asks, job.request);
+        let known = text_asked(asks, job.request);
+        let (nonce, text) = (job.nonce.of(pool), job.text.of(pool));
+        match self.keys.key(job.key) {
+            None => Ok(Err(CapsuleRefusal::NoKey)),
+            Some(Key::Of761(pair)) => {
+                given_with(
+                    permission, alloc, self.mult, pair, job.id, request, known, nonce, text,
+                )
+            }
+            Some(Key::Of857(pair)) => {
+                given_with(
+                    permission, alloc, self.mult, pair, job.id, request, known, nonce, text,
+                )
+            }
+        }
+    }
+
+    // What becomes of the answer at this index, in its slot.
+    fn fill_slot(
+        &self,
+        permission: MayCheck,
+        alloc: Global,
+        jobs: &[AnswerJob],
+        i: usize,
+        slot: &mut Result<AnswerResult<'p>, OutOfMemory>,
+    )
+        requires keys { HoldKeys self.now.plan.now self.now.keys.now.replies
+            self.now.keys.now.slots }
+        requires jobs { All (IsJobWithin (length self.now.plan.now.pool)) jobs.now }
+        requires within { i < length jobs.now }
+        ensures { (job : AnswerJob) → slice_get jobs.now i ≡ Some job
+            → IfOk slot.new (λ g. g ≡ given_for self.now.plan.now self.now.keys.now.replies
+            self.now.asks.now job) }
+    {
+        *slot = self.given(permission, alloc, jobs[i]);
+    }
+
+    // What becomes of these answers, on the calling thread.
+    fn alone(
+        &self,
+        permission: MayCheck,
+        alloc: Global,
+        jobs: &[AnswerJob],
+    ) -> Result<Vec<AnswerResult<'p>>, OutOfMemory>
+        requires keys { HoldKeys self.now.plan.now self.now.keys.now.replies
+            self.now.keys.now.slots }
+        requires jobs { All (IsJobWithin (length self.now.plan.now.pool)) jobs.now }
+        ensures { IfOk result (λ v. v.items ≡ map (given_for self.now.plan.now
+            self.now.keys.now.replies self.now.asks.now) jobs.now) }
+    {
+        let mut answers = Vec::new(alloc);
+        'jobs: for job in jobs {
+            answers.push(self.given(permission, alloc, *job)?)?;
+        }
+        Ok(answers)
+    }
+}
+
+impl<'p, M: Multiplier + Sync> Gateway<'_, 'p, M> {
+    // Each slot gets what becomes of its answer, by several threads.
+    fn fill<R: Threads + Sync>(
+        &self,
+        rt: &R,
+        alloc: Global,
+        jobs: &[AnswerJob],
+        slots: &mut [Result<AnswerResult<'p>, OutOfMemory>],
+    )
+        requires keys { HoldKeys self.now.plan.now self.now.keys.now.replies
+            self.now.keys.now.slots }
+        requires jobs { All (IsJobWithin (length self.now.plan.now.pool)) jobs.now }
+        requires count { length slots.old ≡ length jobs.now }
+        ensures { AreGiven (given_for self.now.plan.now self.now.keys.now.replies
+            self.now.asks.now) jobs.now slots.new }
+    {
+        let permission = MayCheck::on_threads(rt);
+        for_each_mut(
+            rt,
+            slots,
+            MOST_THREADS,
+            &|i: usize, slot: &mut Result<AnswerResult, OutOfMemory>|
+                requires { HoldKeys self.now.plan.now self.now.keys.now.replies
+                    self.now.keys.now.slots
+                    × All (IsJobWithin (length self.now.plan.now.pool)) jobs.now
+                    × (i < length jobs.now) }
+            { self.fill_slot(permission, alloc, jobs, i, slot) },
+        );
+    }
+
+    // What becomes of these answers, each in a slot.
+    fn all<R: Threads + Sync>(
+        &self,
+        rt: &R,
+        alloc: Global,
+        jobs: &[AnswerJob],
+    ) -> Result<Vec<Result<AnswerResult<'p>, OutOfMemory>>, OutOfMemory>
+        requires keys { HoldKeys self.now.plan.now self.now.keys.now.replies
+            self.now.keys.now.slots }
+        requires jobs { All (IsJobWithin (length self.now.plan.now.pool)) jobs.now }
+        ensures count { IfOk result (λ v. length v.items ≡ length jobs.now) }
+        ensures given { IfOk result (λ v. AreGiven (given_for self.now.plan.now
+            self.now.keys.now.replies self.now.asks.now) jobs.now v.items) }
+    {
+        let mut slots = empty_slots(alloc, jobs.len())?;
+        self.fill(rt, alloc, jobs, &mut slots);
+        Ok(slots)
+    }
+
+    // What becomes of these answers, by several threads.
+    fn by_threads<R: Threads + Sync>(
+        &self,
+        rt: &R,
+        alloc: Global,
+        jobs: &[AnswerJob],
+    ) -> Result<Vec<AnswerResult<'p>>, OutOfMemory>
+        requires keys { HoldKeys self.now.plan.now self.now.keys.now.replies
+            self.now.keys.now.slots }
+        requires jobs { All (IsJobWithin (length self.now.plan.now.pool)) jobs.now }
+        ensures { IfOk result (λ v. v.items ≡ map (given_for self.now.plan.now
+            self.now.keys.now.replies self.now.asks.now) jobs.now) }
+    {
+        let slots = self.all(rt, alloc, jobs)?;
+        filled(alloc, slots)
+    }
+}
+
+// So many slots, with no answer yet.
+fn empty_slots<'p>(
+    alloc: Global,
+    count: usize,
+) -> Result<Vec<Result<AnswerResult<'p>, OutOfMemory>>, OutOfMemory>
+    ensures { IfOk result (λ v. length v.items ≡ count) }
+{
+    let mut slots = Vec::new(alloc);
+    'slots: for _slot in 0..count {
+        slots.push(Err(OutOfMemory))?;
+    }
+    Ok(slots)
+}
+
+// The answers, if there was memory for each.
+fn filled<'p>(
+    alloc: Global,
+    slots: Vec<Result<AnswerResult<'p>, OutOfMemory>>,
+) -> Result<Vec<AnswerResult<'p>>, OutOfMemory>
+    ensures { IfOk result (λ v. map Ok v.items ≡ slots.entry.items) }
+{
+    let mut answers = Vec::new(alloc);
+    'slots: for slot in slots {
+        answers.push(slot?)?;
+    }
+    Ok(answers)
+}
+
+/// What becomes of the answers of a plan, in their order, by several threads. They are joined before
+/// the call returns.
+#[inline(never)]
+pub(crate) fn all_answers<'p, R: Threads + Sync, M: Multiplier + Sync>(
+    rt: &R,
+    alloc: Global,
+    plan: &'p CapsulePlan,
+    mult: &M,
+    keys: &KeyTable,
+    asks: &[AskResult<'p>],
+) -> Result<Vec<AnswerResult<'p>>, OutOfMemory>
+    requires within { IsWithin plan.now }
+    requires keys { HoldKeys plan.now.plan keys.now.replies keys.now.slots }
+    ensures { IfOk result (λ v. v.items ≡ map
+        (given_for plan.now.plan keys.now.replies asks.now) (jobs_from 0 plan.now.lines)) }
+{
+    let jobs = jobs(alloc, plan)?;
+    let gateway = Gateway {
+        plan: &plan.plan,
+        mult,
+        keys,
+        asks,
+    };
+    gateway.by_threads(rt, alloc, &jobs)
+}
+
+/// What becomes of the answers of a plan, in their order, on the calling thread.
+#[inline(never)]
+pub(crate) fn all_answers_alone<'p, M: Multiplier>(
+    permission: MayCheck,
+    alloc: Global,
+    plan: &'p CapsulePlan,
+    mult: &M,
+    keys: &KeyTable,
+    asks: &[AskResult<'p>],
+) -> Result<Vec<AnswerResult<'p>>, OutOfMemory>
+    requires within { IsWithin plan.now }
+    requires keys { HoldKeys plan.now.plan keys.now.replies keys.now.slots }
+    ensures { IfOk result (λ v. v.items ≡ map
+        (given_for plan.now.plan keys.now.replies asks.now) (jobs_from 0 plan.now.lines)) }
+{
+    let jobs = jobs(alloc, plan)?;
+    let gateway = Gateway {
+        plan: &plan.plan,
+        mult,
+        keys,
+        asks,
+    };
+    gateway.alone(permission, alloc, &jobs)
+}

@@ -1,9 +1,0 @@
-pub mod Telling
-pub mod Ordering
-pub mod Placing
-pub mod Filling
-pub mod OneReply
-pub mod Exchanging
-pub mod Earlier
-pub mod Answering
-pub mod Causes

@@ -1,5 +1,0 @@
-use Rattle.std.proofs.Common.{◌≡◌, map, Ok}
-use Rattle.capsule_runs.proofs.answers.filled.Given as goal
-
-abbrev pub invariant-slots : goal.invariant-slots
-invariant-slots l = map Ok l.answers.items ≡ l.yielded
