@@ -2,7 +2,7 @@
 """Replies to batches of capsules, by tools/reference/capsules.py (hashlib, hmac, Python's `cryptography`).
 
 Run: python3 tools/vectors/capsule_replies.py [large]. It prints the rows of `REPLIES` in
-crates/capsule_tests/src/capsule_runs_tests.rt, each the SHA-256 of the whole reply text; with `large` that of the batch
+crates/capsule_tests/src/whole_batches.rt, each the SHA-256 of the whole reply text; with `large` that of the batch
 with 256 lines of each kind and a text of 1,048,576 bytes.
 """
 
