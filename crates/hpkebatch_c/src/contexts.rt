@@ -1,128 +1,16 @@
-//! One end's context (RFC 9180, 5.2 and 5.3), which its caller holds.
+//! One end's context (RFC 9180, 5.2 and 5.3), which its caller holds: a message, many, and an export.
 
-ghost use Rattle.std.specs.Prelude.{◌≡◌, ◌≢◌, ◌⊎◌, ◌↔◌, ◌≤◌, ◌<◌, ◌+◌, ◌*◌, length, take, IsTrue, IsOk, IfOk, IfErr};
+ghost use Rattle.std.specs.Prelude.{◌≡◌, ◌≢◌, ◌⊎◌, ◌↔◌, ◌≤◌, ◌+◌, length, ◌<◌};
 ghost use Rattle.aes_gcm.specs.Gcm.{seal, clear, Holds};
-ghost use Rattle.hkdf_labelled.specs.Suites.{hash_size};
-ghost use Rattle.key_schedule.specs.Nonces.{compute_nonce};
-ghost use Rattle.hpkebatch_c.specs.Contexts.{sender, recipient, NamesKdf, NamesAead, kdf_named, aead_named, suite_named, IsContext, HasKey, Serves, key_held, nonce_due, export_most, exported_held};
-ghost use Rattle.hpkebatch_c.specs.Lengths.{FitsSeal, FitsOpen};
-ghost use Rattle.hpkebatch_c.specs.Statuses.{done, wrong_usage, refused_role, refused_nocipher, refused_limit, refused_failed, refused_exportsize};
+ghost use Rattle.library_calls.specs.Contexts.{sender, recipient, IsContext, Serves, key_held, nonce_due, export_most, exported_held};
+ghost use Rattle.library_calls.specs.Lengths.{FitsSeal, FitsOpen};
+ghost use Rattle.library_calls.specs.Messages.{FitsSealAll, sealed_all, FitsOpenAll, AllHold, opened_all};
+ghost use Rattle.library_calls.specs.Statuses.{done, wrong_usage, refused_failed, refused_role, refused_nocipher, refused_limit, refused_exportsize};
 
-use crate::ciphers::{fits_open, fits_seal, key_of};
-use crate::statuses::{
-    REFUSED_EXPORTSIZE, REFUSED_FAILED, REFUSED_LIMIT, REFUSED_NOCIPHER, REFUSED_ROLE, WRONG_USAGE,
+use library_calls::{
+    HpkeContext, context_export, context_open, context_open_all, context_seal, context_seal_all,
 };
-use aes_gcm::{Checks, GcmKey, MayCheck};
-use hkdf_labelled::{Aead, Kdf, Suite, labeled_expand_into};
-use key_schedule::nonce_at;
 use std::rt::Memory;
-
-/// The number of a sender's role.
-pub(crate) const SENDER: u16 = 0;
-
-/// The number of a recipient's role.
-pub(crate) const RECIPIENT: u16 = 1;
-
-/// A context. Its caller holds it, gives it to one call at a time, and changes nothing in it.
-#[repr(C)]
-#[derive(Drop)]
-pub struct HpkeContext {
-    /// the sequence number that is due
-    pub number: u64,
-    /// LIMIT: the first number that isn't used
-    pub limit: u64,
-    pub role: u16,
-    pub kem: u16,
-    pub kdf: u16,
-    pub aead: u16,
-    pub base_nonce: [u8; 12],
-    /// 16 bytes for AES-128-GCM, and zero bytes behind them
-    pub key: [u8; 32],
-    /// Nh bytes of the KDF, and zero bytes behind them
-    pub exporter_secret: [u8; 64],
-}
-
-/// Whether a number names a KDF.
-pub(crate) fn names_kdf(kdf: u16) -> bool
-    ensures { IsTrue result ↔ NamesKdf kdf }
-{
-    kdf >= 1 && kdf <= 3
-}
-
-/// Whether a number names an AEAD, or export-only.
-pub(crate) fn names_aead(aead: u16) -> bool
-    ensures { IsTrue result ↔ NamesAead aead }
-{
-    aead == 1 || aead == 2 || aead == 65535
-}
-
-/// The KDF of a number that names one.
-pub(crate) fn kdf_named(kdf: u16) -> Kdf
-    ensures { result ≡ kdf_named kdf }
-{
-    match kdf {
-        1 => Kdf::Sha256,
-        2 => Kdf::Sha384,
-        _ => Kdf::Sha512,
-    }
-}
-
-/// The AEAD of a number that names one.
-pub(crate) fn aead_named(aead: u16) -> Aead
-    ensures { result ≡ aead_named aead }
-{
-    match aead {
-        1 => Aead::Aes128,
-        2 => Aead::Aes256,
-        _ => Aead::ExportOnly,
-    }
-}
-
-/// The suite of numbers that name one.
-pub(crate) fn suite_named(kem: u16, kdf: u16, aead: u16) -> Suite
-    ensures { result ≡ suite_named kem kdf aead }
-{
-    Suite {
-        kem,
-        kdf: kdf_named(kdf),
-        aead: aead_named(aead),
-    }
-}
-
-// Whether the numbers in a context name something.
-fn is_context(context: &HpkeContext) -> bool
-    ensures { IsTrue result ↔ IsContext context.now }
-{
-    context.role <= 1 && names_kdf(context.kdf) && names_aead(context.aead)
-}
-
-/// The key of a context that serves a call of this role, or why it doesn't.
-pub(crate) fn serving(context: &HpkeContext, role: u16) -> Result<GcmKey, u32>
-    ensures ok { IsOk result ↔ Serves context.now role }
-    ensures key { IfOk result (λ key. key ≡ key_held context.now) }
-    ensures role { (result ≡ Err refused_role)
-        ↔ (IsContext context.now × (context.now.role ≢ role)) }
-    ensures nocipher { (result ≡ Err refused_nocipher)
-        ↔ (IsContext context.now × (context.now.role ≡ role) × (context.now.aead ≡ 65535)) }
-    ensures faults { IfErr result (λ status. (status ≡ wrong_usage) ⊎ (status ≡ refused_role)
-        ⊎ (status ≡ refused_nocipher)) }
-{
-    if !is_context(context) {
-        return Err(WRONG_USAGE);
-    }
-    if context.role != role {
-        return Err(REFUSED_ROLE);
-    }
-    let key = match context.aead {
-        1 => key_of(&context.key[..16]),
-        2 => key_of(&context.key),
-        _ => None,
-    };
-    match key {
-        Some(key) => Ok(key),
-        None => Err(REFUSED_NOCIPHER),
-    }
-}
 
 /// ContextS.Seal (RFC 9180, 5.2) at the number that is due: fills `out` with the ciphertext and the tag,
 /// 16 bytes more than `text`, and moves the number on.
@@ -152,24 +40,7 @@ pub extern "C" fn hpkebatch_context_seal(
         → context.new ≡ record context.old { number = context.old.number + 1 } }
     ensures refused { result ≢ done → (context.new ≡ context.old) × (out.new ≡ out.old) }
 {
-    if !fits_seal(aad, text, out) {
-        return WRONG_USAGE;
-    }
-    let key = match serving(context, SENDER) {
-        Ok(key) => key,
-        Err(status) => return status,
-    };
-    if context.number >= context.limit {
-        return REFUSED_LIMIT;
-    }
-    key.seal_into(
-        &nonce_at(&context.base_nonce, context.number),
-        aad,
-        text,
-        out,
-    );
-    context.number += 1;
-    0
+    context_seal(context, aad, text, out)
 }
 
 /// ContextR.Open (RFC 9180, 5.2) at the number that is due: checks the tag, and then fills `out` with the
@@ -209,25 +80,7 @@ pub extern "C" fn hpkebatch_context_open(
         → context.new ≡ record context.old { number = context.old.number + 1 } }
     ensures refused { result ≢ done → (context.new ≡ context.old) × (out.new ≡ out.old) }
 {
-    if !fits_open(aad, ct, out) {
-        return WRONG_USAGE;
-    }
-    let key = match serving(context, RECIPIENT) {
-        Ok(key) => key,
-        Err(status) => return status,
-    };
-    let number = context.number;
-    let nonce = nonce_at(&context.base_nonce, number);
-    let mut checks = Checks::by(MayCheck::alone(memory));
-    if !key.check_tag(&nonce, aad, ct, &mut checks) {
-        return REFUSED_FAILED;
-    }
-    if number >= context.limit {
-        return REFUSED_LIMIT;
-    }
-    key.decrypt_into(&nonce, aad, ct, out);
-    context.number = number + 1;
-    0
+    context_open(memory, context, aad, ct, out)
 }
 
 /// Context.Export (RFC 9180, 5.3): fills `out`. Either role may export, and no number is used.
@@ -246,20 +99,72 @@ pub extern "C" fn hpkebatch_context_export(
         → out.new ≡ exported_held context.now exporter_context.now (length out.old) }
     ensures refused { result ≢ done → out.new ≡ out.old }
 {
-    if !is_context(context) {
-        return WRONG_USAGE;
-    }
-    let suite = suite_named(context.kem, context.kdf, context.aead);
-    let size = suite.kdf.size();
-    if out.len() > 255 * size {
-        return REFUSED_EXPORTSIZE;
-    }
-    labeled_expand_into(
-        &suite,
-        &context.exporter_secret[..size],
-        b"sec",
-        exporter_context,
-        out,
-    );
-    0
+    context_export(context, exporter_context, out)
+}
+
+/// ContextS.Seal (RFC 9180, 5.2) of each text, at the numbers from the one that is due on: fills `out` with
+/// the ciphertexts, each with its tag, one behind another. There are as many additional data as texts.
+#[unsafe(no_mangle)]
+pub extern "C" fn hpkebatch_context_seal_all(
+    context: &mut HpkeContext,
+    aads: &[&[u8]],
+    texts: &[&[u8]],
+    out: &mut [u8],
+) -> u32
+    ensures done { (result ≡ done) ↔ (FitsSealAll aads.now texts.now (length out.old)
+        × Serves context.old sender
+        × (context.old.number + length texts.now ≤ context.old.limit)) }
+    ensures role { (result ≡ refused_role) ↔ (FitsSealAll aads.now texts.now (length out.old)
+        × IsContext context.old × (context.old.role ≢ sender)) }
+    ensures nocipher { (result ≡ refused_nocipher)
+        ↔ (FitsSealAll aads.now texts.now (length out.old)
+        × IsContext context.old × (context.old.role ≡ sender) × (context.old.aead ≡ 65535)) }
+    ensures limit { (result ≡ refused_limit) ↔ (FitsSealAll aads.now texts.now (length out.old)
+        × Serves context.old sender
+        × (context.old.limit < context.old.number + length texts.now)) }
+    ensures statuses { (result ≡ done) ⊎ (result ≡ wrong_usage) ⊎ (result ≡ refused_role)
+        ⊎ (result ≡ refused_nocipher) ⊎ (result ≡ refused_limit) }
+    ensures sealed { result ≡ done → out.new ≡ sealed_all context.old aads.now texts.now }
+    ensures due { result ≡ done → context.new
+        ≡ record context.old { number = context.old.number + length texts.now } }
+    ensures refused { result ≢ done → (context.new ≡ context.old) × (out.new ≡ out.old) }
+{
+    context_seal_all(context, aads, texts, out)
+}
+
+/// ContextR.Open (RFC 9180, 5.2) of each ciphertext, at the numbers from the one that is due on: checks all
+/// tags, and then fills `out` with the texts, one behind another. There are as many additional data as
+/// ciphertexts. Here LIMIT is tested before the tags.
+#[unsafe(no_mangle)]
+pub extern "C" fn hpkebatch_context_open_all(
+    memory: Memory,
+    context: &mut HpkeContext,
+    aads: &[&[u8]],
+    cts: &[&[u8]],
+    out: &mut [u8],
+) -> u32
+    ensures done { (result ≡ done) ↔ (FitsOpenAll aads.now cts.now (length out.old)
+        × Serves context.old recipient
+        × (context.old.number + length cts.now ≤ context.old.limit)
+        × AllHold context.old aads.now cts.now) }
+    ensures role { (result ≡ refused_role) ↔ (FitsOpenAll aads.now cts.now (length out.old)
+        × IsContext context.old × (context.old.role ≢ recipient)) }
+    ensures nocipher { (result ≡ refused_nocipher)
+        ↔ (FitsOpenAll aads.now cts.now (length out.old)
+        × IsContext context.old × (context.old.role ≡ recipient) × (context.old.aead ≡ 65535)) }
+    ensures limit { (result ≡ refused_limit) ↔ (FitsOpenAll aads.now cts.now (length out.old)
+        × Serves context.old recipient
+        × (context.old.limit < context.old.number + length cts.now)) }
+    ensures failed { (result ≡ refused_failed) ↔ (FitsOpenAll aads.now cts.now (length out.old)
+        × Serves context.old recipient
+        × (context.old.number + length cts.now ≤ context.old.limit)
+        × (¬ AllHold context.old aads.now cts.now)) }
+    ensures statuses { (result ≡ done) ⊎ (result ≡ wrong_usage) ⊎ (result ≡ refused_role)
+        ⊎ (result ≡ refused_nocipher) ⊎ (result ≡ refused_limit) ⊎ (result ≡ refused_failed) }
+    ensures opened { result ≡ done → out.new ≡ opened_all context.old cts.now }
+    ensures due { result ≡ done → context.new
+        ≡ record context.old { number = context.old.number + length cts.now } }
+    ensures refused { result ≢ done → (context.new ≡ context.old) × (out.new ≡ out.old) }
+{
+    context_open_all(memory, context, aads, cts, out)
 }

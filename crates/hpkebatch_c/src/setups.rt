@@ -1,152 +1,18 @@
-//! Contexts that KeySchedule sets up (RFC 9180, 5.1), for a shared secret of any KEM.
+//! Contexts that are set up (RFC 9180, 5.1): for a shared secret of any KEM, and by the KEM.
 
-ghost use Rattle.std.specs.Prelude.{◌≡◌, ◌≢◌, ◌⊎◌, ◌↔◌, ◌≤◌, length, IsTrue};
-ghost use Rattle.hkdf_labelled.specs.Hmac.{zero_padded};
-ghost use Rattle.hpke_context.specs.Contexts.{key_in, base_nonce_in};
+ghost use Rattle.std.specs.Prelude.{◌≡◌, ◌≢◌, ◌⊎◌, ◌↔◌};
 ghost use Rattle.key_schedule.specs.Psks.{OneIsMissing};
-ghost use Rattle.key_schedule.specs.Schedule.{secrets_of};
-ghost use Rattle.hpkebatch_c.specs.Contexts.{mode_named, context_of};
-ghost use Rattle.hpkebatch_c.specs.Setups.{CanSetUp, PskFits, IsExtra, IsMissing, set_up};
-ghost use Rattle.hpkebatch_c.specs.Statuses.{done, wrong_usage, refused_pskpair, refused_pskextra, refused_pskmissing};
+ghost use Rattle.ring_core.specs.Sets.{sntrup761, sntrup857};
+ghost use Rattle.sntrup_kem.specs.Kem.{HasMalformedPart, decapsulated};
+ghost use Rattle.library_calls.specs.Contexts.{sender, recipient};
+ghost use Rattle.library_calls.specs.Keys.{enc_by, session_by};
+ghost use Rattle.library_calls.specs.Setups.{kem_761, kem_857, CanSetUp, PskFits, IsExtra, IsMissing, set_up};
+ghost use Rattle.library_calls.specs.Statuses.{done, wrong_usage, no_memory, refused_form, refused_pskpair, refused_pskextra, refused_pskmissing};
 
-use crate::contexts::{HpkeContext, names_aead, names_kdf, suite_named};
-use crate::statuses::{REFUSED_PSKEXTRA, REFUSED_PSKMISSING, REFUSED_PSKPAIR, WRONG_USAGE};
-use hkdf_labelled::Suite;
-use key_schedule::{CipherSecrets, Mode, PskFault, Secrets, schedule, verify_psk_inputs};
-
-/// The mode of a number that names one.
-fn mode_named(mode: u16) -> Mode
-    ensures { result ≡ mode_named mode }
-{
-    match mode {
-        0 => Mode::Base,
-        _ => Mode::Psk,
-    }
-}
-
-/// Whether numbers name what a context can be set up with.
-pub(crate) fn can_set_up(role: u16, mode: u16, kdf: u16, aead: u16, limit: u64) -> bool
-    ensures { IsTrue result ↔ CanSetUp role mode kdf aead limit }
-{
-    role <= 1 && mode <= 1 && names_kdf(kdf) && names_aead(aead) && limit >= 1
-}
-
-/// Why the psk inputs don't go with the mode, or 0.
-pub(crate) fn psk_status(mode: u16, psk: &[u8], psk_id: &[u8]) -> u32
-    ensures fits { (result ≡ done) ↔ PskFits mode psk.now psk_id.now }
-    ensures pair { (result ≡ refused_pskpair) ↔ OneIsMissing psk.now psk_id.now }
-    ensures extra { (result ≡ refused_pskextra) ↔ IsExtra mode psk.now psk_id.now }
-    ensures missing { (result ≡ refused_pskmissing) ↔ IsMissing mode psk.now psk_id.now }
-    ensures statuses { (result ≡ done) ⊎ (result ≡ refused_pskpair) ⊎ (result ≡ refused_pskextra)
-        ⊎ (result ≡ refused_pskmissing) }
-{
-    match verify_psk_inputs(mode_named(mode), psk, psk_id) {
-        Ok(()) => 0,
-        Err(PskFault::Inconsistent) => REFUSED_PSKPAIR,
-        Err(PskFault::Unneeded) => REFUSED_PSKEXTRA,
-        Err(PskFault::Missing) => REFUSED_PSKMISSING,
-    }
-}
-
-// A key, with zero bytes behind it.
-fn padded_key(cipher: &CipherSecrets) -> [u8; 32]
-    ensures { result ≡ zero_padded 32 (key_in cipher.now) }
-{
-    let mut padded = [0u8; 32];
-    match cipher {
-        CipherSecrets::NoCipher => {}
-        CipherSecrets::Aes128 { key, .. } => padded[..16].copy_from_slice(key),
-        CipherSecrets::Aes256 { key, .. } => padded.copy_from_slice(key),
-    }
-    padded
-}
-
-// The nonce of number 0, or zero bytes.
-fn padded_nonce(cipher: &CipherSecrets) -> [u8; 12]
-    ensures { result ≡ zero_padded 12 (base_nonce_in cipher.now) }
-{
-    let mut padded = [0u8; 12];
-    match cipher {
-        CipherSecrets::NoCipher => {}
-        CipherSecrets::Aes128 { base_nonce, .. } => padded.copy_from_slice(base_nonce),
-        CipherSecrets::Aes256 { base_nonce, .. } => padded.copy_from_slice(base_nonce),
-    }
-    padded
-}
-
-// An exporter_secret, with zero bytes behind it.
-fn padded_secret(secret: &[u8]) -> [u8; 64]
-    requires { length secret.now ≤ 64 }
-    ensures { result ≡ zero_padded 64 secret.now }
-{
-    let mut padded = [0u8; 64];
-    padded[..secret.len()].copy_from_slice(secret);
-    padded
-}
-
-// The context of what KeySchedule gave, at its first number.
-fn context_of(role: u16, limit: u64, suite: &Suite, secrets: &Secrets) -> HpkeContext
-    requires { length secrets.now.exporter ≤ 64 }
-    ensures { result ≡ context_of role limit suite.now secrets.now }
-{
-    let base_nonce = padded_nonce(&secrets.cipher);
-    let key = padded_key(&secrets.cipher);
-    let exporter_secret = padded_secret(secrets.exporter.as_slice());
-    HpkeContext {
-        number: 0,
-        limit,
-        role,
-        kem: suite.kem,
-        kdf: suite.kdf.id(),
-        aead: suite.aead.id(),
-        base_nonce,
-        key,
-        exporter_secret,
-    }
-}
-
-// What KeySchedule gives where the psk inputs go with the mode.
-#[tactic(auto, using(crate::proofs::Exporters::exporter_short))]
-fn secrets_of(
-    suite: &Suite,
-    mode: u16,
-    shared_secret: &[u8],
-    info: &[u8],
-    psk: &[u8],
-    psk_id: &[u8],
-) -> Secrets
-    requires { PskFits mode psk.now psk_id.now }
-    ensures secrets { result ≡ secrets_of suite.now (mode_named mode) shared_secret.now info.now
-        psk.now psk_id.now }
-    ensures exporter { length result.exporter ≤ 64 }
-{
-    match schedule(suite, mode_named(mode), shared_secret, info, psk, psk_id) {
-        Ok(secrets) => secrets,
-        Err(_fault) => unreachable!(),
-    }
-}
-
-/// The context that KeySchedule gives, where the psk inputs go with the mode.
-pub(crate) fn set_up(
-    role: u16,
-    mode: u16,
-    kem: u16,
-    kdf: u16,
-    aead: u16,
-    limit: u64,
-    shared_secret: &[u8],
-    info: &[u8],
-    psk: &[u8],
-    psk_id: &[u8],
-) -> HpkeContext
-    requires { PskFits mode psk.now psk_id.now }
-    ensures { result ≡ set_up role mode kem kdf aead limit shared_secret.now info.now psk.now
-        psk_id.now }
-{
-    let suite = suite_named(kem, kdf, aead);
-    let secrets = secrets_of(&suite, mode, shared_secret, info, psk, psk_id);
-    context_of(role, limit, &suite, &secrets)
-}
+use library_calls::{HpkeContext, context_shared, put_recipient, put_sender};
+use rand_words::SeedStream;
+use ring_core::{Sntrup761, Sntrup857};
+use std::alloc::Global;
 
 /// Sets a context up by KeySchedule (RFC 9180, 5.1), for the shared secret that a KEM gave. Its first number
 /// is 0. A shared secret is for one sender, and once.
@@ -178,23 +44,197 @@ pub extern "C" fn hpkebatch_context_shared(
         ≡ set_up role mode kem kdf aead limit shared_secret.now info.now psk.now psk_id.now }
     ensures refused { result ≢ done → context.new ≡ context.old }
 {
-    if !can_set_up(role, mode, kdf, aead, limit) {
-        return WRONG_USAGE;
-    }
-    let status = psk_status(mode, psk, psk_id);
-    if status == 0 {
-        *context = set_up(
-            role,
-            mode,
-            kem,
-            kdf,
-            aead,
-            limit,
-            shared_secret,
-            info,
-            psk,
-            psk_id,
-        );
-    }
-    status
+    context_shared(
+        context,
+        role,
+        mode,
+        kem,
+        kdf,
+        aead,
+        limit,
+        shared_secret,
+        info,
+        psk,
+        psk_id,
+    )
+}
+
+/// SetupBaseS or SetupPSKS (RFC 9180, 5.1) for sntrup761: a sender's context and the encapsulation for its
+/// recipient, from the words of a stream of `seed`.
+#[unsafe(no_mangle)]
+pub extern "C" fn hpkebatch_sntrup761_sender(
+    alloc: Global,
+    context: &mut HpkeContext,
+    enc: &mut [u8; 1039],
+    seed: &[u8; 32],
+    stream: u64,
+    public: &[u8; 1158],
+    mode: u16,
+    kdf: u16,
+    aead: u16,
+    limit: u64,
+    info: &[u8],
+    psk: &[u8],
+    psk_id: &[u8],
+) -> u32
+    ensures done { result ≢ no_memory → ((result ≡ done)
+        ↔ (CanSetUp sender mode kdf aead limit × PskFits mode psk.now psk_id.now)) }
+    ensures pskpair { (result ≡ refused_pskpair)
+        ↔ (CanSetUp sender mode kdf aead limit × OneIsMissing psk.now psk_id.now) }
+    ensures pskextra { (result ≡ refused_pskextra)
+        ↔ (CanSetUp sender mode kdf aead limit × IsExtra mode psk.now psk_id.now) }
+    ensures pskmissing { (result ≡ refused_pskmissing)
+        ↔ (CanSetUp sender mode kdf aead limit × IsMissing mode psk.now psk_id.now) }
+    ensures statuses { (result ≡ done) ⊎ (result ≡ wrong_usage) ⊎ (result ≡ no_memory)
+        ⊎ (result ≡ refused_pskpair) ⊎ (result ≡ refused_pskextra)
+        ⊎ (result ≡ refused_pskmissing) }
+    ensures enc { result ≡ done → enc.new ≡ enc_by sntrup761 seed.now stream public.now }
+    ensures set_up { result ≡ done → context.new ≡ set_up sender mode kem_761 kdf aead limit
+        (session_by sntrup761 seed.now stream public.now) info.now psk.now psk_id.now }
+    ensures refused { result ≢ done
+        → (context.new ≡ context.old) × (enc.new ≡ enc.old) }
+{
+    put_sender::<Sntrup761, SeedStream>(
+        alloc,
+        &mut SeedStream::new(seed, stream),
+        context,
+        enc,
+        public,
+        mode,
+        kdf,
+        aead,
+        limit,
+        info,
+        psk,
+        psk_id,
+    )
+}
+
+/// SetupBaseR or SetupPSKR (RFC 9180, 5.1) for sntrup761: the recipient's context of an encapsulation.
+#[unsafe(no_mangle)]
+pub extern "C" fn hpkebatch_sntrup761_recipient(
+    alloc: Global,
+    context: &mut HpkeContext,
+    enc: &[u8; 1039],
+    secret: &[u8; 1763],
+    mode: u16,
+    kdf: u16,
+    aead: u16,
+    limit: u64,
+    info: &[u8],
+    psk: &[u8],
+    psk_id: &[u8],
+) -> u32
+    ensures done { result ≢ no_memory → ((result ≡ done)
+        ↔ (CanSetUp recipient mode kdf aead limit × PskFits mode psk.now psk_id.now
+        × (¬ HasMalformedPart sntrup761 secret.now))) }
+    ensures pskpair { (result ≡ refused_pskpair)
+        ↔ (CanSetUp recipient mode kdf aead limit × OneIsMissing psk.now psk_id.now) }
+    ensures pskextra { (result ≡ refused_pskextra)
+        ↔ (CanSetUp recipient mode kdf aead limit × IsExtra mode psk.now psk_id.now) }
+    ensures pskmissing { (result ≡ refused_pskmissing)
+        ↔ (CanSetUp recipient mode kdf aead limit × IsMissing mode psk.now psk_id.now) }
+    ensures form { result ≢ no_memory → ((result ≡ refused_form)
+        ↔ (CanSetUp recipient mode kdf aead limit × PskFits mode psk.now psk_id.now
+        × HasMalformedPart sntrup761 secret.now)) }
+    ensures statuses { (result ≡ done) ⊎ (result ≡ wrong_usage) ⊎ (result ≡ no_memory)
+        ⊎ (result ≡ refused_form) ⊎ (result ≡ refused_pskpair) ⊎ (result ≡ refused_pskextra)
+        ⊎ (result ≡ refused_pskmissing) }
+    ensures set_up { result ≡ done → context.new ≡ set_up recipient mode kem_761 kdf aead limit
+        (decapsulated sntrup761 secret.now enc.now) info.now psk.now psk_id.now }
+    ensures refused { result ≢ done → context.new ≡ context.old }
+{
+    put_recipient::<Sntrup761>(
+        alloc, context, enc, secret, mode, kdf, aead, limit, info, psk, psk_id,
+    )
+}
+
+/// SetupBaseS or SetupPSKS (RFC 9180, 5.1) for sntrup857: a sender's context and the encapsulation for its
+/// recipient, from the words of a stream of `seed`.
+#[unsafe(no_mangle)]
+pub extern "C" fn hpkebatch_sntrup857_sender(
+    alloc: Global,
+    context: &mut HpkeContext,
+    enc: &mut [u8; 1184],
+    seed: &[u8; 32],
+    stream: u64,
+    public: &[u8; 1322],
+    mode: u16,
+    kdf: u16,
+    aead: u16,
+    limit: u64,
+    info: &[u8],
+    psk: &[u8],
+    psk_id: &[u8],
+) -> u32
+    ensures done { result ≢ no_memory → ((result ≡ done)
+        ↔ (CanSetUp sender mode kdf aead limit × PskFits mode psk.now psk_id.now)) }
+    ensures pskpair { (result ≡ refused_pskpair)
+        ↔ (CanSetUp sender mode kdf aead limit × OneIsMissing psk.now psk_id.now) }
+    ensures pskextra { (result ≡ refused_pskextra)
+        ↔ (CanSetUp sender mode kdf aead limit × IsExtra mode psk.now psk_id.now) }
+    ensures pskmissing { (result ≡ refused_pskmissing)
+        ↔ (CanSetUp sender mode kdf aead limit × IsMissing mode psk.now psk_id.now) }
+    ensures statuses { (result ≡ done) ⊎ (result ≡ wrong_usage) ⊎ (result ≡ no_memory)
+        ⊎ (result ≡ refused_pskpair) ⊎ (result ≡ refused_pskextra)
+        ⊎ (result ≡ refused_pskmissing) }
+    ensures enc { result ≡ done → enc.new ≡ enc_by sntrup857 seed.now stream public.now }
+    ensures set_up { result ≡ done → context.new ≡ set_up sender mode kem_857 kdf aead limit
+        (session_by sntrup857 seed.now stream public.now) info.now psk.now psk_id.now }
+    ensures refused { result ≢ done
+        → (context.new ≡ context.old) × (enc.new ≡ enc.old) }
+{
+    put_sender::<Sntrup857, SeedStream>(
+        alloc,
+        &mut SeedStream::new(seed, stream),
+        context,
+        enc,
+        public,
+        mode,
+        kdf,
+        aead,
+        limit,
+        info,
+        psk,
+        psk_id,
+    )
+}
+
+/// SetupBaseR or SetupPSKR (RFC 9180, 5.1) for sntrup857: the recipient's context of an encapsulation.
+#[unsafe(no_mangle)]
+pub extern "C" fn hpkebatch_sntrup857_recipient(
+    alloc: Global,
+    context: &mut HpkeContext,
+    enc: &[u8; 1184],
+    secret: &[u8; 1999],
+    mode: u16,
+    kdf: u16,
+    aead: u16,
+    limit: u64,
+    info: &[u8],
+    psk: &[u8],
+    psk_id: &[u8],
+) -> u32
+    ensures done { result ≢ no_memory → ((result ≡ done)
+        ↔ (CanSetUp recipient mode kdf aead limit × PskFits mode psk.now psk_id.now
+        × (¬ HasMalformedPart sntrup857 secret.now))) }
+    ensures pskpair { (result ≡ refused_pskpair)
+        ↔ (CanSetUp recipient mode kdf aead limit × OneIsMissing psk.now psk_id.now) }
+    ensures pskextra { (result ≡ refused_pskextra)
+        ↔ (CanSetUp recipient mode kdf aead limit × IsExtra mode psk.now psk_id.now) }
+    ensures pskmissing { (result ≡ refused_pskmissing)
+        ↔ (CanSetUp recipient mode kdf aead limit × IsMissing mode psk.now psk_id.now) }
+    ensures form { result ≢ no_memory → ((result ≡ refused_form)
+        ↔ (CanSetUp recipient mode kdf aead limit × PskFits mode psk.now psk_id.now
+        × HasMalformedPart sntrup857 secret.now)) }
+    ensures statuses { (result ≡ done) ⊎ (result ≡ wrong_usage) ⊎ (result ≡ no_memory)
+        ⊎ (result ≡ refused_form) ⊎ (result ≡ refused_pskpair) ⊎ (result ≡ refused_pskextra)
+        ⊎ (result ≡ refused_pskmissing) }
+    ensures set_up { result ≡ done → context.new ≡ set_up recipient mode kem_857 kdf aead limit
+        (decapsulated sntrup857 secret.now enc.now) info.now psk.now psk_id.now }
+    ensures refused { result ≢ done → context.new ≡ context.old }
+{
+    put_recipient::<Sntrup857>(
+        alloc, context, enc, secret, mode, kdf, aead, limit, info, psk, psk_id,
+    )
 }

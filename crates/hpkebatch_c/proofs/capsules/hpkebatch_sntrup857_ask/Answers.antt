@@ -1,0 +1,18 @@
+use Rattle.std.proofs.Common.{◌≡◌, length, refl, ap, ◌∙◌}
+use Rattle.ring_core.specs.Sets.{sntrup857}
+use Rattle.sntrup_kem.specs.Sizes.{enc_size}
+use Rattle.library_calls.specs.Capsules.{asked_held, kept_by}
+use Rattle.library_calls.specs.Keys.{enc_by, session_by}
+use Rattle.library_calls.specs.Setups.{kem_857}
+use Rattle.library_calls.proofs.Kept.{held_is}
+use Rattle.hpkebatch_c.proofs.capsules.hpkebatch_sntrup857_ask.Goals as goal
+
+pub returns-clause-asked : goal.returns-clause-asked
+returns-clause-asked c done =
+    let a = c.args in
+    let enc = enc_by sntrup857 a.seed.now a.stream a.public.now in
+    let secret = session_by sntrup857 a.seed.now a.stream a.public.now in
+    let kept : c.put_asked.new.asked ≡ kept_by sntrup857 a.seed.now a.stream a.public.now a.key_id kem_857 a.kdf a.aead =
+    rw c.new.ensures.start at (c.put_asked.ensures.kept done) in
+    let size : length enc ≡ enc_size sntrup857 = rw c.new.ensures.start at (c.put_asked.ensures.size done) in
+    ap asked_held kept ∙ held_is sntrup857 a.key_id kem_857 a.kdf a.aead secret enc refl size

@@ -1,7 +1,0 @@
-use Rattle.hpkebatch_c.specs.Messages.{EachHolds}
-use Rattle.hpkebatch_c.proofs.messages.all_hold.Given as goal
-
-abbrev pub invariant-loop-k : goal.invariant-loop-k
-invariant-loop-k l = record {
-  each : EachHolds l.key l.base_nonce l.number l.aads l.cts l.k;
-}

@@ -1,0 +1,11 @@
+pub mod Exporters
+pub mod Pairs
+pub mod Judging
+pub mod Sizes
+pub mod Endings
+pub mod Served
+pub mod Words
+pub mod ClearSizes
+pub mod Kept
+pub mod Refusals
+pub mod Answered
