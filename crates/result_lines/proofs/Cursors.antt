@@ -105,29 +105,7 @@ first_go_on stamps lines mark after n i so_far total lt some is =
     ∙ ap (λ (f : MarksFound). so_far ++ take (suc (n - (i + 1))) f.marks) (journal_goes_on stamps lines mark after some))
     ∙ is
 
-fewer : (stamps : Stamps) (n : ℕ) (parts : List (List ℕ)) (mark : Mark) (after : LinesView) → mark_from stamps n parts ≡ Some (mark, after)
-    → length after.parts < length parts
-fewer stamps n [] mark after some = absurd cc
-fewer stamps n (part ∷ []) mark after some = absurd cc
-fewer stamps n (line ∷ next ∷ more) mark after some = go (mark_of_line stamps line) some
-  where
-    go : (r : Result Mark Reason) → marked r (record { number = n + 1; parts = next ∷ more }) ≡ Some (mark, after) → length after.parts < length (line ∷ next ∷ more)
-    go (Err reason) some = absurd cc
-    go (Ok m) some =
-        let rest : record { number = n + 1; parts = next ∷ more } ≡ after =
-        ap (λ (p : Mark × LinesView). p.1) (inside (m, record { number = n + 1; parts = next ∷ more }) (mark, after) some) in
-        omega (arith, ap (λ (l : LinesView). length l.parts) rest)
-
-pub fewer_lines : (stamps : Stamps) (lines : LinesView) (mark : Mark) (after : LinesView) → mark_at stamps lines ≡ Some (mark, after)
-    → length after.parts < length lines.parts
-fewer_lines stamps lines mark after some = fewer stamps lines.number lines.parts mark after some
-
 -- ---- the end
-
--- nothing is left of an empty text
-pub nothing_left : (n : ℕ) (text : List ℕ) → length text ≡ 0 → ended (record { number = n; parts = lines_of text }) ≡ Ok n
-nothing_left n [] none = refl
-nothing_left n (c ∷ cs) none = absurd (omega arith)
 
 two_parts : (n : ℕ) (parts : List (List ℕ)) → (length parts == 0) ≡ false → nothing_from n ([] ∷ parts) ≡ Err n
 two_parts n [] some = absurd cc

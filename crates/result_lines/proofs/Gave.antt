@@ -35,7 +35,7 @@ use Rattle.result_lines.proofs.FirstLines.{HasNoFeed, step_gives, IsLeft, behind
 use Rattle.result_lines.proofs.Growing.{concat-append, batches, Grew, moved, stayed, grew_more, Gave, gave_more, GrewLanes, lanes_stayed, lanes_more, lane_grew, GrewJournals, journals_stayed, journals_more, journal_grew}
 use Rattle.result_lines.proofs.NumberLines.{guess_back, mark_back, no_mark}
 use Rattle.result_lines.proofs.PlainLines.{tested, both, decimal_one, numbered_line, key_line_is, context_line_is, end_line_is}
-use Rattle.result_lines.proofs.Took.{one_call, calls_only, no_guesses, text_parts, version_stamps}
+use Rattle.result_lines.proofs.Took.{headed, headed_step, one_call, calls_only, no_guesses, text_parts, version_stamps}
 
 -- another text that is left
 pub other_left : {parts : List (List ℕ)} {text other : List ℕ} → text ≡ other → parts ≡ lines_of text → parts ≡ lines_of other
@@ -268,30 +268,35 @@ end_ends stamps =
     let no = no_mark stamps (codes "end") (codes "end") [] refl refl in
     record { body = codes "end"; rest = []; parts = refl; one = tested (codes "end") refl; reason = no.0; none = no.1 }
 
-journal_ends_marks : (stamps : Stamps) (n : ℕ) (after : List ℕ) → EndsMarks stamps (((codes "journal " ++ decimal n) ++ codes "\n") ++ after)
-journal_ends_marks stamps n after =
-    let line = codes "journal " ++ decimal n in
-    let no = no_mark stamps line (codes "journal") (pieces_of (decimal n)) refl refl in
-    record {
-      body = line;
-      rest = after;
-      parts = append_assoc line (10 ∷ []) after;
-      one = both (codes "journal ") (decimal n) (tested (codes "journal ") refl) (decimal_one n);
-      reason = no.0;
-      none = no.1;
-    }
+-- what a journal's first line is, of this word and a number: a line, and no place
+pub record Heads (stamps : Stamps) (word : List ℕ) : Type 0 where
+  pub plain : HasNoFeed word
+  pub reason : ℕ → Reason
+  pub none : (n : ℕ) → mark_of_line stamps (word ++ decimal n) ≡ Err (reason n)
+
+pub journal_heads : (stamps : Stamps) → Heads stamps (codes "journal ")
+journal_heads stamps =
+    let no = λ (n : ℕ). no_mark stamps (codes "journal " ++ decimal n) (codes "journal") (pieces_of (decimal n)) refl refl in
+    record { plain = tested (codes "journal ") refl; reason = λ n. (no n).0; none = λ n. (no n).1 }
 
 pub same_ends : {stamps : Stamps} {text other : List ℕ} → text ≡ other → EndsMarks stamps other → EndsMarks stamps text
 same_ends {stamps} same ends = subst (EndsMarks stamps) (sym same) ends
 
 -- what stands behind a journal
-pub behind_ends : (stamps : Stamps) (number : ℕ) (journals : List (List Mark)) (after : List ℕ) → EndsMarks stamps after
-    → EndsMarks stamps (concat (all_lines (numbered (journal_lines (are_printed stamps)) number journals)) ++ after)
-behind_ends stamps number [] after ends = ends
-behind_ends stamps number (marks ∷ journals) after ends =
-    let head = (codes "journal " ++ decimal number) ++ codes "\n" in
-    let rest = concat (map (mark_line (are_printed stamps)) marks ++ all_lines (numbered (journal_lines (are_printed stamps)) (number + 1) journals)) in
-    same_ends (append_assoc head rest after) (journal_ends_marks stamps number (rest ++ after))
+pub behind_ends : (stamps : Stamps) (word : List ℕ) → Heads stamps word → (number : ℕ) (journals : List (List Mark)) (after : List ℕ) → EndsMarks stamps after
+    → EndsMarks stamps (concat (all_lines (numbered (headed word stamps) number journals)) ++ after)
+behind_ends stamps word heads number [] after ends = ends
+behind_ends stamps word heads number (marks ∷ journals) after ends =
+    let line = word ++ decimal number in
+    let rest = concat (map (mark_line (are_printed stamps)) marks ++ all_lines (numbered (headed word stamps) (number + 1) journals)) in
+    same_ends (append_assoc (line ++ codes "\n") rest after) (record {
+      body = line;
+      rest = rest ++ after;
+      parts = append_assoc line (10 ∷ []) (rest ++ after);
+      one = both word (decimal number) heads.plain (decimal_one number);
+      reason = heads.reason number;
+      none = heads.none number;
+    })
 
 pub record GaveMarks (stamps : Stamps) (lines : LinesView) (marks : List Mark) (after : List ℕ) : Type 0 where
   pub found : MarksFound
@@ -337,43 +342,51 @@ pub record GaveJournals (step : Result ToldView ℕ) (told : ToldView) (after : 
   pub is : step ≡ Ok new
   pub grew : GrewJournals told new after journals
 
-journal_gave : (stamps : Stamps) (number : ℕ) (marks : List Mark) (told : ToldView) (after : List ℕ) → All (IsPlaceWithin stamps) marks → EndsMarks stamps after
-    → IsLeft told.lines (concat (journal_lines (are_printed stamps) number marks) ++ after) → GaveJournals (with_journal stamps number told) told after (marks ∷ [])
-unfolding with_journal
-journal_gave stamps number marks told after within ends left =
-    let head = (codes "journal " ++ decimal number) ++ codes "\n" in
-    let here = concat (map (mark_line (are_printed stamps)) marks) in
-    let a = line_gave head told (here ++ after) (numbered_line (codes "journal ") number refl) (other_left (append_assoc head here after) left) in
-    let m = marks_gave stamps marks a.new.lines.number after within ends in
-    let at : marks_of stamps a.new.lines ≡ m.found =
-    ap (λ (parts : List (List ℕ)). marks_of stamps (record { number = a.new.lines.number; parts = parts })) a.grew.left ∙ m.is in
-    record {
-      new = journal_ended a.new m.found;
-      is = step_gives (with_line head told) _ a.new a.is ∙ ap (λ (found : MarksFound). Ok (journal_ended a.new found)) at;
-      grew = subst (λ (ms : List Mark). GrewJournals told (journal_ended a.new m.found) after (ms ∷ [])) m.same
-          (journal_grew told a.new (here ++ after) after m.found a.grew m.left);
-    }
+-- one for each line, the first line of each of this word and its number
+module _ (word : List ℕ) (stamps : Stamps) (heads : Heads stamps word) (all : ℕ → List ContextLine → ToldView → Result ToldView ℕ) (is_nil : (n : ℕ) (told : ToldView) → all n [] told ≡ Ok told)
+    (is_cons : (n : ℕ) (line : ContextLine) (lines : List ContextLine) (told : ToldView) → all n (line ∷ lines) told ≡ (headed_step word stamps n told >>= all (n + 1) lines)) where
+  journal_gave : (number : ℕ) (marks : List Mark) (told : ToldView) (after : List ℕ) → All (IsPlaceWithin stamps) marks → EndsMarks stamps after
+      → IsLeft told.lines (concat (headed word stamps number marks) ++ after) → GaveJournals (headed_step word stamps number told) told after (marks ∷ [])
+  journal_gave number marks told after within ends left =
+      let head = (word ++ decimal number) ++ codes "\n" in
+      let here = concat (map (mark_line (are_printed stamps)) marks) in
+      let a = line_gave head told (here ++ after) (record { body = word ++ decimal number; is = refl; one = both word (decimal number) heads.plain (decimal_one number) }) (other_left (append_assoc head here after) left) in
+      let m = marks_gave stamps marks a.new.lines.number after within ends in
+      let at : marks_of stamps a.new.lines ≡ m.found =
+      ap (λ (parts : List (List ℕ)). marks_of stamps (record { number = a.new.lines.number; parts = parts })) a.grew.left ∙ m.is in
+      record {
+        new = journal_ended a.new m.found;
+        is = step_gives (with_line head told) _ a.new a.is ∙ ap (λ (found : MarksFound). Ok (journal_ended a.new found)) at;
+        grew = subst (λ (ms : List Mark). GrewJournals told (journal_ended a.new m.found) after (ms ∷ [])) m.same
+            (journal_grew told a.new (here ++ after) after m.found a.grew m.left);
+      }
+
+  pub headed_gave : (number : ℕ) (lines : List ContextLine) (journals : List (List Mark)) (told : ToldView) (after : List ℕ) → length journals ≡ length lines
+      → All (All (IsPlaceWithin stamps)) journals → EndsMarks stamps after
+      → IsLeft told.lines (concat (all_lines (numbered (headed word stamps) number journals)) ++ after) → GaveJournals (all number lines told) told after journals
+  headed_gave number [] [] told after count within ends left = record { new = told; is = is_nil number told; grew = journals_stayed told after left }
+  headed_gave number [] (marks ∷ journals) told after count within ends left = absurd (omega arith)
+  headed_gave number (line ∷ lines) [] told after count within ends left = absurd (omega arith)
+  headed_gave number (line ∷ lines) (marks ∷ journals) told after count within ends left =
+      let here = headed word stamps number marks in
+      let later = all_lines (numbered (headed word stamps) (number + 1) journals) in
+      let text : concat (here ++ later) ++ after ≡ concat here ++ (concat later ++ after) =
+      ap (λ (bytes : List ℕ). bytes ++ after) (concat-append here later) ∙ append_assoc (concat here) (concat later) after in
+      let a = journal_gave number marks told (concat later ++ after) (All-head (All (IsPlaceWithin stamps)) marks journals within)
+      (behind_ends stamps word heads (number + 1) journals after ends) (other_left text left) in
+      let b = headed_gave (number + 1) lines journals a.new after (omega arith) (All-tail (All (IsPlaceWithin stamps)) marks journals within) ends a.grew.left in
+      record {
+        new = b.new;
+        is = is_cons number line lines told ∙ step_gives (headed_step word stamps number told) (all (number + 1) lines) a.new a.is ∙ b.is;
+        grew = journals_more told a.new b.new (concat later ++ after) after (marks ∷ []) journals a.grew b.grew;
+      }
 
 pub journals_gave : (stamps : Stamps) (number : ℕ) (lines : List ContextLine) (journals : List (List Mark)) (told : ToldView) (after : List ℕ) → length journals ≡ length lines
     → All (All (IsPlaceWithin stamps)) journals → EndsMarks stamps after
-    → IsLeft told.lines (concat (all_lines (numbered (journal_lines (are_printed stamps)) number journals)) ++ after)
+    → IsLeft told.lines (concat (all_lines (numbered (headed (codes "journal ") stamps) number journals)) ++ after)
     → GaveJournals (with_journals stamps number lines told) told after journals
-journals_gave stamps number [] [] told after count within ends left = record { new = told; is = refl; grew = journals_stayed told after left }
-journals_gave stamps number [] (marks ∷ journals) told after count within ends left = absurd (omega arith)
-journals_gave stamps number (line ∷ lines) [] told after count within ends left = absurd (omega arith)
-journals_gave stamps number (line ∷ lines) (marks ∷ journals) told after count within ends left =
-    let here = journal_lines (are_printed stamps) number marks in
-    let later = all_lines (numbered (journal_lines (are_printed stamps)) (number + 1) journals) in
-    let text : concat (here ++ later) ++ after ≡ concat here ++ (concat later ++ after) =
-    ap (λ (bytes : List ℕ). bytes ++ after) (concat-append here later) ∙ append_assoc (concat here) (concat later) after in
-    let a = journal_gave stamps number marks told (concat later ++ after) (All-head (All (IsPlaceWithin stamps)) marks journals within)
-    (behind_ends stamps (number + 1) journals after ends) (other_left text left) in
-    let b = journals_gave stamps (number + 1) lines journals a.new after (omega arith) (All-tail (All (IsPlaceWithin stamps)) marks journals within) ends a.grew.left in
-    record {
-      new = b.new;
-      is = step_gives (with_journal stamps number told) (with_journals stamps (number + 1) lines) a.new a.is ∙ b.is;
-      grew = journals_more told a.new b.new (concat later ++ after) after (marks ∷ []) journals a.grew b.grew;
-    }
+unfolding with_journal
+journals_gave stamps = headed_gave (codes "journal ") stamps (journal_heads stamps) (with_journals stamps) (λ n told. refl) (λ n line lines told. refl)
 
 -- ---- the whole result
 

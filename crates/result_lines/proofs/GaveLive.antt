@@ -30,7 +30,7 @@ use Rattle.result_lines.proofs.NoteLines.{note_line_is}
 use Rattle.result_lines.proofs.PlainLines.{tested, both, decimal_one, numbered_line}
 use Rattle.result_lines.proofs.Took.{no_guesses}
 use Rattle.result_lines.proofs.TookLive.{journals_text, setup, live_parts}
-use Rattle.result_lines.proofs.Gave.{other_left, line_gave, lines_gave, lanes_gave, EndsMarks, same_ends, marks_gave, GaveJournals, journals_gave, setup_gave, end_gave}
+use Rattle.result_lines.proofs.Gave.{other_left, line_gave, lines_gave, lanes_gave, EndsMarks, Heads, same_ends, behind_ends, GaveJournals, headed_gave, journals_gave, setup_gave, end_gave}
 
 -- ---- journals of contexts that are added
 
@@ -39,65 +39,17 @@ table_ends rest =
     let no = no_mark PlacesAndNotes (codes "table") (codes "table") [] refl refl in
     record { body = codes "table"; rest = rest; parts = refl; one = tested (codes "table") refl; reason = no.0; none = no.1 }
 
-added_ends_marks : (name : ℕ) (after : List ℕ) → EndsMarks PlacesAndNotes (((codes "journal +" ++ decimal name) ++ codes "\n") ++ after)
-added_ends_marks name after =
-    let line = codes "journal +" ++ decimal name in
-    let no = no_mark PlacesAndNotes line (codes "journal") (pieces_of (codes "+" ++ decimal name)) refl refl in
-    record {
-      body = line;
-      rest = after;
-      parts = append_assoc line (10 ∷ []) after;
-      one = both (codes "journal +") (decimal name) (tested (codes "journal +") refl) (decimal_one name);
-      reason = no.0;
-      none = no.1;
-    }
-
--- what stands behind a journal
-behind_added : (name : ℕ) (journals : List (List Mark)) (after : List ℕ) → EndsMarks PlacesAndNotes after
-    → EndsMarks PlacesAndNotes (concat (all_lines (numbered added_journal_lines name journals)) ++ after)
-behind_added name [] after ends = ends
-behind_added name (marks ∷ journals) after ends =
-    let head = (codes "journal +" ++ decimal name) ++ codes "\n" in
-    let rest = concat (map (mark_line true) marks ++ all_lines (numbered added_journal_lines (name + 1) journals)) in
-    same_ends (append_assoc head rest after) (added_ends_marks name (rest ++ after))
-
-added_gave : (name : ℕ) (marks : List Mark) (told : ToldView) (after : List ℕ) → All (IsPlaceWithin PlacesAndNotes) marks → EndsMarks PlacesAndNotes after
-    → IsLeft told.lines (concat (added_journal_lines name marks) ++ after) → GaveJournals (with_added_journal name told) told after (marks ∷ [])
-unfolding with_added_journal
-added_gave name marks told after within ends left =
-    let head = (codes "journal +" ++ decimal name) ++ codes "\n" in
-    let here = concat (map (mark_line true) marks) in
-    let a = line_gave head told (here ++ after) (numbered_line (codes "journal +") name refl) (other_left (append_assoc head here after) left) in
-    let m = marks_gave PlacesAndNotes marks a.new.lines.number after within ends in
-    let at : marks_of PlacesAndNotes a.new.lines ≡ m.found =
-    ap (λ (parts : List (List ℕ)). marks_of PlacesAndNotes (record { number = a.new.lines.number; parts = parts })) a.grew.left ∙ m.is in
-    record {
-      new = journal_ended a.new m.found;
-      is = step_gives (with_line head told) _ a.new a.is ∙ ap (λ (found : MarksFound). Ok (journal_ended a.new found)) at;
-      grew = subst (λ (ms : List Mark). GrewJournals told (journal_ended a.new m.found) after (ms ∷ [])) m.same
-          (journal_grew told a.new (here ++ after) after m.found a.grew m.left);
-    }
+added_heads : Heads PlacesAndNotes (codes "journal +")
+added_heads =
+    let no = λ (n : ℕ). no_mark PlacesAndNotes (codes "journal +" ++ decimal n) (codes "journal") (pieces_of (codes "+" ++ decimal n)) refl refl in
+    record { plain = tested (codes "journal +") refl; reason = λ n. (no n).0; none = λ n. (no n).1 }
 
 all_added_gave : (name : ℕ) (lines : List ContextLine) (journals : List (List Mark)) (told : ToldView) (after : List ℕ) → length journals ≡ length lines
     → All (All (IsPlaceWithin PlacesAndNotes)) journals → EndsMarks PlacesAndNotes after
     → IsLeft told.lines (concat (all_lines (numbered added_journal_lines name journals)) ++ after)
     → GaveJournals (with_added_journals name lines told) told after journals
-all_added_gave name [] [] told after count within ends left = record { new = told; is = refl; grew = journals_stayed told after left }
-all_added_gave name [] (marks ∷ journals) told after count within ends left = absurd (omega arith)
-all_added_gave name (line ∷ lines) [] told after count within ends left = absurd (omega arith)
-all_added_gave name (line ∷ lines) (marks ∷ journals) told after count within ends left =
-    let here = added_journal_lines name marks in
-    let later = all_lines (numbered added_journal_lines (name + 1) journals) in
-    let text : concat (here ++ later) ++ after ≡ concat here ++ (concat later ++ after) =
-    ap (λ (bytes : List ℕ). bytes ++ after) (concat-append here later) ∙ append_assoc (concat here) (concat later) after in
-    let a = added_gave name marks told (concat later ++ after) (All-head (All (IsPlaceWithin PlacesAndNotes)) marks journals within)
-    (behind_added (name + 1) journals after ends) (other_left text left) in
-    let b = all_added_gave (name + 1) lines journals a.new after (omega arith) (All-tail (All (IsPlaceWithin PlacesAndNotes)) marks journals within) ends a.grew.left in
-    record {
-      new = b.new;
-      is = step_gives (with_added_journal name told) (with_added_journals (name + 1) lines) a.new a.is ∙ b.is;
-      grew = journals_more told a.new b.new (concat later ++ after) after (marks ∷ []) journals a.grew b.grew;
-    }
+unfolding with_added_journal
+all_added_gave = headed_gave (codes "journal +") PlacesAndNotes added_heads with_added_journals (λ n told. refl) (λ n line lines told. refl)
 
 -- ---- all journals
 
@@ -115,7 +67,7 @@ all_gave plan journals told after count within ends left =
     length-take-le lines journals (omega (arith, count)) ∙ sym (length-take-le lines plan.contexts (omega arith)) in
     let rest : length later ≡ length (drop lines plan.contexts) = omega (arith, count, length-drop lines journals, length-drop lines plan.contexts) in
     let a = journals_gave PlacesAndNotes 0 (take lines plan.contexts) first told (later_text ++ after) short
-    (All-take (All (IsPlaceWithin PlacesAndNotes)) lines journals within) (behind_added 0 later after ends)
+    (All-take (All (IsPlaceWithin PlacesAndNotes)) lines journals within) (behind_ends PlacesAndNotes (codes "journal +") added_heads 0 later after ends)
     (other_left (append_assoc first_text later_text after) left) in
     let b = all_added_gave 0 (drop lines plan.contexts) later a.new after rest (All-drop (All (IsPlaceWithin PlacesAndNotes)) lines journals within) ends a.grew.left in
     record {

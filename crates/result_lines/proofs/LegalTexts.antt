@@ -38,7 +38,7 @@ use Rattle.result_lines.proofs.Gave.{told_back}
 use Rattle.result_lines.specs.declared.verdicts.Verdict.TheVariants as verdicts
 use Rattle.result_lines.specs.Guesses.{wrong_guesses}
 use Rattle.result_lines.specs.OneRun.{PrintTheSame}
-use Rattle.result_lines.specs.Opened.{opened_with, opened}
+use Rattle.result_lines.proofs.Opened.{opened_with, opened}
 use Rattle.result_lines.specs.Replies.{all_replies, wrong_reply}
 use Rattle.result_lines.specs.Verdicts.{run_told, IsVerdictOn, IsVerdictBy}
 use Rattle.result_lines.proofs.Counting.{journal_few, number_low}

@@ -1,7 +1,6 @@
 pub mod Cursors
 pub mod Feeds
 pub mod Steps
-pub mod Numbered
 pub mod Taking
 pub mod FirstLines
 pub mod NumberLines
@@ -17,6 +16,7 @@ pub mod BackLive
 pub mod Limited
 pub mod RunTexts
 pub mod RightGuesses
+pub mod Opened
 pub mod ReplyLines
 pub mod DueReplies
 pub mod Counting

@@ -35,7 +35,7 @@ use Rattle.result_lines.specs.Printed as printed
 use Rattle.result_lines.specs.PrintedLive.{IsReply, told_live_text}
 use Rattle.result_lines.proofs.Took.{calls_split, lanes_split}
 use Rattle.result_lines.specs.LiveVerdicts.{live_reply_lines, live_lane_replies, live_replies}
-use Rattle.result_lines.specs.Opened.{opened, Keeps}
+use Rattle.result_lines.proofs.Opened.{opened, Keeps}
 use Rattle.result_lines.specs.Replies.{reply_lines}
 use Rattle.result_lines.proofs.DueReplies.{replies_are}
 use Rattle.result_lines.proofs.Limited.{IsLine, lines_of_limits}

@@ -18,7 +18,7 @@ use Rattle.context_books.proofs.Done.{lane_asks}
 use Rattle.result_lines.specs.declared.told.GuessLine.{GuessLine}
 use Rattle.result_lines.proofs.Growing.{batches}
 use Rattle.result_lines.specs.Guesses.{is_right, wrong_guess, or_else, wrong_guesses}
-use Rattle.result_lines.specs.Opened.{opened_with, opened}
+use Rattle.result_lines.proofs.Opened.{opened_with, opened}
 use Rattle.result_lines.proofs.RunTexts.{own_opened, drop_step, size_on, size_behind}
 
 -- the numbers that were guessed

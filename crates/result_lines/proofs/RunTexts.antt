@@ -32,7 +32,7 @@ use Rattle.context_books.proofs.Done.{lane_asks, length-messages}
 use Rattle.result_lines.specs.Printed.{call_replies, call_guesses, told_calls, told_lanes, told_text, AreComplete}
 use Rattle.result_lines.specs.Printed as printed
 use Rattle.result_lines.proofs.Took.{calls_split, lanes_split}
-use Rattle.result_lines.specs.Opened.{opened_with, opened, Keeps}
+use Rattle.result_lines.proofs.Opened.{opened_with, opened, Keeps}
 use Rattle.result_lines.specs.Replies.{reply_lines, lane_replies, all_replies}
 use Rattle.result_lines.proofs.Limited.{IsLine, lines_of_limits}
 

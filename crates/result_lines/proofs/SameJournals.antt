@@ -11,7 +11,7 @@ use Rattle.batch_plans.specs.ReplyText.{all_lines, numbered}
 use Rattle.context_books.specs.Standing.{call_refusal}
 use Rattle.context_books.specs.Asks.{ask_of, cipher_at}
 use Rattle.context_books.specs.Runs.{Run, run_along, asks_of, journal_of, guesses_of, answer_line_of, place_line, lines_of_items, item_lines, lines_unless}
-use Rattle.result_lines.specs.Opened.{opened}
+use Rattle.result_lines.proofs.Opened.{opened}
 use Rattle.result_lines.specs.Replies.{reply_lines, all_replies}
 use Rattle.result_lines.proofs.RunTexts.{all_opened}
 

@@ -38,12 +38,6 @@ module _ {S A : Type 0} (all : ℕ → List A → S → Result S ℕ) (step : �
   stops_at stop xs i d x s total lt is wrong so_far =
       step_stops stop (step i x s) (all (i + 1) (drop (i + 1) xs)) total wrong (sym (first xs i d x s lt is) ∙ so_far)
 
-  -- none is left
-  pub all_taken : ((n : ℕ) (s : S) → all n [] s ≡ Ok s) → (xs : List A) (i : ℕ) (s : S) (total : Result S ℕ) → length xs ≤ i
-      → all i (drop i xs) s ≡ total → total ≡ Ok s
-  all_taken is_nil xs i s total le so_far =
-      sym so_far ∙ ap (λ (ys : List A). all i ys s) (drop_all i xs le) ∙ is_nil i s
-
 -- ---- so many steps
 
 module _ {S : Type 0} (all : ℕ → S → Result S ℕ) (step : S → Result S ℕ)

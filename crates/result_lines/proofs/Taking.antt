@@ -11,7 +11,7 @@ use Rattle.result_lines.specs.declared.stamps.Stamps.{Stamps}
 use Rattle.result_lines.specs.Places.{Stops}
 use Rattle.result_lines.specs.Told.{ToldView, with_line, with_lines, with_reply, with_replies, with_call, with_calls, with_lane, with_lanes, with_journal, with_journals}
 use Rattle.result_lines.specs.ToldLive.{with_added_journal, with_added_journals}
-use Rattle.result_lines.proofs.Steps.{goes_on, stops_at, all_taken, count_goes_on, count_stops_at}
+use Rattle.result_lines.proofs.Steps.{goes_on, stops_at, count_goes_on, count_stops_at}
 
 -- ---- a line for each element and its number
 
@@ -29,9 +29,6 @@ module _ {A : Type 0} (line : ℕ → A → List ℕ) where
   pub lines_stop : (stop : Stop) (xs : List A) (i : ℕ) (d x : A) (now : ToldView) (total : Result ToldView ℕ) → i < length xs → x ≡ get_or xs i d
       → Stops stop (with_line (line i x) now) → all_lines i (drop i xs) now ≡ total → Stops stop total
   lines_stop = stops_at all_lines one_line (λ n x xs s. refl)
-
-  pub lines_end : (xs : List A) (i : ℕ) (now : ToldView) (total : Result ToldView ℕ) → length xs ≤ i → all_lines i (drop i xs) now ≡ total → total ≡ Ok now
-  lines_end = all_taken all_lines one_line (λ n x xs s. refl) (λ n s. refl)
 
 -- ---- replies
 
@@ -60,24 +57,6 @@ module _ (contexts : List (Option ContextView)) where
       → Stops stop (with_call contexts call now) → with_calls contexts (drop i calls) now ≡ total → Stops stop total
   calls_stop = stops_at all_calls one_call (λ n x xs s. refl)
 
-  pub calls_end : (calls : List CallLine) (i : ℕ) (now : ToldView) (total : Result ToldView ℕ) → length calls ≤ i
-      → with_calls contexts (drop i calls) now ≡ total → total ≡ Ok now
-  calls_end = all_taken all_calls one_call (λ n x xs s. refl) (λ n s. refl)
-
-  -- ---- lanes
-
-  pub lanes_go_on : (lanes : List (List CallLine)) (i : ℕ) (d calls : List CallLine) (now new : ToldView) (total : Result ToldView ℕ) → i < length lanes → calls ≡ get_or lanes i d
-      → with_lane contexts i calls now ≡ Ok new → with_lanes contexts i (drop i lanes) now ≡ total → with_lanes contexts (i + 1) (drop (i + 1) lanes) new ≡ total
-  lanes_go_on = goes_on (with_lanes contexts) (with_lane contexts) (λ n x xs s. refl)
-
-  pub lanes_stop : (stop : Stop) (lanes : List (List CallLine)) (i : ℕ) (d calls : List CallLine) (now : ToldView) (total : Result ToldView ℕ) → i < length lanes → calls ≡ get_or lanes i d
-      → Stops stop (with_lane contexts i calls now) → with_lanes contexts i (drop i lanes) now ≡ total → Stops stop total
-  lanes_stop = stops_at (with_lanes contexts) (with_lane contexts) (λ n x xs s. refl)
-
-  pub lanes_end : (lanes : List (List CallLine)) (i : ℕ) (now : ToldView) (total : Result ToldView ℕ) → length lanes ≤ i
-      → with_lanes contexts i (drop i lanes) now ≡ total → total ≡ Ok now
-  lanes_end = all_taken (with_lanes contexts) (with_lane contexts) (λ n x xs s. refl) (λ n s. refl)
-
 -- ---- journals
 
 module _ (stamps : Stamps) where
@@ -96,10 +75,6 @@ module _ (stamps : Stamps) where
   journals_stop stop (line ∷ lines) i now total lt wrong so_far =
       stops_at (with_journals stamps) one_journal (λ n x xs s. refl) stop (line ∷ lines) i line (get_or (line ∷ lines) i line) now total lt refl wrong so_far
 
-  pub journals_end : (lines : List ContextLine) (i : ℕ) (now : ToldView) (total : Result ToldView ℕ) → length lines ≤ i
-      → with_journals stamps i (drop i lines) now ≡ total → total ≡ Ok now
-  journals_end = all_taken (with_journals stamps) one_journal (λ n x xs s. refl) (λ n s. refl)
-
 -- ---- journals of contexts that are added
 
 abbrev one_added : ℕ → ContextLine → ToldView → Result ToldView ℕ
@@ -117,10 +92,6 @@ added_stop stop [] i now total lt wrong so_far = absurd (omega arith)
 added_stop stop (line ∷ lines) i now total lt wrong so_far =
     stops_at with_added_journals one_added (λ n x xs s. refl) stop (line ∷ lines) i line (get_or (line ∷ lines) i line) now total lt refl wrong so_far
 
-pub added_end : (lines : List ContextLine) (i : ℕ) (now : ToldView) (total : Result ToldView ℕ) → length lines ≤ i
-    → with_added_journals i (drop i lines) now ≡ total → total ≡ Ok now
-added_end = all_taken with_added_journals one_added (λ n x xs s. refl) (λ n s. refl)
-
 -- ---- notes
 
 abbrev all_notes : ℕ → List Entry → ToldView → Result ToldView ℕ
@@ -136,7 +107,3 @@ notes_go_on = goes_on all_notes one_note (λ n x xs s. refl)
 pub notes_stop : (stop : Stop) (notes : List Entry) (i : ℕ) (d note : Entry) (now : ToldView) (total : Result ToldView ℕ) → i < length notes → note ≡ get_or notes i d
     → Stops stop (with_line (note_line note) now) → with_lines (map note_line (drop i notes)) now ≡ total → Stops stop total
 notes_stop = stops_at all_notes one_note (λ n x xs s. refl)
-
-pub notes_end : (notes : List Entry) (i : ℕ) (now : ToldView) (total : Result ToldView ℕ) → length notes ≤ i
-    → with_lines (map note_line (drop i notes)) now ≡ total → total ≡ Ok now
-notes_end = all_taken all_notes one_note (λ n x xs s. refl) (λ n s. refl)

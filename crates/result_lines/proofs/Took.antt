@@ -359,47 +359,62 @@ marks_took stamps n (line ∷ next ∷ more) text left =
           left = rest.left;
         }
 
-pub record TookJournals (told new : ToldView) (text : List ℕ) (stamps : Stamps) (number count : ℕ) : Type 0 where
+-- the lines of a journal, the first of which is this word and a number
+abbrev pub headed : List ℕ → Stamps → ℕ → List Mark → List (List ℕ)
+headed word stamps n marks = ((word ++ decimal n) ++ codes "\n") ∷ map (mark_line (are_printed stamps)) marks
+
+pub record TookJournals (word : List ℕ) (told new : ToldView) (text : List ℕ) (stamps : Stamps) (number count : ℕ) : Type 0 where
   pub journals : List (List Mark)
   pub size : length journals ≡ count
   pub after : List ℕ
-  pub parts : text ≡ concat (all_lines (numbered (journal_lines (are_printed stamps)) number journals)) ++ after
+  pub parts : text ≡ concat (all_lines (numbered (headed word stamps) number journals)) ++ after
   pub grew : GrewJournals told new after journals
 
+-- one journal
+abbrev pub headed_step : List ℕ → Stamps → ℕ → ToldView → Result ToldView ℕ
+headed_step word stamps n told = with_line ((word ++ decimal n) ++ codes "\n") told >>= (λ (t : ToldView). Ok (journal_ended t (marks_of stamps t.lines)))
+
+-- one for each line
+module _ (word : List ℕ) (stamps : Stamps) (all : ℕ → List ContextLine → ToldView → Result ToldView ℕ) (is_nil : (n : ℕ) (told : ToldView) → all n [] told ≡ Ok told)
+    (is_cons : (n : ℕ) (line : ContextLine) (lines : List ContextLine) (told : ToldView) → all n (line ∷ lines) told ≡ (headed_step word stamps n told >>= all (n + 1) lines)) where
+  pub headed_took : (number : ℕ) (lines : List ContextLine) (told new : ToldView) (text : List ℕ) → IsLeft told.lines text
+      → all number lines told ≡ Ok new → TookJournals word told new text stamps number (length lines)
+  headed_took number [] told new text left e =
+      let same : told ≡ new = ok_is told new (sym (is_nil number told) ∙ e) in
+      record { journals = []; size = refl; after = text; parts = refl; grew = subst (λ (n : ToldView). GrewJournals told n text []) same (journals_stayed told text left) }
+  headed_took number (line ∷ lines) told new text left e =
+      let head = (word ++ decimal number) ++ codes "\n" in
+      let found = step_ok (headed_step word stamps number told) (all (number + 1) lines) new (sym (is_cons number line lines told) ∙ e) in
+      let mid : ToldView = found.0 in
+      let f1 = step_ok (with_line head told) _ mid found.1 in
+      let t1 : ToldView = f1.0 in
+      let a = line_took head told t1 text left f1.1 in
+      let marks = marks_took stamps t1.lines.number t1.lines.parts a.after a.grew.left in
+      let own = (marks_of stamps t1.lines).marks in
+      let ended : ToldView = journal_ended t1 (marks_of stamps t1.lines) in
+      let same : ended ≡ mid = ok_is ended mid f1.2 in
+      let first : GrewJournals told mid marks.after (own ∷ []) =
+      subst (λ (n : ToldView). GrewJournals told n marks.after (own ∷ [])) same
+      (journal_grew told t1 a.after marks.after (marks_of stamps t1.lines) a.grew marks.left) in
+      let b = headed_took (number + 1) lines mid new marks.after first.left found.2 in
+      let here = concat (map (mark_line (are_printed stamps)) own) in
+      let rest = all_lines (numbered (headed word stamps) (number + 1) b.journals) in
+      record {
+        journals = own ∷ b.journals;
+        size = ap (λ (n : ℕ). suc n) b.size;
+        after = b.after;
+        parts =
+            a.parts ∙ ap (λ (bytes : List ℕ). head ++ bytes) (marks.parts ∙ ap (λ (bytes : List ℕ). here ++ bytes) b.parts)
+            ∙ sym (append_assoc head here (concat rest ++ b.after))
+            ∙ sym (append_assoc (head ++ here) (concat rest) b.after)
+            ∙ ap (λ (bytes : List ℕ). bytes ++ b.after) (sym (concat-append (headed word stamps number own) rest));
+        grew = journals_more told mid new marks.after b.after (own ∷ []) b.journals first b.grew;
+      }
+
 pub journals_took : (stamps : Stamps) (number : ℕ) (lines : List ContextLine) (told new : ToldView) (text : List ℕ) → IsLeft told.lines text
-    → with_journals stamps number lines told ≡ Ok new → TookJournals told new text stamps number (length lines)
+    → with_journals stamps number lines told ≡ Ok new → TookJournals (codes "journal ") told new text stamps number (length lines)
 unfolding with_journal
-journals_took stamps number [] told new text left e =
-    let same : told ≡ new = ok_is told new e in
-    record { journals = []; size = refl; after = text; parts = refl; grew = subst (λ (n : ToldView). GrewJournals told n text []) same (journals_stayed told text left) }
-journals_took stamps number (line ∷ lines) told new text left e =
-    let head = (codes "journal " ++ decimal number) ++ codes "\n" in
-    let found = step_ok (with_journal stamps number told) (with_journals stamps (number + 1) lines) new e in
-    let mid : ToldView = found.0 in
-    let f1 = step_ok (with_line head told) _ mid found.1 in
-    let t1 : ToldView = f1.0 in
-    let a = line_took head told t1 text left f1.1 in
-    let marks = marks_took stamps t1.lines.number t1.lines.parts a.after a.grew.left in
-    let own = (marks_of stamps t1.lines).marks in
-    let ended : ToldView = journal_ended t1 (marks_of stamps t1.lines) in
-    let same : ended ≡ mid = ok_is ended mid f1.2 in
-    let first : GrewJournals told mid marks.after (own ∷ []) =
-    subst (λ (n : ToldView). GrewJournals told n marks.after (own ∷ [])) same
-    (journal_grew told t1 a.after marks.after (marks_of stamps t1.lines) a.grew marks.left) in
-    let b = journals_took stamps (number + 1) lines mid new marks.after first.left found.2 in
-    let here = concat (map (mark_line (are_printed stamps)) own) in
-    let rest = all_lines (numbered (journal_lines (are_printed stamps)) (number + 1) b.journals) in
-    record {
-      journals = own ∷ b.journals;
-      size = ap (λ (n : ℕ). suc n) b.size;
-      after = b.after;
-      parts =
-          a.parts ∙ ap (λ (bytes : List ℕ). head ++ bytes) (marks.parts ∙ ap (λ (bytes : List ℕ). here ++ bytes) b.parts)
-          ∙ sym (append_assoc head here (concat rest ++ b.after))
-          ∙ sym (append_assoc (head ++ here) (concat rest) b.after)
-          ∙ ap (λ (bytes : List ℕ). bytes ++ b.after) (sym (concat-append (journal_lines (are_printed stamps) number own) rest));
-      grew = journals_more told mid new marks.after b.after (own ∷ []) b.journals first b.grew;
-    }
+journals_took stamps = headed_took (codes "journal ") stamps (with_journals stamps) (λ n told. refl) (λ n line lines told. refl)
 
 -- ---- the whole result
 

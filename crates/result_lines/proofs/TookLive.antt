@@ -24,51 +24,14 @@ use Rattle.result_lines.specs.Printed.{told_lanes, lines_told, guesses_told}
 use Rattle.result_lines.specs.PrintedLive.{told_live_text, IsLiveTextOf}
 use Rattle.result_lines.proofs.FirstLines.{step_ok, ok_is, IsLeft}
 use Rattle.result_lines.proofs.Growing.{concat-append, batches, GrewJournals, journals_stayed, journals_more, journal_grew}
-use Rattle.result_lines.proofs.Took.{line_took, lines_took, lanes_took, marks_took, journals_took, setup_took, end_took, no_guesses}
+use Rattle.result_lines.proofs.Took.{line_took, lines_took, lanes_took, TookJournals, headed_took, journals_took, setup_took, end_took, no_guesses}
 
 -- ---- journals of contexts that are added
 
-record TookAdded (told new : ToldView) (text : List ℕ) (name count : ℕ) : Type 0 where
-  journals : List (List Mark)
-  size : length journals ≡ count
-  after : List ℕ
-  parts : text ≡ concat (all_lines (numbered added_journal_lines name journals)) ++ after
-  grew : GrewJournals told new after journals
-
 added_took : (name : ℕ) (lines : List ContextLine) (told new : ToldView) (text : List ℕ) → IsLeft told.lines text
-    → with_added_journals name lines told ≡ Ok new → TookAdded told new text name (length lines)
+    → with_added_journals name lines told ≡ Ok new → TookJournals (codes "journal +") told new text PlacesAndNotes name (length lines)
 unfolding with_added_journal
-added_took name [] told new text left e =
-    let same : told ≡ new = ok_is told new e in
-    record { journals = []; size = refl; after = text; parts = refl; grew = subst (λ (n : ToldView). GrewJournals told n text []) same (journals_stayed told text left) }
-added_took name (line ∷ lines) told new text left e =
-    let head = (codes "journal +" ++ decimal name) ++ codes "\n" in
-    let found = step_ok (with_added_journal name told) (with_added_journals (name + 1) lines) new e in
-    let mid : ToldView = found.0 in
-    let f1 = step_ok (with_line head told) _ mid found.1 in
-    let t1 : ToldView = f1.0 in
-    let a = line_took head told t1 text left f1.1 in
-    let marks = marks_took PlacesAndNotes t1.lines.number t1.lines.parts a.after a.grew.left in
-    let own = (marks_of PlacesAndNotes t1.lines).marks in
-    let ended : ToldView = journal_ended t1 (marks_of PlacesAndNotes t1.lines) in
-    let same : ended ≡ mid = ok_is ended mid f1.2 in
-    let first : GrewJournals told mid marks.after (own ∷ []) =
-    subst (λ (n : ToldView). GrewJournals told n marks.after (own ∷ [])) same
-    (journal_grew told t1 a.after marks.after (marks_of PlacesAndNotes t1.lines) a.grew marks.left) in
-    let b = added_took (name + 1) lines mid new marks.after first.left found.2 in
-    let here = concat (map (mark_line true) own) in
-    let rest = all_lines (numbered added_journal_lines (name + 1) b.journals) in
-    record {
-      journals = own ∷ b.journals;
-      size = ap (λ (n : ℕ). suc n) b.size;
-      after = b.after;
-      parts =
-          a.parts ∙ ap (λ (bytes : List ℕ). head ++ bytes) (marks.parts ∙ ap (λ (bytes : List ℕ). here ++ bytes) b.parts)
-          ∙ sym (append_assoc head here (concat rest ++ b.after))
-          ∙ sym (append_assoc (head ++ here) (concat rest) b.after)
-          ∙ ap (λ (bytes : List ℕ). bytes ++ b.after) (sym (concat-append (added_journal_lines name own) rest));
-      grew = journals_more told mid new marks.after b.after (own ∷ []) b.journals first b.grew;
-    }
+added_took = headed_took (codes "journal +") PlacesAndNotes with_added_journals (λ n told. refl) (λ n line lines told. refl)
 
 -- ---- all journals
 

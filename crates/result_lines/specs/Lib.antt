@@ -13,4 +13,3 @@ pub mod LiveVerdicts
 pub mod Computed
 pub mod OneRun
 pub mod VerdictText
-pub mod Opened

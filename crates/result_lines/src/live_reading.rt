@@ -9,7 +9,7 @@ ghost use Rattle.result_lines.specs.Places.{Tells};
 ghost use Rattle.result_lines.specs.Told.{with_lines, with_setup, nothing_yet};
 ghost use Rattle.result_lines.specs.ToldLive.{with_added_journals, with_all_journals, told_live_by};
 
-use crate::reading::{read_journals, read_lanes, read_setup};
+use crate::reading::{SetUp, read_journals, read_lanes, read_setup};
 use crate::stamps::Stamps;
 use crate::stop::Stop;
 use crate::told::Told;
@@ -82,26 +82,31 @@ fn line_replies<'a>(plan: &Plan, replies: &'a [ContextReply]) -> &'a [ContextRep
     }
 }
 
+// The lanes of a plan as they were served, and the notes that say so.
+#[derive(Clone, Copy)]
+struct Served<'a> {
+    lanes: &'a [PlainList<CallLine>],
+    notes: &'a [Entry],
+}
+
 // All lines of a text of which nothing is read yet.
 #[tactic(auto, unfolding(crate::specs::ToldLive::told_live_by))]
 fn read_live_lines(
     told: &mut Told,
     alloc: Global,
     plan: &Plan,
-    keys: &[KeyReply],
-    replies: &[ContextReply],
-    contexts: &[Option<Context>],
-    lanes: &[PlainList<CallLine>],
-    notes: &[Entry],
+    set_up: &SetUp,
+    served: &Served,
 ) -> Result<(), Stop>
-    requires lanes { lanes.now ≡ (looked_up_plan plan.now notes.now).lanes }
+    requires lanes { served.now.lanes.now ≡ (looked_up_plan plan.now served.now.notes.now).lanes }
     ensures { (text : List ℕ) → told.old ≡ nothing_yet text → Tells (λ _. told.new) result
-        (told_live_by plan.now keys.now replies.now contexts.now notes.now text) }
+        (told_live_by plan.now set_up.now.keys.now set_up.now.replies.now set_up.now.contexts.now
+        served.now.notes.now text) }
 {
-    read_setup(told, alloc, 2, keys, line_replies(plan, replies))?;
-    read_lanes(told, alloc, contexts, lanes)?;
+    read_setup(told, alloc, 2, set_up.keys, line_replies(plan, set_up.replies))?;
+    read_lanes(told, alloc, set_up.contexts, served.lanes)?;
     read_all_journals(told, alloc, plan)?;
-    read_table_lines(told, alloc, notes)?;
+    read_table_lines(told, alloc, served.notes)?;
     told.end()
 }
 
@@ -127,9 +132,13 @@ pub fn read_live_result<'a>(
     ensures { Tells (λ told. told) result
         (told_live_by plan.now keys.now replies.now contexts.now notes.now text.now) }
 {
+    let set_up = SetUp {
+        keys,
+        replies,
+        contexts,
+    };
+    let served = Served { lanes, notes };
     let mut told = Told::nothing_yet(alloc, text);
-    read_live_lines(
-        &mut told, alloc, plan, keys, replies, contexts, lanes, notes,
-    )?;
+    read_live_lines(&mut told, alloc, plan, &set_up, &served)?;
     Ok(told)
 }

@@ -97,21 +97,23 @@ fn stamps_of(version: u8) -> Stamps
     }
 }
 
+/// What the set-up of a plan gave: the replies to its key lines and to its contexts, and the contexts
+/// that stand.
+#[derive(Clone, Copy)]
+pub(crate) struct SetUp<'a> {
+    pub(crate) keys: &'a [KeyReply],
+    pub(crate) replies: &'a [ContextReply],
+    pub(crate) contexts: &'a [Option<Context>],
+}
+
 // All lines of a text of which nothing is read yet.
 #[tactic(auto, unfolding(crate::specs::Told::told_by))]
-fn read_lines(
-    told: &mut Told,
-    alloc: Global,
-    plan: &Plan,
-    keys: &[KeyReply],
-    replies: &[ContextReply],
-    contexts: &[Option<Context>],
-) -> Result<(), Stop>
+fn read_lines(told: &mut Told, alloc: Global, plan: &Plan, set_up: &SetUp) -> Result<(), Stop>
     ensures { (text : List ℕ) → told.old ≡ nothing_yet text → Tells (λ _. told.new) result
-        (told_by plan.now keys.now replies.now contexts.now text) }
+        (told_by plan.now set_up.now.keys.now set_up.now.replies.now set_up.now.contexts.now text) }
 {
-    read_setup(told, alloc, plan.version, keys, replies)?;
-    read_lanes(told, alloc, contexts, plan.lanes.as_slice())?;
+    read_setup(told, alloc, plan.version, set_up.keys, set_up.replies)?;
+    read_lanes(told, alloc, set_up.contexts, plan.lanes.as_slice())?;
     read_journals(
         told,
         alloc,
@@ -138,7 +140,12 @@ pub fn read_result<'a>(
     ensures { Tells (λ told. told) result
         (told_by plan.now keys.now replies.now contexts.now text.now) }
 {
+    let set_up = SetUp {
+        keys,
+        replies,
+        contexts,
+    };
     let mut told = Told::nothing_yet(alloc, text);
-    read_lines(&mut told, alloc, plan, keys, replies, contexts)?;
+    read_lines(&mut told, alloc, plan, &set_up)?;
     Ok(told)
 }

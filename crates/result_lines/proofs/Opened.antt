@@ -1,4 +1,4 @@
--- ---- for the proofs: what the openings of a lane print
+-- What the openings of a lane print
 use Rattle.std.specs.Prelude.{ℕ, ◌≡◌, ◌+◌, List, [], ◌∷◌, length, take, slice_index}
 use Rattle.context_books.specs.Batches.{Ask, Nothing, ToSeal, ToOpen, ToOpenAll, lane_of}
 use Rattle.context_books.specs.Guesses.{missed_in, guess_count, guess_at}
