@@ -9,10 +9,10 @@ use Rattle.call_places.specs.declared.spans.Span.{Span}
 use Rattle.call_places.specs.Spans.{span_bytes}
 use Rattle.hpke_context.specs.Answers.{Cipher, Seal, Unseal, answer, run}
 use Rattle.hpke_context.specs.Contexts.{ContextView, cipher_of, exported_by}
-use Rattle.context_books.specs.Batches.{Ask, Nothing, lane_of}
+use Rattle.context_books.specs.Batches.{Ask, lane_of}
 use Rattle.context_books.specs.Legal.{due_after}
 use Rattle.context_books.specs.Guesses.{guess_of, guess_at, guess_count, missed}
-use Rattle.context_books.specs.Entries.{steps_from, numbers_from}
+use Rattle.context_books.specs.Entries.{numbers_from}
 use Rattle.context_core.specs.Core.{Core}
 use Rattle.context_books.specs.declared.book.Draw.{Draw}
 use Rattle.context_books.specs.Openings.{unseals}
@@ -105,28 +105,6 @@ module _ (plan : Plan) (contexts : List (Option ContextView)) (w : Core) (l numb
       ∙ export_lines all l number context exporter size view
       (ap (call_refusal contexts) (sym is) ∙ free) stands)
 
-  -- no other call ends as it began
-  pub seal_asks : (context : ℕ) (item : Spans) → call ≡ calls.Seal context item
-      → call_refusal contexts call ≡ None → ask_of plan contexts call ≡ Nothing → ⊥
-  seal_asks context item is free none =
-      (let f : asked_by plan (calls.Seal context item) ≡ Nothing =
-      ap (asked_by plan) (sym is) ∙ ap (λ r. ask_unless r (asked_by plan call)) (sym free) ∙ none
-      in cc)
-
-  pub unseal_asks : (context : ℕ) (item : Spans) → call ≡ calls.Unseal context item
-      → call_refusal contexts call ≡ None → ask_of plan contexts call ≡ Nothing → ⊥
-  unseal_asks context item is free none =
-      (let f : asked_by plan (calls.Unseal context item) ≡ Nothing =
-      ap (asked_by plan) (sym is) ∙ ap (λ r. ask_unless r (asked_by plan call)) (sym free) ∙ none
-      in cc)
-
-  pub unseal_all_asks : (context first count : ℕ) → call ≡ calls.UnsealAll context first count
-      → call_refusal contexts call ≡ None → ask_of plan contexts call ≡ Nothing → ⊥
-  unseal_all_asks context first count is free none =
-      (let f : asked_by plan (calls.UnsealAll context first count) ≡ Nothing =
-      ap (asked_by plan) (sym is) ∙ ap (λ r. ask_unless r (asked_by plan call)) (sym free) ∙ none
-      in cc)
-
   -- a seal
   pub sealed_on : (context : ℕ) (item : Spans) (view : ContextView) (drawn : Draw) (new : Progress)
       → call ≡ calls.Seal context item → standing_at contexts context ≡ Some view
@@ -162,11 +140,6 @@ module _ (plan : Plan) (contexts : List (Option ContextView)) (w : Core) (l numb
 
     abbrev opened : List (List ℕ)
     opened = map answer_line (run (cipher_of view) first (unseals plan.pool items))
-
-    pub settled_steps : steps_at plan call steps start
-        ≡ steps_from (cipher_of view) first (unseals plan.pool items)
-    settled_steps = has.steps
-        ∙ ap (λ (x : Cipher). steps_from x first (unseals plan.pool items)) cipher_of_call
 
     -- by the kind of the call
     by_kind : (x : CallLine) → call ≡ x → (new mid : Progress)

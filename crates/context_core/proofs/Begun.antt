@@ -7,7 +7,7 @@ use Rattle.std.proofs.lemmas.List.{length-map, length-replicate, get_or_past, ge
 use Rattle.std.proofs.lemmas.List.FromFn.{get_or-map-range_with_len, length-map-range_with_len}
 use Rattle.std.proofs.lemmas.Option.{slice_get-map, slice_get_within, slice_get-get_or, get_or_from_slice_get}
 use Rattle.hpke_context.specs.Contexts.{ContextView}
-use Rattle.context_books.specs.Batches.{Batch, Ask, all_asked, lane_of, on}
+use Rattle.context_books.specs.Batches.{Batch, Ask, all_asked, lane_of}
 use Rattle.context_core.specs.Core as core
 use Rattle.context_core.specs.Core.{Core, all_tasks, at_first, start}
 use Rattle.context_core.specs.CoreStages as core_steps
@@ -93,9 +93,6 @@ module _ (plan : Plan) (contexts : List (Option ContextView)) (within : IsWithin
   fresh_tasks : (asks : List Ask) → all_tasks 0 asks ≡ tasks_at core_steps.Fresh 0 asks
   fresh_tasks [] = refl
   fresh_tasks (a ∷ asks) = refl
-
-  none_asked : (n : ℕ) → on n [] ≡ []
-  none_asked n = refl
 
   first_lane : (l : ℕ) → l < length plan.lanes
       → slice_get first.lanes l ≡ Some (lane_at (lane_of batch l) 0 core_steps.Fresh 0 [])

@@ -1,10 +1,10 @@
 -- All lanes, event by event.
 use Rattle.std.proofs.Common.{◌≡◌, ◌≢◌, ◌<◌, ◌≤◌, ℕ, zero, suc, ◌+◌, ◌*◌, ◌-◌, List, [], ◌∷◌, ◌++◌, length, map, take, drop, get_or, sym, refl, ap, ◌∙◌, subst, arith, append_assoc, Option, Some, None, inl, inr}
-use Rattle.std.specs.Prelude.{slice_get, slice_set, slice_index_or, replicate, sum_by}
+use Rattle.std.specs.Prelude.{slice_get, slice_set, replicate, sum_by}
 use Rattle.std.proofs.lemmas.Bool.{cases_eq, cases_lt}
 use Rattle.std.proofs.lemmas.List.{length-set, length-map}
 use Rattle.std.proofs.lemmas.List.Sums.{sum_by-cons}
-use Rattle.std.proofs.lemmas.Option.{slice_get_within, slice_get-get_or, get_or_from_slice_get}
+use Rattle.std.proofs.lemmas.Option.{slice_get_within, slice_get-get_or}
 use Rattle.hpke_context.specs.Answers.{Cipher}
 use Rattle.hpke_context.specs.Contexts.{ContextView}
 use Rattle.context_books.specs.Batches.{Batch, Ask, Nothing, ToSeal, ToOpen, ToOpenAll, Spot, lane_of}
@@ -316,10 +316,6 @@ module _ (plan : Plan) (contexts : List (Option ContextView)) where
 pub read_at : {X : Type 0} (xs : List X) (i : ℕ) (x : X) → i < length xs → x ≡ get_or xs i x
     → slice_get xs i ≡ Some x
 read_at xs i x low is = slice_get-get_or xs i x low ∙ ap Some (sym is)
-
-pub calls_read : (lanes : List (List CallLine)) (l : ℕ) (calls : List CallLine) → l < length lanes
-    → calls ≡ get_or lanes l calls → slice_index_or lanes l [] ≡ calls
-calls_read lanes l calls low is = get_or_from_slice_get lanes l calls [] (read_at lanes l calls low is)
 
 -- ---- lane after lane to its end
 

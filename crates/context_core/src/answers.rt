@@ -11,10 +11,12 @@ ghost use Rattle.context_books.specs.Standing.{AreOfLines, call_refusal};
 ghost use Rattle.context_core.specs.Core.{Core};
 ghost use Rattle.context_core.specs.Following.{with_guess, AllDone, LaneIsAnswered, MayReply, Replies};
 
-use crate::lanes::{Lane, Stage};
+use crate::lanes::{Lane, Stage, calls_of};
 use batch_plans::{Batch, CallLine, LaneProgress, Plan, context_of};
 use call_places::Step;
-use context_books::{Draw, export, finish_opening, finish_seal, items_of_opening, refusal_of, refuse, standing};
+use context_books::{
+    Draw, export, finish_opening, finish_seal, items_of_opening, refusal_of, refuse, standing,
+};
 use hpke_context::Context;
 
 // An opening of several messages keeps its guess.
@@ -152,7 +154,7 @@ pub(crate) fn answer_lane(lane: &mut Lane, plan: &Plan, contexts: &[Option<Conte
     ensures { (w : Core) → AllDone plan.now contexts.now w number lane.old
         → LaneIsAnswered plan.now contexts.now w number lane.new.progress }
 {
-    let calls = plan.lanes.as_slice()[number].as_slice();
+    let calls = calls_of(plan, number);
     'calls: for (k, call) in calls.iter().enumerate() {
         answer_call(
             &mut lane.progress,

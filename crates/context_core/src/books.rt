@@ -51,32 +51,48 @@ pub(crate) fn draw(books: &mut Books, number: u32, place: Place) -> Draw
     drawn
 }
 
+/// The items of an opening, which get their places: those of a call of a lane.
+#[derive(Clone, Copy)]
+pub(crate) struct Opening<'a> {
+    pub(crate) context: &'a Context,
+    /// That of the context.
+    pub(crate) number: u32,
+    pub(crate) pool: &'a [u8],
+    pub(crate) items: &'a [Item],
+    pub(crate) lane: u32,
+    pub(crate) call: u32,
+}
+
 /// Gives the items of an opening their places, one after another, and tells which number was due
 /// before them and how many of theirs the guess missed. `steps` gets what became of them, at its front.
 pub(crate) fn settle(
     books: &mut Books,
-    context: &Context,
-    number: u32,
-    pool: &[u8],
-    items: &[Item],
-    lane: u32,
-    call: u32,
+    opening: Opening<'_>,
     table: &GuessTable,
     steps: &mut [Step],
 ) -> (u64, u32)
-    requires cipher { HasCipher context.now }
-    requires limit { (book : BookView) → book_at books.old number ≡ Some book
-        → context.now.limit ≡ book.limit }
-    requires spans { All (ItemIsInPool (length pool.now)) items.now }
-    requires table { IsTableFor context.now pool.now items.now table.now }
-    requires steps { length items.now ≤ length steps.old }
-    requires few { length items.now ≤ 65536 }
-    requires room { MayAdd books.old number lane (length items.now) }
-    ensures { (book : BookView) → book_at books.old number ≡ Some book
-        → Settles books.old books.new number book context.now pool.now items.now lane call
-        table.now.guess result.0 result.1 (take (length items.now) steps.new) }
+    requires cipher { HasCipher opening.context.now }
+    requires limit { (book : BookView) → book_at books.old opening.number ≡ Some book
+        → opening.context.now.limit ≡ book.limit }
+    requires spans { All (ItemIsInPool (length opening.pool.now)) opening.items.now }
+    requires table { IsTableFor opening.context.now opening.pool.now opening.items.now table.now }
+    requires steps { length opening.items.now ≤ length steps.old }
+    requires few { length opening.items.now ≤ 65536 }
+    requires room { MayAdd books.old opening.number opening.lane (length opening.items.now) }
+    ensures { (book : BookView) → book_at books.old opening.entry.number ≡ Some book
+        → Settles books.old books.new opening.entry.number book opening.entry.context.now
+        opening.entry.pool.now opening.entry.items.now opening.entry.lane opening.entry.call
+        table.now.guess result.0 result.1 (take (length opening.entry.items.now) steps.new) }
 {
     let stamp = books.places;
+    let Opening {
+        context,
+        number,
+        pool,
+        items,
+        lane,
+        call,
+    } = opening;
     let Some(book) = &mut books.books[number as usize] else {
         unreachable!()
     };

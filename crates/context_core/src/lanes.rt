@@ -1,10 +1,11 @@
 //! A lane on its way: its next step.
 
 ghost use Rattle.std.specs.Prelude.{ℕ, ◌≡◌, ◌<◌, length};
+ghost use Rattle.context_books.specs.LaneCalls.{lane_calls};
 ghost use Rattle.context_core.specs.declared.books.Books.{Books};
 ghost use Rattle.context_core.specs.Following.{Finishes, MayStep, Steps};
 
-use crate::books::{Books, draw, due, settle};
+use crate::books::{Books, Opening, draw, due, settle};
 use batch_plans::{CallLine, LaneProgress, Plan, context_of};
 use call_places::{Place, Step};
 use context_books::{Draw, items_of_opening, refusal_of, standing};
@@ -47,6 +48,14 @@ pub(crate) struct Lane {
     pub(crate) settled: usize,
     /// The answers, of which none is put before all calls are done.
     pub(crate) progress: LaneProgress,
+}
+
+/// The calls of the lane of this number.
+pub(crate) fn calls_of(plan: &Plan, lane: usize) -> &[CallLine]
+    requires { lane < length plan.now.lanes }
+    ensures { result.now ≡ lane_calls plan.now lane }
+{
+    plan.lanes.as_slice()[lane].as_slice()
 }
 
 impl Lane {
@@ -170,17 +179,15 @@ impl Lane {
         let start = self.settled;
         let steps = &mut self.steps[start..];
         let call = self.call as u32;
-        let (first, missed) = settle(
-            books,
+        let opening = Opening {
             context,
             number,
             pool,
             items,
             lane,
             call,
-            &self.table,
-            steps,
-        );
+        };
+        let (first, missed) = settle(books, opening, &self.table, steps);
         self.settled = start + items.len();
         self.stage = Stage::Settled {
             guess: self.table.guess(),

@@ -15,7 +15,7 @@ ghost use Rattle.context_core.specs.Preparing.{with_answers, answers_of, IsEnded
 
 use crate::answerers::{Answerer, ByCaller, ByThreads};
 use crate::books::Books;
-use crate::lanes::Lane;
+use crate::lanes::{Lane, calls_of};
 use crate::preparing::{books, lanes, no_answers};
 use aes_gcm::Checks;
 use batch_plans::{Answers, LaneAnswerList, LaneAnswers, LaneProgress, Plan};
@@ -51,9 +51,9 @@ impl Rehearsal {
         if i >= self.lanes.len() {
             return;
         }
-        let calls = &plan.lanes.as_slice()[i];
+        let calls = calls_of(plan, i);
         let lane = &mut self.lanes[i];
-        if let Some(call) = calls.as_slice().get(lane.call) {
+        if let Some(call) = calls.get(lane.call) {
             lane.step(
                 crew,
                 plan,
@@ -103,12 +103,9 @@ impl Rehearsal {
             (replicate (4 * length (lane_calls plan.now number)) number))
             self.new.lanes.items self.new.books }
     {
-        let calls = plan.lanes.as_slice()[number as usize].as_slice().len();
+        let calls = calls_of(plan, number as usize).len();
         'calls: for _call in 0..calls {
-            self.event(crew, plan, contexts, number);
-            self.event(crew, plan, contexts, number);
-            self.event(crew, plan, contexts, number);
-            self.event(crew, plan, contexts, number);
+            self.follow(crew, plan, contexts, &[number, number, number, number]);
         }
     }
 

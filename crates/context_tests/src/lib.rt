@@ -1,6 +1,5 @@
 //! Tests of the crates of the core, over published messages: tables of verdicts (speculative_open),
-//! books (context_books), replies (lane_replies), set-ups (context_table) and rehearsals
-//! (context_core).
+//! books and replies (context_books), set-ups (context_table) and rehearsals (context_core).
 //!
 //! They are a crate of their own, so that each of those crates is proved without them, and use
 //! public calls alone.

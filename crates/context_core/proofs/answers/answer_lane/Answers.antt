@@ -2,7 +2,6 @@ use Rattle.std.proofs.Common.{◌≡◌, length, get_or, refl, sym, ap, ◌∙�
 use Rattle.context_books.specs.Answered.{KeepsUp}
 use Rattle.context_books.specs.LaneCalls.{lane_calls}
 use Rattle.context_core.specs.Following.{run_of}
-use Rattle.context_core.proofs.Events.{calls_read}
 use Rattle.context_core.proofs.Answering.{begun_up, may_reply}
 use Rattle.context_core.proofs.answers.answer_lane.Goals as goal
 
@@ -20,19 +19,16 @@ answer_call-requires c =
     let d = c.requires.done.1 in
     let plan = c.args.plan.now in
     let lane = c.args.lane.now in
-    let calls_are = calls_read plan.lanes c.args.number c.index-as_slice-number.result c.requires.there
-    (c.index-as_slice-number.is
-    ∙ ap (λ ls. get_or ls c.args.number c.index-as_slice-number.result) c.as_slice.ensures.items)
-    ∙ sym c.as_slice-calls.ensures.items in (
+    let calls_are = sym c.calls_of-calls.ensures in (
       w,
       c.args.number,
       c.calls.k,
       lane.settled,
       may_reply plan c.args.contexts.now c.requires.within c.requires.standing c.args.number
-          c.requires.there w lane d c.calls.k c.as_slice-calls.result.now _ _
-          c.as_slice-in-calls.result.now c.index.result.now c.calls.lane.progress calls_are
+          c.requires.there w lane d c.calls.k c.calls_of-calls.result.now _ _
+          c.as_slice.result.now c.index.result.now c.calls.lane.progress calls_are
           c.calls-test.true refl
-          (c.as_slice-in-calls.ensures.value ∙ c.calls.invariant.steps)
+          (c.as_slice.ensures.value ∙ c.calls.invariant.steps)
           (c.index.ensures ∙ ap (λ ss. get_or ss c.calls.k c.index.result.now) c.calls.invariant.done)
           (c.calls.invariant.keeps w d),
     )
@@ -41,16 +37,13 @@ pub calls-preserved : goal.calls-preserved
 calls-preserved c =
     let plan = c.args.plan.now in
     let lane = c.args.lane.now in
-    let calls_are = calls_read plan.lanes c.args.number c.index-as_slice-number.result c.requires.there
-    (c.index-as_slice-number.is
-    ∙ ap (λ ls. get_or ls c.args.number c.index-as_slice-number.result) c.as_slice.ensures.items)
-    ∙ sym c.as_slice-calls.ensures.items in
+    let calls_are = sym c.calls_of-calls.ensures in
     record {
       keeps = λ w d. c.answer_call.ensures w c.args.number c.calls.k lane.settled
           (may_reply plan c.args.contexts.now c.requires.within c.requires.standing c.args.number
-          c.requires.there w lane d c.calls.k c.as_slice-calls.result.now _ _
-          c.as_slice-in-calls.result.now c.index.result.now c.calls.lane.progress calls_are
-          c.calls-test.true refl (c.as_slice-in-calls.ensures.value ∙ c.calls.invariant.steps)
+          c.requires.there w lane d c.calls.k c.calls_of-calls.result.now _ _
+          c.as_slice.result.now c.index.result.now c.calls.lane.progress calls_are
+          c.calls-test.true refl (c.as_slice.ensures.value ∙ c.calls.invariant.steps)
           (c.index.ensures ∙ ap (λ ss. get_or ss c.calls.k c.index.result.now) c.calls.invariant.done)
           (c.calls.invariant.keeps w d));
       steps = c.calls.invariant.steps;
@@ -60,10 +53,7 @@ calls-preserved c =
 pub returns : goal.returns
 returns c = λ w d.
     let plan = c.args.plan.now in
-    let calls_are = calls_read plan.lanes c.args.number c.index-as_slice-number.result c.requires.there
-    (c.index-as_slice-number.is
-    ∙ ap (λ ls. get_or ls c.args.number c.index-as_slice-number.result) c.as_slice.ensures.items)
-    ∙ sym c.as_slice-calls.ensures.items in
+    let calls_are = sym c.calls_of-calls.ensures in
     let end : c.calls.k ≡ length (lane_calls plan c.args.number) = omega (
       arith,
       c.calls-test.false,

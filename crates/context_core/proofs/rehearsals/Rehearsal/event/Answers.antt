@@ -1,4 +1,4 @@
-use Rattle.std.proofs.Common.{◌≡◌, ◌<◌, ◌≤◌, length, List, get_or, sym, ap, ◌∙◌, subst, arith, Some, None}
+use Rattle.std.proofs.Common.{◌≡◌, ◌<◌, ◌≤◌, length, List, sym, ap, ◌∙◌, subst, arith, Some, None}
 use Rattle.std.specs.Prelude.{slice_get, slice_set}
 use Rattle.std.proofs.lemmas.List.{set-get_or}
 use Rattle.std.proofs.lemmas.Option.{slice_get_past}
@@ -7,7 +7,7 @@ use Rattle.context_books.specs.Asks.{batch_of, cipher_at}
 use Rattle.context_core.specs.declared.lanes.Lane.{Lane}
 use Rattle.context_books.specs.LaneCalls.{lane_calls}
 use Rattle.context_core.specs.Following.{MayStep, IsRehearsal, Follows}
-use Rattle.context_core.proofs.Events.{read_at, calls_read, few_places, lane_steps, idle_event, not_there_event}
+use Rattle.context_core.proofs.Events.{read_at, few_places, lane_steps, idle_event, not_there_event}
 use Rattle.context_core.proofs.rehearsals.Rehearsal.event.Goals as goal
 
 pub returns-then-i-len : goal.returns-then-i-len
@@ -24,6 +24,15 @@ returns-then-i-len g c = λ w t.
     ) in
     subst (λ (v : Core). IsRehearsal plan contexts v lanes books)
     (sym (not_there_event plan contexts w lanes books c.args.number t past)) t
+
+pub calls_of-calls-requires : goal.calls_of-calls-requires
+calls_of-calls-requires g c = omega (
+  arith,
+  c.len.ensures,
+  c.args.self.now.lanes.ok.0,
+  c.if-i-len.false,
+  c.requires.follows.1.count,
+)
 
 pub step-requires-clause-may : goal.step-requires-clause-may
 step-requires-clause-may g c =
@@ -43,14 +52,9 @@ step-requires-clause-may g c =
     ) in
     let there : n < length plan.lanes = omega (arith, t.count) in
     let at = read_at lanes n lane low c.index_mut-lane.ensures.value in
-    let calls_are = c.as_slice-2.ensures.items in
-    let found : lane_calls plan n ≡ c.as_slice-2.result.now =
-    calls_read plan.lanes n c.index-as_slice-i.result there
-    (c.index-as_slice-i.is ∙ ap (λ ls. get_or ls n c.index-as_slice-i.result) c.as_slice.ensures.items)
-    ∙ sym calls_are in
     let call_is : slice_get (lane_calls plan n) lane.call ≡ Some call =
-    ap (λ cs. slice_get cs lane.call) found
-    ∙ read_at c.as_slice-2.result.now lane.call call c.in-Some.ensures.lookup.3.0
+    ap (λ cs. slice_get cs lane.call) (sym c.calls_of-calls.ensures)
+    ∙ read_at c.calls_of-calls.result.now lane.call call c.in-Some.ensures.lookup.3.0
     (c.in-Some.ensures.lookup.3.1 call) in
     subst (λ l. MayStep plan contexts l lane books call) (sym c.from.ensures) (record {
       within = c.requires.within;
@@ -79,14 +83,9 @@ returns-in-Some g c = λ w t.
     ) in
     let there : n < length plan.lanes = omega (arith, t.count) in
     let at = read_at lanes n lane low c.index_mut-lane.ensures.value in
-    let calls_are = c.as_slice-2.ensures.items in
-    let found : lane_calls plan n ≡ c.as_slice-2.result.now =
-    calls_read plan.lanes n c.index-as_slice-i.result there
-    (c.index-as_slice-i.is ∙ ap (λ ls. get_or ls n c.index-as_slice-i.result) c.as_slice.ensures.items)
-    ∙ sym calls_are in
     let call_is : slice_get (lane_calls plan n) lane.call ≡ Some call =
-    ap (λ cs. slice_get cs lane.call) found
-    ∙ read_at c.as_slice-2.result.now lane.call call c.in-Some.ensures.lookup.3.0
+    ap (λ cs. slice_get cs lane.call) (sym c.calls_of-calls.ensures)
+    ∙ read_at c.calls_of-calls.result.now lane.call call c.in-Some.ensures.lookup.3.0
     (c.in-Some.ensures.lookup.3.1 call) in
     let number_is = c.from.ensures in
     let follows : Follows plan contexts w n lane books =
@@ -112,16 +111,10 @@ returns-in_default g c = λ w t.
       c.args.self.now.lanes.ok.0,
       c.if-i-len.false,
     ) in
-    let there : n < length plan.lanes = omega (arith, t.count) in
     let at = read_at lanes n lane low c.index_mut-lane.ensures.value in
-    let calls_are = c.as_slice-2.ensures.items in
-    let found : lane_calls plan n ≡ c.as_slice-2.result.now =
-    calls_read plan.lanes n c.index-as_slice-i.result there
-    (c.index-as_slice-i.is ∙ ap (λ ls. get_or ls n c.index-as_slice-i.result) c.as_slice.ensures.items)
-    ∙ sym calls_are in
     let none : slice_get (lane_calls plan n) lane.call ≡ None =
-    ap (λ cs. slice_get cs lane.call) found
-    ∙ slice_get_past c.as_slice-2.result.now lane.call c.in_default.ensures.lookup.3 in
+    ap (λ cs. slice_get cs lane.call) (sym c.calls_of-calls.ensures)
+    ∙ slice_get_past c.calls_of-calls.result.now lane.call c.in_default.ensures.lookup.3 in
     let same : slice_set lanes n lane ≡ lanes =
     ap (λ (x : Lane). slice_set lanes n x) c.index_mut-lane.ensures.value ∙ set-get_or lanes n lane in
     subst (λ (xs : List Lane). IsRehearsal plan contexts
