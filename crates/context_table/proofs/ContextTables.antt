@@ -1,5 +1,5 @@
 -- The table of contexts as it grows.
-use Rattle.std.proofs.Common.{◌≡◌, ◌<◌, ◌+◌, ℕ, List, [], ◌∷◌, ◌++◌, length, take, get_or, Option, Some, None, Result, refl, sym, ap, subst, ◌∙◌, inl, inr, arith, length-append}
+use Rattle.std.proofs.Common.{◌≡◌, ◌<◌, ◌+◌, ℕ, List, [], ◌∷◌, ◌++◌, length, take, get_or, Option, Some, None, Result, sym, ap, subst, ◌∙◌, inl, inr, arith, length-append}
 use Rattle.std.specs.Prelude.{slice_get}
 use Rattle.std.proofs.lemmas.Bool.{cases_order}
 use Rattle.std.proofs.lemmas.List.{take-append-le}
@@ -21,16 +21,6 @@ pub record ContextsSoFar (plan : Plan) (keys : List KeyReply) (i : ℕ) (replies
   pub reply_count : length replies ≡ i
   pub slot_count : length slots ≡ i
   pub outcomes : AreOutcomes plan keys replies slots
-
-pub no_contexts : (plan : Plan) (keys : List KeyReply) → ContextsSoFar plan keys 0 [] []
-no_contexts plan keys = record {
-  reply_count = refl;
-  slot_count = refl;
-  outcomes = record {
-    each = λ c line reply slot el er es. absurd (let e : None ≡ Some reply = er in
-        cc);
-  };
-}
 
 -- the next line
 pub record IsNextContext (plan : Plan) (keys : List KeyReply) (replies : List ContextReply) (i : ℕ)

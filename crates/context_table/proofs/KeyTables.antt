@@ -24,14 +24,6 @@ no_reply : (pool : List ℕ) (line : Option KeyLine) → key_in pool line None �
 no_reply pool None = refl
 no_reply pool (Some line) = refl
 
-pub no_keys : (plan : Plan) → KeysSoFar plan 0 [] []
-no_keys plan = record {
-  reply_count = refl;
-  slot_count = refl;
-  answered = record { each = λ k line reply el er. absurd (let e : None ≡ Some reply = er in cc) };
-  held = λ k. sym (no_reply plan.pool (slice_get plan.keys k));
-}
-
 -- the next line
 pub record IsNextKey (plan : Plan) (i : ℕ) (line : KeyLine) (reply : KeyReply)
     (slot : Option Key) : Type 0 where
