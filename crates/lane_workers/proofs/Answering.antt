@@ -53,6 +53,7 @@ use Rattle.lane_workers.proofs.Going.{ask_here}
 use Rattle.lane_workers.proofs.Onward.{pass_within, replied, still, turned}
 use Rattle.lane_workers.proofs.Told.{told_now, tells_now}
 use Rattle.context_books.proofs.Within.{call_low, line_within, span_size}
+use Rattle.lane_workers.proofs.Found.{one_of}
 
 -- ---- contexts that stand
 
@@ -82,15 +83,6 @@ refusal_here contexts call number o is found =
         → view_of o ≡ view_in (shared_at contexts number)
     step None found = ap view_in (sym found)
     step (Some s) found = ap view_in (sym found)
-
-pub one_counter : (x y : Bor CounterView) → Some x ≡ Some y → x ≡ y
-one_counter x y e = cc
-
-pub one_seat : (x y : SeatView) → Some x ≡ Some y → x ≡ y
-one_seat x y e = cc
-
-pub one_pass : (x y : PassView) → Some x ≡ Some y → x ≡ y
-one_pass x y e = cc
 
 -- ---- passes
 
@@ -294,12 +286,12 @@ module _ (plan : Plan) (contexts : List (Option SharedView)) (counter : Option (
       pub pass_known : (p : PassView) → pass_at w.passes.items n ≡ Some p → IsPassAt s lane k p
       pass_known p was =
           let o = t.passes n s stands in
-          subst (IsPassAt s lane k) (one_pass o.0 p (sym o.1 ∙ was)) o.2
+          subst (IsPassAt s lane k) (one_of o.0 p (sym o.1 ∙ was)) o.2
 
       pub low_known : (old : SeatView) → w.seat ≡ Some old → t.low ≤ old.low
       low_known old had =
           let o = t.seat here.counted.0 here.counted.1 in
-          subst (λ (x : SeatView). t.low ≤ x.low) (one_seat o.0 old (sym o.1 ∙ had)) o.3
+          subst (λ (x : SeatView). t.low ≤ x.low) (one_of o.0 old (sym o.1 ∙ had)) o.3
 
       -- the seat that a turn gives back knows of its stamps
       pub seat_after : (lock : LockId) (old back : SeatView) (before : List Entry) (first count : ℕ)
@@ -309,7 +301,7 @@ module _ (plan : Plan) (contexts : List (Option SharedView)) (counter : Option (
           let counted = here.counted in
           let id = ap (λ (l : LockId). l.terms.counter) of ∙ counted.2
           ∙ ap (λ (x : Bor CounterView). x.now.id)
-          (one_counter counted.0 stamps (sym counted.1 ∙ is)) in
+          (one_of counted.0 stamps (sym counted.1 ∙ is)) in
           (back, refl, subst (λ i. IsNote i back) id after.note, after.above)
 
       -- ---- a seal

@@ -3,16 +3,15 @@ use Rattle.std.proofs.Common.{◌≡◌, ◌<◌, ℕ, zero, suc, List, [], ◌�
 use Rattle.batch_plans.specs.declared.plan.CallLine.{CallLine}
 use Rattle.std.specs.Prelude.{slice_index_or}
 use Rattle.turn_lock.specs.Passes.{PassView}
-use Rattle.stamp_counter.specs.Seats.{SeatView}
 
 pub is_there : {X : Type 0} {o : Option X} {x : X} → o ≡ Some x → IsSome o
 is_there is = ap is_some is
 
-pub one_pass : (p q : PassView) → Some p ≡ Some q → p ≡ q
-one_pass p q e = cc
+pub one_of : {X : Type 0} (x y : X) → Some x ≡ Some y → x ≡ y
+one_of x y e = cc
 
-pub one_seat : (s t : SeatView) → Some s ≡ Some t → s ≡ t
-one_seat s t e = cc
+pub none_some : {X : Type 0} (x : X) → None ≡ Some x → ⊥
+none_some x e = cc
 
 pub read_here : (passes : List (Option PassView)) (number : ℕ) (found : Option PassView)
     (p : PassView) → slice_index_or passes number None ≡ Some p

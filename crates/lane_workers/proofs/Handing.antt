@@ -9,18 +9,13 @@ use Rattle.turn_lock.specs.Passes.{LockId, PassView, PassListView, fresh_pass, f
 use Rattle.lane_workers.specs.Showing.{Closes}
 use Rattle.lane_workers.specs.Served.{seen_of, seen_by}
 use Rattle.lane_workers.specs.Turns.{pass_at}
-
-one_pass : (p q : PassView) → Some p ≡ Some q → p ≡ q
-one_pass p q e = cc
-
-none_some : (p : PassView) → None ≡ Some p → ⊥
-none_some p e = cc
+use Rattle.lane_workers.proofs.Found.{one_of, none_some}
 
 fresh_at : (lock : LockId) (k n i : ℕ) (p : PassView) → slice_get (fresh_from lock k n) i ≡ Some p
     → p.number ≡ k + i
 fresh_at lock k zero i p e = absurd (none_some p e)
 fresh_at lock k (suc n) zero p e =
-    let a : k ≡ p.number = ap (λ (q : PassView). q.number) (one_pass _ _ e) in omega arith
+    let a : k ≡ p.number = ap (λ (q : PassView). q.number) (one_of _ _ e) in omega arith
 fresh_at lock k (suc n) (suc i) p e =
     let a = fresh_at lock (k + 1) n i p e in omega arith
 
@@ -28,7 +23,7 @@ pub first_of_fresh : (lock : LockId) (k m i : ℕ) (p : PassView)
     → slice_get (fresh_from lock k (suc m)) i ≡ Some p
     → All (λ (q : PassView). p.number ≤ q.number) (fresh_from lock k (suc m))
     → (p ≡ fresh_pass lock k) × (remove (fresh_from lock k (suc m)) i ≡ fresh_from lock (k + 1) m)
-first_of_fresh lock k m zero p e low = (sym (one_pass _ _ e), refl)
+first_of_fresh lock k m zero p e low = (sym (one_of _ _ e), refl)
 first_of_fresh lock k m (suc i) p e low =
     let a = fresh_at lock k (suc m) (suc i) p e in
     let b : p.number ≤ k = low 0 p (omega arith) in

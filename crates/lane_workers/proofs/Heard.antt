@@ -1,5 +1,5 @@
 -- What is known of a lane as it is read, of the lane as it is, and the other way.
-use Rattle.std.proofs.Common.{◌≡◌, ℕ, ◌-◌, ◌≤◌, List, [], ◌∷◌, ◌++◌, length, map, sum_by, All, Option, refl, sym, ap, ◌∙◌, subst, arith, Bor}
+use Rattle.std.proofs.Common.{◌≡◌, ℕ, ◌-◌, ◌<◌, ◌≤◌, List, [], ◌∷◌, ◌++◌, length, map, sum_by, All, Option, refl, sym, ap, ◌∙◌, subst, arith, Bor}
 use Rattle.call_places.specs.declared.spans.Item.{Item as Spans}
 use Rattle.call_places.specs.Spans.{ItemIsInPool}
 use Rattle.stamp_counter.specs.Seats.{CounterView}
@@ -22,8 +22,9 @@ use Rattle.context_books.specs.Runs.{answer_line}
 use Rattle.context_books.specs.LaneCalls.{opening_items}
 use Rattle.context_books.specs.Writing.{PutsReplies}
 use Rattle.lane_workers.specs.declared.works.LaneWork.{LaneWork}
-use Rattle.lane_workers.specs.Turns.{with_table, with_progress, CanTurn, Draws, Guesses, Commits, Opens}
-use Rattle.lane_workers.specs.Readings.{Reading, as_it_is, heard, hears, with_more, HasBytesOf}
+use Rattle.lane_workers.specs.Turns.{pass_at, with_table, with_progress, CanTurn, IsSame, Draws, Guesses, Commits, Opens}
+use Rattle.lane_workers.specs.Readings.{Reading, heard, hears, with_more, HasBytesOf}
+use Rattle.turn_lock.specs.Passes.{PassView}
 
 -- ---- answers
 
@@ -79,39 +80,29 @@ puts_heard r old new size lines w enough = record {
 
 -- ---- turns
 
-pub turn_of : (r : Reading) (w : LaneWork) (s : SharedView) (counter : Option (Bor CounterView))
-    (number call count : ℕ) → CanTurn (hears r w) s counter number call count
-    → CanTurn w s counter number call count
-turn_of r w s counter number call count t = record {
+-- a lane with the same passes and the same seat may take the same turn
+pub turn_of : {s : SharedView} {counter : Option (Bor CounterView)} {number call count : ℕ}
+    (old new : LaneWork) → new.passes.items ≡ old.passes.items → new.seat ≡ old.seat
+    → CanTurn old s counter number call count → CanTurn new s counter number call count
+turn_of {number = number} old new passes seat t = record {
   pass = t.pass;
-  holds = t.holds;
-  low = t.low;
+  holds = ap (λ ps. pass_at ps number) passes ∙ t.holds;
+  low = subst (λ (ps : List (Option PassView)). number < length ps) (sym passes) t.low;
   may = t.may;
   turns = t.turns;
   seat = t.seat;
-  has = t.has;
+  has = seat ∙ t.has;
   stamps = t.stamps;
   counter_is = t.counter_is;
   same = t.same;
   note = t.note;
 }
 
-pub tested_turn_of : (r : Reading) (w : LaneWork) (table : TableView) (s : SharedView)
-    (counter : Option (Bor CounterView)) (number call count : ℕ)
-    → CanTurn (with_table (hears r w) table) s counter number call count
-    → CanTurn (with_table w table) s counter number call count
-tested_turn_of r w table s counter number call count t = record {
-  pass = t.pass;
-  holds = t.holds;
-  low = t.low;
-  may = t.may;
-  turns = t.turns;
-  seat = t.seat;
-  has = t.has;
-  stamps = t.stamps;
-  counter_is = t.counter_is;
-  same = t.same;
-  note = t.note;
+same_heard : (r : Reading) (old new : LaneWork) → IsSame old new → IsSame (hears r old) (hears r new)
+same_heard r old new s = record {
+  lane = s.lane;
+  table = s.table;
+  progress = ap (heard r) s.progress;
 }
 
 pub draws_heard : (r : Reading) (old new : LaneWork) (number call : ℕ) (drawn : Draw)
@@ -126,11 +117,7 @@ draws_heard r old new number call drawn d = record {
   has_drawn = d.has_drawn;
   passes = d.passes;
   seat_is = d.seat_is;
-  same = record {
-    lane = d.same.lane;
-    table = d.same.table;
-    progress = ap (heard r) d.same.progress;
-  };
+  same = same_heard r old new d.same;
   steps = d.steps;
   checks = d.checks;
 }
@@ -144,11 +131,7 @@ guesses_heard r old new line number guess d = record {
   has_guessed = d.has_guessed;
   passes = d.passes;
   seat = d.seat;
-  same = record {
-    lane = d.same.lane;
-    table = d.same.table;
-    progress = ap (heard r) d.same.progress;
-  };
+  same = same_heard r old new d.same;
   steps = d.steps;
   checks = d.checks;
 }
@@ -167,11 +150,7 @@ commits_heard r old new table view number call pool items first missed d = recor
   has_committed = d.has_committed;
   passes = d.passes;
   seat_is = d.seat_is;
-  same = record {
-    lane = d.same.lane;
-    table = d.same.table;
-    progress = ap (heard r) d.same.progress;
-  };
+  same = same_heard r (with_table old table) new d.same;
   steps = d.steps;
   room = d.room;
   missed_is = d.missed_is;
@@ -257,6 +236,9 @@ opens_heard r s old new call line guess missed o enough =
     }
 
 -- ---- the lane as it is
+
+abbrev pub as_it_is : Plan → LaneWork → Reading
+as_it_is plan w = record { plan = plan; replies = w.progress.replies; blanks = 0; spare = 0 }
 
 pub is_as_it_is : (plan : Plan) (w : LaneWork) → hears (as_it_is plan w) w ≡ w
 is_as_it_is plan w = (λ i. with_progress w (record w.progress {

@@ -28,8 +28,8 @@ use Rattle.lane_workers.specs.Served.{seen_of, seen_by}
 use Rattle.lane_workers.specs.Turns.{pass_at, with_table, Draws, Guesses, Commits, Opens}
 use Rattle.lane_workers.specs.Lanes.{IsPassAt, HasSeat, MayServe}
 use Rattle.lane_workers.specs.Readings.{AddsLater}
-use Rattle.lane_workers.proofs.Answering.{one_counter, one_pass, one_seat}
 use Rattle.lane_workers.proofs.Onward.{pass_within, pass_same, pass_other}
+use Rattle.lane_workers.proofs.Found.{one_of}
 
 -- ---- own entries
 
@@ -78,7 +78,7 @@ pub pass_of : (plan : Plan) (contexts : List (Option SharedView)) (counter : Opt
     → pass_at w.passes.items (context_of call) ≡ Some p → IsPassOf counter w.lane p
 pass_of plan contexts counter k call s w m p was =
     let o = m.may.is_at.passes (context_of call) s m.stands in
-    let of : IsPassAt s w.lane k p = subst (IsPassAt s w.lane k) (one_pass o.0 p (sym o.1 ∙ was)) o.2 in
+    let of : IsPassAt s w.lane k p = subst (IsPassAt s w.lane k) (one_of o.0 p (sym o.1 ∙ was)) o.2 in
     let counted = (m.may.shared.each (context_of call) s m.stands).counted in
     record {
       number = of.number;
@@ -96,7 +96,7 @@ module _ (counter : Option (Bor CounterView)) (low : ℕ) where
       → held ≡ Some seat → ComesAfter p.lock.terms.counter seat back before first count → low ≤ first
   first_later lane p held seat back before first count of has had after =
       let s = has of.counted.0 of.counted.1 in
-      let knows = subst (λ (x : SeatView). low ≤ x.low) (one_seat s.0 seat (sym s.1 ∙ had)) s.3 in
+      let knows = subst (λ (x : SeatView). low ≤ x.low) (one_of s.0 seat (sym s.1 ∙ had)) s.3 in
       let least = after.least in
       omega arith
 
@@ -107,7 +107,7 @@ module _ (counter : Option (Bor CounterView)) (low : ℕ) where
   seat_later lane p held seat back before first count of has had after = λ stamps is.
       let counted = of.counted in
       let id = counted.2 ∙ ap (λ (x : Bor CounterView). x.now.id)
-      (one_counter counted.0 stamps (sym counted.1 ∙ is)) in
+      (one_of counted.0 stamps (sym counted.1 ∙ is)) in
       let late = first_later lane p held seat back before first count of has had after in
       let above = after.above in
       (back, refl, subst (λ i. IsNote i back) id after.note, omega arith)
@@ -215,7 +215,7 @@ module _ (counter : Option (Bor CounterView)) (low call : ℕ) where
       let number = context_of line in
       let after = o.guesses.has_guessed.after in
       let mid = with_table o.guessed o.table in
-      let same : o.guesses.after ≡ o.commits.pass = one_pass o.guesses.after o.commits.pass
+      let same : o.guesses.after ≡ o.commits.pass = one_of o.guesses.after o.commits.pass
       (sym (pass_same old.passes.items number o.guesses.after
       (pass_within old.passes.items number o.guesses.pass o.guesses.was))
       ∙ sym (ap (λ ps. pass_at ps number) o.guesses.passes) ∙ o.commits.was) in

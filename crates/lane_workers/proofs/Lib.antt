@@ -2,10 +2,12 @@ pub mod Found
 pub mod Going
 pub mod Onward
 pub mod Told
+pub mod Taking
 pub mod Answering
 pub mod Opened
 pub mod Ready
 pub mod Heard
+pub mod Fitting
 pub mod Later
 pub mod Adding
 pub mod Joined

@@ -37,11 +37,12 @@ use Rattle.lane_workers.specs.LiveServed.{NotesInOrder}
 use Rattle.lane_workers.specs.Readings.{Reading, heard, hears, with_more, MayAnswerAs, AddsLater, IsOneOn}
 use Rattle.lane_workers.specs.Served.{seen_of}
 use Rattle.lane_workers.specs.Turns.{with_progress}
-use Rattle.lane_workers.proofs.Answering.{one_seat, fits, finds_room, refused_left, refused_on}
+use Rattle.lane_workers.proofs.Answering.{fits, finds_room, refused_left, refused_on}
 use Rattle.lane_workers.proofs.AreHeard.{heard_more}
 use Rattle.lane_workers.proofs.LiveNoting.{noted_before}
 use Rattle.lane_workers.proofs.LiveShared.{looked_shared, far_refused, added_refused, retired_refused}
 use Rattle.lane_workers.proofs.LookedUp.{line_looked}
+use Rattle.lane_workers.proofs.Found.{one_of}
 
 -- ---- the replies of one call more
 
@@ -354,7 +355,7 @@ module _ (v : LiveView) (shared : AreSharedLive v) (lane k : ℕ) (call : CallLi
       seat_knows stamps is =
           let first = adds_later.seat stamps is in
           let second = one.is_at.seat stamps is in
-          let same : second.0 ≡ first.0 = one_seat second.0 first.0 (sym second.1 ∙ first.1) in
+          let same : second.0 ≡ first.0 = one_of second.0 first.0 (sym second.1 ∙ first.1) in
           let high = subst (λ (s : SeatView). one.is_at.low ≤ s.low) same second.3 in
           let low = first.3 in
           (first.0, first.1, first.2, omega arith)

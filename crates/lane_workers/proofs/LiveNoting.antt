@@ -45,7 +45,7 @@ use Rattle.lane_workers.specs.Lanes.{HasSeat, LaneIsAt}
 use Rattle.lane_workers.specs.LiveLanes.{LiveView, standing, add_refusal, AreSharedLive, IsOnContext, TellsAs, ReadsAs, LiveLaneIsAt}
 use Rattle.lane_workers.specs.LiveServed.{note_place, noted_from, NotesItsCall, NotesInOrder}
 use Rattle.lane_workers.specs.Served.{seen_of}
-use Rattle.lane_workers.proofs.Answering.{one_pass, one_seat}
+use Rattle.lane_workers.proofs.Found.{one_of}
 
 -- ---- which calls are noted
 
@@ -208,9 +208,6 @@ note_tells lane call stamp name act live =
 
 -- ---- the lane
 
-one_counter : (x y : Bor CounterView) → Some x ≡ Some y → x ≡ y
-one_counter x y is = cc
-
 -- a lane is where it was with another seat that knows of its stamps
 reseated : (plan : Plan) (contexts : List (Option SharedView)) (counter : Option (Bor CounterView))
     (lane k : ℕ) (w : LaneWork) (seat : Option SeatView) (t : LaneIsAt plan contexts counter lane k w)
@@ -295,7 +292,7 @@ module _ (v : LiveView) (lane k : ℕ) (call : CallLine)
       (n : Noting) (is : noting v.plan stand call ≡ Some n)
       (p : PassView) (s : SeatView) (holds : l.pass ≡ Some p) (sits : l.work.seat ≡ Some s) where
     pass_is : t.pass ≡ p
-    pass_is = one_pass t.pass p (sym t.holds ∙ holds)
+    pass_is = one_of t.pass p (sym t.holds ∙ holds)
 
     of_pass : p.lock ≡ v.table.lock
     of_pass = subst (λ (x : PassView). x.lock ≡ v.table.lock) pass_is t.of
@@ -335,7 +332,7 @@ module _ (v : LiveView) (lane k : ℕ) (call : CallLine)
     seat_known stamps is =
         let o = t.seat stamps is in
         subst (λ (x : SeatView). IsNote stamps.now.id x × (t.low ≤ x.low))
-        (one_seat o.0 s (sym o.1 ∙ sits)) (o.2, o.3)
+        (one_of o.0 s (sym o.1 ∙ sits)) (o.2, o.3)
 
     module _ (q : PassView) (back : SeatView) (live : Bool)
         (h : HasNoted p q s back k n.name n.act live) where
@@ -401,7 +398,7 @@ module _ (v : LiveView) (lane k : ℕ) (call : CallLine)
           let counter : p.lock.terms.counter ≡ stamps.now.id =
           ap (λ (x : LockId). x.terms.counter) of_pass ∙ shared.counted.2
           ∙ ap (λ (x : Bor CounterView). x.now.id)
-          (one_counter shared.counted.0 stamps (sym shared.counted.1 ∙ is_counter)) in
+          (one_of shared.counted.0 stamps (sym shared.counted.1 ∙ is_counter)) in
           (back, refl, subst (λ i. IsNote i back) counter h.stamps.note, enough)
 
       stamp_low : t.low ≤ h.stamp
@@ -470,7 +467,7 @@ module _ (v : LiveView) (lane k : ℕ) (call : CallLine)
       still_reads notes tells =
           let r = t.reads notes (λ c low. tells c (omega arith) ∙ tells_before c low) in
           let o = r.is_at.seat shared.counted.0 shared.counted.1 in
-          let same : o.0 ≡ s = one_seat o.0 s (sym o.1 ∙ sits) in
+          let same : o.0 ≡ s = one_of o.0 s (sym o.1 ∙ sits) in
           let known : r.is_at.low ≤ s.low =
           subst (λ (x : SeatView). r.is_at.low ≤ x.low) same o.3 in
           record {

@@ -33,6 +33,7 @@ use Rattle.context_books.specs.LaneCalls as lanes
 use Rattle.lane_workers.specs.Lanes.{asks_of, told_done, Tells, IsPassAt, HasSeat, LaneIsAt}
 use Rattle.context_books.proofs.KeptGuesses.{guesses_more}
 use Rattle.lane_workers.proofs.Going.{get_last, ask_here, tells_less, says_more, guess_now}
+use Rattle.lane_workers.proofs.Found.{one_of}
 
 -- ---- passes, one of which is another
 
@@ -298,7 +299,7 @@ module _ (plan : Plan) (contexts : List (Option SharedView)) (counter : Option (
         lane_same = e.lane_same;
         count = ap length e.passes ∙ length-set w.passes.items n (Some q);
         passes = λ d s' standing. elim (is_cases n d) [
-          | inl same ↦ (let s_is : s ≡ s' = one_context s s'
+          | inl same ↦ (let s_is : s ≡ s' = one_of s s'
               (sym e.stands ∙ ap (shared_at contexts) same ∙ standing) in (
                 q,
                 ap (pass_at new.passes.items) (sym same) ∙ ap (λ ps. pass_at ps n) e.passes
@@ -326,9 +327,6 @@ module _ (plan : Plan) (contexts : List (Option SharedView)) (counter : Option (
       none_of : (b : Bool) → own lane (cond b os []) ≡ []
       none_of true = e.of_others
       none_of false = refl
-
-      one_context : (x y : SharedView) → Some x ≡ Some y → x ≡ y
-      one_context x y is = cc
 
       not_there : (x : SharedView) → Some x ≡ None → ⊥
       not_there x is = cc

@@ -48,9 +48,10 @@ use Rattle.context_books.specs.LaneCalls as lanes
 use Rattle.lane_workers.specs.Lanes.{told_done, IsPassAt, HasSeat, LaneIsAt, MayAnswer}
 use Rattle.lane_workers.proofs.Onward.{TellsOn, pass_within, pass_same, replied, guess_told, turned}
 use Rattle.lane_workers.proofs.Answering as answering
-use Rattle.lane_workers.proofs.Answering.{one_pass, next_within}
+use Rattle.lane_workers.proofs.Answering.{next_within}
 use Rattle.context_books.proofs.Misses.{few_missed}
 use Rattle.context_books.proofs.Within.{opening_count, opening_few, opening_asks, opening_context, opening_room}
+use Rattle.lane_workers.proofs.Found.{one_of}
 
 replied_lines : (replies : Place → Answer) (ps : List Place) (xs : List Answer)
     → AllReplied replies ps xs → map (λ p. answer_line (replies p)) ps ≡ map answer_line xs
@@ -142,7 +143,7 @@ module _ (plan : Plan) (contexts : List (Option SharedView)) (counter : Option (
   low = pass_within w.passes.items (context_of call) old o.guesses.was
 
   same_pass : o.commits.pass ≡ seen_then
-  same_pass = one_pass o.commits.pass seen_then
+  same_pass = one_of o.commits.pass seen_then
       (sym o.commits.was ∙ ap (λ ps. pass_at ps (context_of call)) o.guesses.passes
       ∙ pass_same w.passes.items (context_of call) seen_then low)
 

@@ -30,9 +30,10 @@ use Rattle.context_books.specs.LaneCalls.{opening_items, IsOpening}
 use Rattle.lane_workers.specs.Turns.{shared_at, pass_at, views, with_table, CanTurn, Draws, Guesses}
 use Rattle.lane_workers.specs.Lanes.{MayServe}
 use Rattle.lane_workers.proofs.Answering as answering
-use Rattle.lane_workers.proofs.Answering.{standing_is, one_pass}
+use Rattle.lane_workers.proofs.Answering.{standing_is}
 use Rattle.lane_workers.proofs.Onward.{pass_same}
 use Rattle.context_books.proofs.Within.{opening_asks, opening_context}
+use Rattle.lane_workers.proofs.Found.{one_of}
 
 pub no_refusal : (why : CallRefusal) → Some why ≡ None → ⊥
 no_refusal why e = cc
@@ -139,7 +140,7 @@ module _ (plan : Plan) (contexts : List (Option SharedView)) (counter : Option (
         let was = ap (pass_at w.passes.items) open_context ∙ d.was in
         let of = answering.pass_known plan contexts counter k call w m.may m.free s
         (stands_at open_context) d.pass was in
-        let same : t.pass ≡ d.pass = one_pass t.pass d.pass (sym t.holds ∙ d.was) in
+        let same : t.pass ≡ d.pass = one_of t.pass d.pass (sym t.holds ∙ d.was) in
         let h = d.has_guessed in
         let may = t.may in
         let own_same : own w.lane d.after.seen ≡ own w.lane d.pass.seen =

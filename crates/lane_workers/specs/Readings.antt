@@ -29,10 +29,6 @@ pub record Reading : Type 0 where
   pub blanks : ℕ
   pub spare : ℕ
 
--- the lane as it is, as one of this plan
-abbrev pub as_it_is : Plan → LaneWork → Reading
-as_it_is plan w = record { plan = plan; replies = w.progress.replies; blanks = 0; spare = 0 }
-
 -- its answers as they are read
 abbrev pub heard : Reading → Progress → Progress
 heard r p =

@@ -14,8 +14,6 @@ ghost use Rattle.shared_context.specs.Calls.{MayCall, HasCommitted};
 ghost use Rattle.shared_context.specs.Stamped.{IsNote};
 ghost use Rattle.context_books.specs.LaneCalls.{opening_items, IsOpening};
 ghost use Rattle.lane_workers.specs.Turns.{shared_at, view_of, with_table, with_progress, CanTurn, Draws, Guesses, Commits, Opens};
-ghost use Rattle.lane_workers.specs.Groups.{IsServed};
-ghost use Rattle.lane_workers.specs.Lanes.{AreShared, LaneIsAt};
 ghost use Rattle.lane_workers.specs.Readings.{Reading, MayAnswerAs, MayServeAs, IsOneOn};
 
 use crate::works::{LaneWork, LastOpening};
@@ -63,41 +61,65 @@ fn due_after(first: u64, steps: &[Step]) -> u64 {
     first.saturating_add(opened as u64)
 }
 
+// The items of a call that a turn opens, with the verdicts on their tags.
+#[derive(Drop)]
+struct Opening<'a> {
+    shared: &'a SharedContext,
+    counter: &'a StampCounter,
+    call: u32,
+    pool: &'a [u8],
+    items: &'a [Item],
+    table: &'a GuessTable,
+}
+
 // Commits items, whose steps go to the front of `steps`.
 fn commit_front<R: Wait>(
     rt: &R,
-    shared: &SharedContext,
+    opening: Opening<'_>,
     pass: Pass,
-    counter: &StampCounter,
     seat: StampSeat,
-    call: u32,
-    pool: &[u8],
-    items: &[Item],
-    table: &GuessTable,
     steps: &mut [Step],
     checks: &mut Checks,
 ) -> (u64, u32, Pass, StampSeat)
-    requires may { MayCall shared.now.lock pass call (length items.now) }
-    requires opens { CanOpen shared.now.context }
-    requires counter { shared.now.lock.terms.counter ≡ counter.now.id }
-    requires seat { IsNote counter.now.id seat }
-    requires spans { All (ItemIsInPool (length pool.now)) items.now }
-    requires table { IsTableFor shared.now.context pool.now items.now table.now }
-    requires steps { length items.now ≤ length steps.old }
-    requires checks { checks.old + length items.now < 2 ^ 64 }
-    ensures committed { HasCommitted pass result.2 seat result.3 call
-        (opening_steps shared.now.context result.0 pool.now items.now) result.0 }
-    ensures steps { take (length items.now) steps.new
-        ≡ opening_steps shared.now.context result.0 pool.now items.now }
+    requires may { MayCall opening.shared.now.lock pass opening.call (length opening.items.now) }
+    requires opens { CanOpen opening.shared.now.context }
+    requires counter { opening.shared.now.lock.terms.counter ≡ opening.counter.now.id }
+    requires seat { IsNote opening.counter.now.id seat }
+    requires spans { All (ItemIsInPool (length opening.pool.now)) opening.items.now }
+    requires table { IsTableFor opening.shared.now.context opening.pool.now opening.items.now
+        opening.table.now }
+    requires steps { length opening.items.now ≤ length steps.old }
+    requires checks { checks.old + length opening.items.now < 2 ^ 64 }
+    ensures committed { HasCommitted pass result.2 seat result.3 opening.entry.call
+        (opening_steps opening.entry.shared.now.context result.0 opening.entry.pool.now
+        opening.entry.items.now) result.0 }
+    ensures steps { take (length opening.entry.items.now) steps.new
+        ≡ opening_steps opening.entry.shared.now.context result.0 opening.entry.pool.now
+        opening.entry.items.now }
     ensures room { length steps.new ≡ length steps.old }
-    ensures missed { result.1
-        ≡ opening_misses shared.now.context result.0 pool.now items.now table.now.guess }
+    ensures missed { result.1 ≡ opening_misses opening.entry.shared.now.context result.0
+        opening.entry.pool.now opening.entry.items.now opening.entry.table.now.guess }
     ensures checks { checks.new ≤ checks.old + result.1 }
 {
+    let Opening {
+        shared,
+        counter,
+        call,
+        pool,
+        items,
+        table,
+    } = opening;
     let front = &mut steps[..items.len()];
     shared.commit(
         rt, pass, counter, seat, call, pool, items, table, front, checks,
     )
+}
+
+// Puts a value into the slot that it was taken from.
+pub(crate) fn put<T: Drop>(slot: &mut Option<T>, value: T)
+    ensures { slot.new ≡ Some value }
+{
+    *slot = Some(value);
 }
 
 impl<R: Threads + Wait + Sync, G: Gate> Service<'_, R, G> {
@@ -120,8 +142,8 @@ impl<R: Threads + Wait + Sync, G: Gate> Service<'_, R, G> {
         let pass = work.passes[i].take().unwrap();
         let seat = work.seat.take().unwrap();
         let (drawn, pass, seat) = shared.draw(self.rt, pass, counter, seat, call);
-        work.passes[i] = Some(pass);
-        work.seat = Some(seat);
+        put(&mut work.passes[i], pass);
+        put(&mut work.seat, seat);
         self.gate.reached(work.lane, call, Point::Drawn);
         drawn
     }
@@ -134,7 +156,7 @@ impl<R: Threads + Wait + Sync, G: Gate> Service<'_, R, G> {
         let i = number as usize;
         let pass = work.passes[i].take().unwrap();
         let (due, pass) = shared.peek(self.rt, pass);
-        work.passes[i] = Some(pass);
+        put(&mut work.passes[i], pass);
         due
     }
 
@@ -211,21 +233,25 @@ impl<R: Threads + Wait + Sync, G: Gate> Service<'_, R, G> {
         let pass = work.passes[i].take().unwrap();
         let seat = work.seat.take().unwrap();
         let pool = self.plan.pool.as_slice();
-        let (first, missed, pass, seat) = commit_front(
-            self.rt,
+        let opening = Opening {
             shared,
-            pass,
             counter,
-            seat,
             call,
             pool,
             items,
-            &work.table,
-            work.steps.as_mut_slice(),
+            table: &work.table,
+        };
+        let steps = work.steps.as_mut_slice();
+        let (first, missed, pass, seat) = commit_front(
+            self.rt,
+            opening,
+            pass,
+            seat,
+            steps,
             &mut work.checks,
         );
-        work.passes[i] = Some(pass);
-        work.seat = Some(seat);
+        put(&mut work.passes[i], pass);
+        put(&mut work.seat, seat);
         work.last_opening = Some(LastOpening {
             context: number,
             due: due_after(first, &work.steps[..items.len()]),
@@ -346,31 +372,5 @@ impl<R: Threads + Wait + Sync, G: Gate> Service<'_, R, G> {
             unreachable!()
         };
         self.serve_call(work, shared, call, line);
-    }
-
-    fn answer(&self, work: &mut LaneWork, call: u32, line: &CallLine)
-        requires { (r : Reading) × MayAnswerAs r self.now.plan.now self.now.contexts.now
-            self.now.counter call line.now work.old }
-        ensures { (r : Reading) → MayAnswerAs r self.now.plan.now self.now.contexts.now
-            self.now.counter call line.now work.old
-            → IsOneOn r self.now.contexts.now self.now.counter call line.now work.old work.new }
-    {
-        self.reply(work, call, line);
-        self.gate.reached(work.lane, call, Point::Answered);
-    }
-
-    /// Serves the calls of a lane in their order.
-    pub(crate) fn serve_lane(&self, work: &mut LaneWork)
-        requires shared { AreShared self.now.plan.now self.now.contexts.now self.now.counter }
-        requires there { work.old.lane < length self.now.plan.now.lanes }
-        requires fresh { LaneIsAt self.now.plan.now self.now.contexts.now self.now.counter
-            work.old.lane 0 work.old }
-        ensures { IsServed self.now.plan.now self.now.contexts.now self.now.counter work.old
-            work.new }
-    {
-        let lines = self.plan.lanes.as_slice()[work.lane as usize].as_slice();
-        'calls: for (call, line) in lines.iter().enumerate() {
-            self.answer(work, call as u32, line);
-        }
     }
 }

@@ -3,14 +3,13 @@
 ghost use Rattle.std.specs.Prelude.{◌≡◌, ◌+◌, ◌<◌, Some, None, length, slice_get};
 ghost use Rattle.batch_plans.specs.Limits.{IsWithinLimits};
 ghost use Rattle.batch_plans.specs.Names.{line_count};
-ghost use Rattle.context_books.specs.Live.{Noting, noting};
+ghost use Rattle.context_books.specs.Live.{Noting, noting, noting_of};
 ghost use Rattle.context_books.specs.LaneCalls.{lane_calls};
-ghost use Rattle.lane_workers.specs.LiveLanes.{standing, add_refusal, finds, IsOnContext, AreSharedLive, MayAnswerLive, IsNotedLive, IsToldLive, IsOneOnLive};
-ghost use Rattle.lane_workers.specs.LiveReturned.{IsFreshLive, IsServedLive};
+ghost use Rattle.lane_workers.specs.LiveLanes.{standing, add_refusal, finds, IsOnContext, MayAnswerLive, IsNotedLive, IsToldLive, IsOneOnLive};
 
-use crate::calls::Service;
+use crate::calls::{Service, put};
 use crate::live_lane::LiveLane;
-use batch_io::{Gate, Point};
+use batch_io::Gate;
 use batch_plans::{CallLine, CallRefusal, FIRST_NAME, Plan, Reply, context_of};
 use call_places::Act;
 use context_books::refuse;
@@ -60,9 +59,20 @@ impl<R: Threads + Wait + Sync, G: Gate> LiveService<'_, R, G> {
         let (live, pass, seat) = self
             .table
             .note(self.service.rt, pass, counter, seat, call, name, act);
-        lane.pass = Some(pass);
-        lane.work.seat = Some(seat);
+        put(&mut lane.pass, pass);
+        put(&mut lane.work.seat, seat);
         live
+    }
+
+    // Whether a call finds its name live. It is noted what the call does to it, if it is a name of the plan.
+    fn finds_live(&self, lane: &mut LiveLane, call: u32, name: u32, act: Act) -> bool
+        requires { (line : CallLine)
+            × MayAnswerLive (live_view self.now) call line lane.old
+            × (noting self.now.service.plan.now (standing (live_view self.now)) line
+            ≡ noting_of self.now.service.plan.now act name) }
+        ensures { IsToldLive (live_view self.now) call result lane.old lane.new }
+    {
+        name < self.service.plan.added && self.note(lane, call, name, act)
     }
 
     // Adds a context, unless its psk inputs are at fault.
@@ -83,7 +93,7 @@ impl<R: Threads + Wait + Sync, G: Gate> LiveService<'_, R, G> {
         requires may { MayAnswerLive (live_view self.now) call (CallLine.Retire name) lane.old }
         ensures { IsOneOnLive (live_view self.now) call lane.old lane.new }
     {
-        if name < self.service.plan.added && self.note(lane, call, name, Act::Retire) {
+        if self.finds_live(lane, call, name, Act::Retire) {
             lane.work.progress.put(Reply::Retired);
         } else {
             refuse(&mut lane.work.progress, CallRefusal::NoContext);
@@ -102,8 +112,7 @@ impl<R: Threads + Wait + Sync, G: Gate> LiveService<'_, R, G> {
         if number < FIRST_NAME {
             return true;
         }
-        let name = number - FIRST_NAME;
-        name < self.service.plan.added && self.note(lane, call, name, Act::Look)
+        self.finds_live(lane, call, number - FIRST_NAME, Act::Look)
     }
 
     // A call on a context, which it may not find.
@@ -120,7 +129,8 @@ impl<R: Threads + Wait + Sync, G: Gate> LiveService<'_, R, G> {
         }
     }
 
-    fn answer(&self, lane: &mut LiveLane, call: u32, line: &CallLine)
+    // A call, done, served or refused.
+    pub(crate) fn answer(&self, lane: &mut LiveLane, call: u32, line: &CallLine)
         requires may { MayAnswerLive (live_view self.now) call line.now lane.old }
         ensures { IsOneOnLive (live_view self.now) call lane.old lane.new }
     {
@@ -128,21 +138,6 @@ impl<R: Threads + Wait + Sync, G: Gate> LiveService<'_, R, G> {
             CallLine::Add { name } => self.add(lane, call, name),
             CallLine::Retire { name } => self.retire(lane, call, name),
             _ => self.call(lane, call, line),
-        }
-        self.service
-            .gate
-            .reached(lane.work.lane, call, Point::Answered);
-    }
-
-    /// Serves the calls of a lane in their order.
-    pub(crate) fn serve_lane(&self, lane: &mut LiveLane)
-        requires shared { AreSharedLive (live_view self.now) }
-        requires fresh { IsFreshLive (live_view self.now) lane.old }
-        ensures { IsServedLive (live_view self.now) lane.old lane.new }
-    {
-        let lines = self.service.plan.lanes.as_slice()[lane.work.lane as usize].as_slice();
-        'calls: for (call, line) in lines.iter().enumerate() {
-            self.answer(lane, call as u32, line);
         }
     }
 }

@@ -10,7 +10,7 @@ use crate::live_calls::LiveService;
 use crate::live_lane::LiveLane;
 use crate::serving::{ServesLanes, is_busy, serve_by};
 use crate::works::SharedList;
-use batch_io::Gate;
+use batch_io::{Gate, Point};
 use batch_plans::Plan;
 use live_table::LiveTable;
 use stamp_counter::StampCounter;
@@ -24,8 +24,15 @@ impl<R: Threads + Wait + Sync, G: Gate + Sync> ServesLanes<LiveLane> for LiveSer
 
     ghost served = { λ s l m. IsServedLive (live_view s) l m };
 
-    fn serve_one(&self, lane: &mut LiveLane) {
-        self.serve_lane(lane);
+    fn serve_lane(&self, lane: &mut LiveLane) {
+        let lines = self.service.plan.lanes.as_slice()[lane.work.lane as usize].as_slice();
+        'calls: for (call, line) in lines.iter().enumerate() {
+            let call = call as u32;
+            self.answer(lane, call, line);
+            self.service
+                .gate
+                .reached(lane.work.lane, call, Point::Answered);
+        }
     }
 
     fn has_calls(&self, lane: &LiveLane) -> bool {

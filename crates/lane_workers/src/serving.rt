@@ -7,7 +7,7 @@ ghost use Rattle.lane_workers.specs.Groups.{IsFresh, IsServed, AllFresh, AllServ
 
 use crate::calls::Service;
 use crate::works::{LaneWork, SharedList};
-use batch_io::Gate;
+use batch_io::{Gate, Point};
 use batch_plans::Plan;
 use stamp_counter::StampCounter;
 use std::sync::Wait;
@@ -21,8 +21,8 @@ pub(crate) trait ServesLanes<L> {
     // The lane was served.
     ghost served: { Self → L → L → Type 0 };
 
-    /// Serves a lane.
-    fn serve_one(&self, lane: &mut L)
+    /// Serves the calls of a lane in their order.
+    fn serve_lane(&self, lane: &mut L)
         requires { may self.now lane.old }
         ensures { served self.now lane.old lane.new };
 
@@ -44,8 +44,13 @@ impl<R: Threads + Wait + Sync, G: Gate + Sync> ServesLanes<LaneWork> for Service
 
     ghost served = { λ s w v. IsServed s.plan.now s.contexts.now s.counter w v };
 
-    fn serve_one(&self, lane: &mut LaneWork) {
-        self.serve_lane(lane);
+    fn serve_lane(&self, lane: &mut LaneWork) {
+        let lines = self.plan.lanes.as_slice()[lane.lane as usize].as_slice();
+        'calls: for (call, line) in lines.iter().enumerate() {
+            let call = call as u32;
+            self.reply(lane, call, line);
+            self.gate.reached(lane.lane, call, Point::Answered);
+        }
     }
 
     fn has_calls(&self, lane: &LaneWork) -> bool {
@@ -61,7 +66,7 @@ fn serve_group<L, S: ServesLanes<L>>(service: &S, lanes: &mut [L])
     let Some((first, rest)) = lanes.split_first_mut() else {
         return;
     };
-    service.serve_one(first);
+    service.serve_lane(first);
     serve_group(service, rest);
 }
 

@@ -10,7 +10,7 @@ ghost use Rattle.stamp_counter.specs.Stamps.{IsNote};
 ghost use Rattle.stamp_counter.specs.Turns.{MayCall};
 ghost use Rattle.shared_context.specs.Calls.{HasDrawn, HasPeeked, HasCommitted};
 
-use crate::stamped::StampedBook;
+use crate::stamped::{Opening, StampedBook};
 use aes_gcm::Checks;
 use call_places::{Item, Place, Step};
 use context_books::{Book, Draw};
@@ -158,21 +158,18 @@ impl SharedContext {
         ensures checks { (checks.old ≤ checks.new) × (checks.new ≤ checks.old + result.1) }
     {
         let lane = pass.number();
-        let mut held = self.lock.enter(rt, pass);
-        let value = held.value();
-        let number = value.seq();
-        let (missed, seat) = value.settle(
-            counter,
-            seat,
-            &self.context,
+        let opening = Opening {
+            context: &self.context,
             pool,
             items,
             lane,
             call,
             table,
-            steps,
-            checks,
-        );
+        };
+        let mut held = self.lock.enter(rt, pass);
+        let value = held.value();
+        let number = value.seq();
+        let (missed, seat) = value.settle(counter, seat, opening, steps, checks);
         (number, missed, self.lock.leave(held), seat)
     }
 

@@ -49,6 +49,17 @@ impl Listed for StampedBook {
     }
 }
 
+/// The items of a call that a turn opens, with the verdicts on their tags.
+#[derive(Drop)]
+pub(crate) struct Opening<'a> {
+    pub(crate) context: &'a Context,
+    pub(crate) pool: &'a [u8],
+    pub(crate) items: &'a [Item],
+    pub(crate) lane: u32,
+    pub(crate) call: u32,
+    pub(crate) table: &'a GuessTable,
+}
+
 impl StampedBook {
     pub(crate) fn new(book: Book, seat: StampSeat) -> StampedBook
         requires empty { (book.entries ≡ []) × (seat.drawn ≡ []) × (seat.left ≡ sum book.quotas) }
@@ -104,36 +115,42 @@ impl StampedBook {
         &mut self,
         counter: &StampCounter,
         seat: StampSeat,
-        context: &Context,
-        pool: &[u8],
-        items: &[Item],
-        lane: u32,
-        call: u32,
-        table: &GuessTable,
+        opening: Opening<'_>,
         steps: &mut [Step],
         checks: &mut Checks,
     ) -> (u32, StampSeat)
-        requires cipher { HasCipher context.now × (context.now.limit ≡ self.old.book.limit) }
-        requires spans { All (ItemIsInPool (length pool.now)) items.now }
-        requires table { IsTableFor context.now pool.now items.now table.now }
-        requires steps { length steps.old ≡ length items.now }
-        requires lane { lane < length self.old.book.quotas }
-        requires room { length (own lane self.old.book.entries) + length items.now
-            ≤ slice_index self.old.book.quotas lane }
-        requires checks { checks.old + length items.now < 2 ^ 64 }
+        requires cipher { HasCipher opening.context.now
+            × (opening.context.now.limit ≡ self.old.book.limit) }
+        requires spans { All (ItemIsInPool (length opening.pool.now)) opening.items.now }
+        requires table { IsTableFor opening.context.now opening.pool.now opening.items.now
+            opening.table.now }
+        requires steps { length steps.old ≡ length opening.items.now }
+        requires lane { opening.lane < length self.old.book.quotas }
+        requires room { length (own opening.lane self.old.book.entries) + length opening.items.now
+            ≤ slice_index self.old.book.quotas opening.lane }
+        requires checks { checks.old + length opening.items.now < 2 ^ 64 }
         requires counter { self.old.seat.counter ≡ counter.now.id }
         requires seat { IsNote counter.now.id seat }
         ensures terms { terms_of self.new ≡ terms_of self.old }
-        ensures steps { steps.new
-            ≡ opening_steps context.now (seq_of self.old.book.entries) pool.now items.now }
+        ensures steps { steps.new ≡ opening_steps opening.entry.context.now
+            (seq_of self.old.book.entries) opening.entry.pool.now opening.entry.items.now }
         ensures added { (first : ℕ) × ComesAfter counter.now.id seat result.1
             self.old.book.entries first (length steps.new)
-            × (self.new.book.entries
-            ≡ self.old.book.entries ++ entries_from lane call 0 first steps.new) }
-        ensures missed { result.0 ≡ opening_misses context.now (seq_of self.old.book.entries)
-            pool.now items.now table.now.guess }
+            × (self.new.book.entries ≡ self.old.book.entries
+            ++ entries_from opening.entry.lane opening.entry.call 0 first steps.new) }
+        ensures missed { result.0 ≡ opening_misses opening.entry.context.now
+            (seq_of self.old.book.entries) opening.entry.pool.now opening.entry.items.now
+            opening.entry.table.now.guess }
         ensures checks { (checks.old ≤ checks.new) × (checks.new ≤ checks.old + result.0) }
     {
+        let Opening {
+            context,
+            pool,
+            items,
+            lane,
+            call,
+            table,
+        } = opening;
         self.book.a_lanes_room_is_the_books(lane, items.len());
         let (first, seat) = draw_stamps(counter, &mut self.seat, seat, items.len() as u32);
         let missed = self.book.settle(

@@ -1,4 +1,4 @@
-use Rattle.std.proofs.Common.{◌≡◌, ◌≤◌, ◌+◌, ◌++◌, length, take, drop, sym, ap, ◌∙◌, subst, arith}
+use Rattle.std.proofs.Common.{◌≡◌, ◌≤◌, ◌+◌, ◌++◌, List, length, take, drop, sym, ap, ◌∙◌, subst, arith}
 use Rattle.std.proofs.lemmas.List.{take-append-le, take_all, length-append, length-drop}
 use Rattle.call_places.specs.declared.entries.Step.{Step}
 use Rattle.hpke_context.specs.Contexts.{cipher_of}
@@ -10,17 +10,17 @@ use Rattle.lane_workers.proofs.calls.commit_front.Goals as goal
 
 pub returns : goal.returns
 returns g c =
-    let view = c.args.shared.now.context in
-    let pool = c.args.pool.now in
-    let items = c.args.items.now in
+    let view = c.args.opening.shared.now.context in
+    let pool = c.args.opening.pool.now in
+    let items = c.args.opening.items.now in
     let done = c.commit.ensures in
     let steps = c.commit.new.steps in
     let rest = drop (length items) c.args.steps.now in
     let count : length steps ≡ length items = ap length done.steps
     ∙ length-steps_from (cipher_of view) _ (unseals pool items) ∙ length-unseals pool items in
     record {
-      committed = subst (λ (ss : Rattle.std.proofs.Common.List Step). HasCommitted c.args.pass c.commit.result.2 c.args.seat
-          c.commit.result.3 c.args.call ss c.commit.result.0) done.steps done.committed;
+      committed = subst (λ (ss : List Step). HasCommitted c.args.pass c.commit.result.2 c.args.seat
+          c.commit.result.3 c.args.opening.call ss c.commit.result.0) done.steps done.committed;
       steps = take-append-le (length items) steps rest (omega arith)
           ∙ take_all (length items) steps (omega arith) ∙ done.steps;
       room = omega (

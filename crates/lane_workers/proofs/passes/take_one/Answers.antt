@@ -2,22 +2,17 @@ use Rattle.std.proofs.Common.{◌≡◌, List, Option, Some, None, sym, ◌∙�
 use Rattle.turn_lock.specs.Passes.{PassListView, fresh_from}
 use Rattle.lane_workers.specs.Handing.{Takes}
 use Rattle.lane_workers.proofs.Handing.{take_first}
+use Rattle.lane_workers.proofs.Found.{one_of, none_some}
 use Rattle.lane_workers.proofs.passes.take_one.Goals as goal
-
-one_list : (a b : PassListView) → Some a ≡ Some b → a ≡ b
-one_list a b e = cc
-
-no_list : (a : PassListView) → Some a ≡ None → ⊥
-no_list a e = cc
 
 pub returns-in-Some : goal.returns-in-Some
 returns-in-Some c =
     let e = c.take.ensures in
     subst (λ (o : Option PassListView). Takes o (Some c.take.new.self) c.take.result)
     (sym c.in-Some.is) (record {
-      none = λ is. absurd (no_list c.in-Some.list is);
+      none = λ is. absurd (none_some c.in-Some.list (sym is));
       first = λ list lock lane left is fresh.
-          let same = one_list c.in-Some.list list is in
+          let same = one_of c.in-Some.list list is in
           subst (λ (x : PassListView). (c.take.result ≡ Some
           (Rattle.turn_lock.specs.Passes.fresh_pass lock lane)) × (Some c.take.new.self ≡ Some
           (record { passes = fresh_from lock (Rattle.std.proofs.Common.◌+◌ lane 1) left; made = x.made })))

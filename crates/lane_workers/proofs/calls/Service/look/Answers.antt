@@ -1,29 +1,23 @@
-use Rattle.std.proofs.Common.{◌≡◌, refl, sym, ◌∙◌, subst, arith, Some}
+use Rattle.std.proofs.Common.{refl, sym, ap, ◌∙◌, arith}
+use Rattle.std.specs.Prelude.{slice_set}
 use Rattle.std.proofs.lemmas.List.{set-set}
-use Rattle.turn_lock.specs.Passes.{PassView}
-use Rattle.shared_context.specs.Calls.{HasPeeked}
-use Rattle.lane_workers.proofs.Found.{one_pass, read_here, is_there}
+use Rattle.lane_workers.proofs.Found.{is_there}
+use Rattle.lane_workers.proofs.Taking.{pass_taken}
 use Rattle.lane_workers.proofs.calls.Service.look.Goals as goal
 
 pub unwrap-pass-requires : goal.unwrap-pass-requires
 unwrap-pass-requires g c =
-    let t = c.requires.turn.1 in
-    is_there (c.take.ensures.value ∙ c.index_mut.ensures.value
-    ∙ read_here c.args.work.now.passes.items c.args.number c.index_mut.result.now t.pass t.holds)
+    is_there (pass_taken c.requires.turn.1 c.index_mut.ensures.value c.take.ensures.value)
 
 pub returns : goal.returns
 returns g c = λ line.
     let t = c.requires.turn.1 in
-    let found : Some c.unwrap-pass.result ≡ Some t.pass = sym c.unwrap-pass.ensures ∙ c.take.ensures.value
-    ∙ c.index_mut.ensures.value
-    ∙ read_here c.args.work.now.passes.items c.args.number c.index_mut.result.now t.pass t.holds in
     let after = c.peek-due.result.1 in
-    let peeked : HasPeeked t.pass after c.peek-due.result.0 =
-    subst (λ (p : PassView). HasPeeked p after c.peek-due.result.0)
-    (one_pass c.unwrap-pass.result t.pass found) c.peek-due.ensures in
+    let peeked = c.peek-due.ensures in
     record {
-      pass = t.pass;
-      was = t.holds;
+      pass = c.unwrap-pass.result;
+      was = t.holds ∙ sym (pass_taken t c.index_mut.ensures.value c.take.ensures.value)
+          ∙ c.unwrap-pass.ensures;
       after = after;
       has_guessed = record {
         after = record {
@@ -35,7 +29,8 @@ returns g c = λ line.
         others = peeked.others;
         due = λ keeps. peeked.due;
       };
-      passes = set-set _ _ _ _;
+      passes = set-set _ _ _ _
+          ∙ ap (slice_set c.args.work.now.passes.items c.args.number) c.put.ensures;
       seat = refl;
       same = record { lane = refl; table = refl; progress = refl };
       steps = refl;

@@ -1,25 +1,21 @@
-use Rattle.std.proofs.Common.{◌≡◌, ◌≤◌, ◌+◌, ◌-◌, List, length, map, All, sum_by, sym, ap, ◌∙◌, subst, arith}
+use Rattle.std.proofs.Common.{◌≡◌, List, length, map, sum_by, refl, sym, ap, ◌∙◌, subst, arith}
 use Rattle.call_places.specs.declared.spans.Item.{Item}
-use Rattle.call_places.specs.Spans.{ItemIsInPool}
 use Rattle.speculative_open.specs.Tables.{TableView}
 use Rattle.hpke_context.specs.Answers.{run}
 use Rattle.hpke_context.specs.Contexts.{cipher_of}
 use Rattle.context_books.specs.Openings.{unseals}
-use Rattle.batch_plans.specs.Limits.{items_of}
 use Rattle.batch_plans.specs.Calls.{context_of}
-use Rattle.batch_plans.specs.Room.{opened_room, served_room}
+use Rattle.batch_plans.specs.Room.{opened_room}
 use Rattle.batch_plans.specs.Progress.{Progress}
 use Rattle.context_books.specs.Runs.{answer_line}
 use Rattle.context_books.specs.Writing.{PutsReplies}
 use Rattle.lane_workers.specs.declared.works.LaneWork.{LaneWork}
 use Rattle.context_books.specs.LaneCalls.{opening_items}
 use Rattle.lane_workers.specs.Turns.{CanTurn, Guesses, Commits, with_table}
-use Rattle.context_books.specs.LaneCalls.{lane_calls}
 use Rattle.lane_workers.specs.Readings.{hears}
-use Rattle.lane_workers.proofs.Heard.{turn_of, tested_turn_of, guesses_heard, items_same, spans_here, call_here}
-use Rattle.lane_workers.proofs.Answering.{fits, finds_room}
+use Rattle.lane_workers.proofs.Heard.{turn_of, guesses_heard, items_same, call_here}
 use Rattle.lane_workers.proofs.Ready.{can_open, look_turn, commit_turn}
-use Rattle.context_books.proofs.Within.{of_call, opening_count, opening_spans, opening_room}
+use Rattle.lane_workers.proofs.Fitting.{fit_of, opening_fits}
 use Rattle.lane_workers.proofs.calls.Service.open.Goals as goal
 
 pub items_of_opening-items-requires : goal.items_of_opening-items-requires
@@ -27,8 +23,7 @@ items_of_opening-items-requires g c =
     let v = c.args.self.now in
     let r = c.requires.may.0 in
     let bytes = c.requires.may.1.bytes in
-    call_here r.plan v.plan.now c.args.line.now bytes (fits r.plan v.contexts.now v.counter c.args.call
-    c.args.line.now (hears r c.args.work.now) c.requires.may.1.may.may)
+    call_here r.plan v.plan.now c.args.line.now bytes (fit_of c.requires.may.1)
 
 pub guess-guess-requires-clause-turn : goal.guess-guess-requires-clause-turn
 guess-guess-requires-clause-turn g c κs within =
@@ -37,7 +32,7 @@ guess-guess-requires-clause-turn g c κs within =
     let w = c.args.work.now in
     let s = c.args.shared.now in
     subst (λ j. CanTurn w s v.counter j c.args.call 0) (sym c.context_of-number.ensures)
-    (turn_of r w s v.counter (context_of c.args.line.now) c.args.call 0
+    (turn_of (hears r w) w refl refl
     (look_turn r.plan v.contexts.now v.counter c.args.call c.args.line.now s (hears r w)
     c.requires.may.1.may c.requires.opening))
 
@@ -50,30 +45,14 @@ test-requires-clause-cipher g c κs within =
 
 pub test-requires-clause-room : goal.test-requires-clause-room
 test-requires-clause-room g c κs within =
-    let v = c.args.self.now in
-    let may = c.requires.may.1.may.may in
-    let r = c.requires.may.0 in
-    let w = c.args.work.now in
-    let rows = of_call (λ x. items_of x ≤ w.table.room) (lane_calls r.plan w.lane) c.args.call
-    c.args.line.now may.is_at.rows may.at in
-    let count = opening_count r.plan c.args.line.now c.requires.opening
-    (fits r.plan v.contexts.now v.counter c.args.call c.args.line.now (hears r w) may) in
-    let is = ap length (c.items_of_opening-items.ensures
-    ∙ sym (items_same r.plan v.plan.now c.args.line.now c.requires.may.1.bytes)) in
+    let fit = opening_fits c.requires.may.1 c.requires.opening c.items_of_opening-items.ensures in
+    let rows = fit.rows in
     let same = ap (λ (x : TableView). x.room) c.guess-guess.ensures.same.table in
     omega arith
 
 pub test-requires-clause-spans : goal.test-requires-clause-spans
 test-requires-clause-spans g c κs within =
-    let v = c.args.self.now in
-    let r = c.requires.may.0 in
-    let may = c.requires.may.1.may.may in
-    subst (λ (xs : List Item). All (ItemIsInPool (length v.plan.now.pool)) xs)
-    (sym c.items_of_opening-items.ensures)
-    (spans_here r.plan v.plan.now c.args.line.now c.requires.may.1.bytes
-    (opening_spans r.plan c.args.line.now may.shared.within
-    (fits r.plan v.contexts.now v.counter c.args.call c.args.line.now (hears r c.args.work.now)
-    may)))
+    (opening_fits c.requires.may.1 c.requires.opening c.items_of_opening-items.ensures).spans
 
 pub commit-first-requires-clause-turn : goal.commit-first-requires-clause-turn
 commit-first-requires-clause-turn g c κs within =
@@ -87,8 +66,7 @@ commit-first-requires-clause-turn g c κs within =
     let r = c.requires.may.0 in
     let line = c.args.line.now in
     let table = c.test.new.work.table in
-    let turn = tested_turn_of r mid table s v.counter (context_of line) c.args.call
-    (length (opening_items r.plan line))
+    let turn = turn_of (with_table (hears r mid) table) (with_table mid table) refl refl
     (commit_turn r.plan v.contexts.now v.counter c.args.call line s (hears r w) c.requires.may.1.may
     c.requires.opening (hears r mid) c.guess-guess.result table
     (guesses_heard r w mid line (context_of line) c.guess-guess.result guesses)) in
@@ -112,28 +90,12 @@ commit-first-requires-clause-table g c κs within = c.test.ensures.table
 
 pub commit-first-requires-clause-spans : goal.commit-first-requires-clause-spans
 commit-first-requires-clause-spans g c κs within =
-    let v = c.args.self.now in
-    let r = c.requires.may.0 in
-    let may = c.requires.may.1.may.may in
-    subst (λ (xs : List Item). All (ItemIsInPool (length v.plan.now.pool)) xs)
-    (sym c.items_of_opening-items.ensures)
-    (spans_here r.plan v.plan.now c.args.line.now c.requires.may.1.bytes
-    (opening_spans r.plan c.args.line.now may.shared.within
-    (fits r.plan v.contexts.now v.counter c.args.call c.args.line.now (hears r c.args.work.now)
-    may)))
+    (opening_fits c.requires.may.1 c.requires.opening c.items_of_opening-items.ensures).spans
 
 pub commit-first-requires-clause-room : goal.commit-first-requires-clause-room
 commit-first-requires-clause-room g c κs within =
-    let v = c.args.self.now in
-    let may = c.requires.may.1.may.may in
-    let r = c.requires.may.0 in
-    let w = c.args.work.now in
-    let steps = of_call (λ x. items_of x ≤ length w.steps.items) (lane_calls r.plan w.lane)
-    c.args.call c.args.line.now may.is_at.steps may.at in
-    let count = opening_count r.plan c.args.line.now c.requires.opening
-    (fits r.plan v.contexts.now v.counter c.args.call c.args.line.now (hears r w) may) in
-    let is = ap length (c.items_of_opening-items.ensures
-    ∙ sym (items_same r.plan v.plan.now c.args.line.now c.requires.may.1.bytes)) in
+    let fit = opening_fits c.requires.may.1 c.requires.opening c.items_of_opening-items.ensures in
+    let steps = fit.steps in
     let tested = ap (λ (x : LaneWork). length x.steps.items) c.test.ensures.same in
     let guessed = ap length c.guess-guess.ensures.steps in
     omega arith
@@ -150,28 +112,12 @@ finish-requires-clause-steps g c κs within = c.commit-first.ensures.steps
 
 pub finish-requires-clause-spans : goal.finish-requires-clause-spans
 finish-requires-clause-spans g c κs within =
-    let v = c.args.self.now in
-    let r = c.requires.may.0 in
-    let may = c.requires.may.1.may.may in
-    subst (λ (xs : List Item). All (ItemIsInPool (length v.plan.now.pool)) xs)
-    (sym c.items_of_opening-items.ensures)
-    (spans_here r.plan v.plan.now c.args.line.now c.requires.may.1.bytes
-    (opening_spans r.plan c.args.line.now may.shared.within
-    (fits r.plan v.contexts.now v.counter c.args.call c.args.line.now (hears r c.args.work.now)
-    may)))
+    (opening_fits c.requires.may.1 c.requires.opening c.items_of_opening-items.ensures).spans
 
 pub finish-requires-clause-few : goal.finish-requires-clause-few
 finish-requires-clause-few g c κs within =
-    let v = c.args.self.now in
-    let may = c.requires.may.1.may.may in
-    let r = c.requires.may.0 in
-    let w = c.args.work.now in
-    let steps = of_call (λ x. items_of x ≤ length w.steps.items) (lane_calls r.plan w.lane)
-    c.args.call c.args.line.now may.is_at.steps may.at in
-    let count = opening_count r.plan c.args.line.now c.requires.opening
-    (fits r.plan v.contexts.now v.counter c.args.call c.args.line.now (hears r w) may) in
-    let is = ap length (c.items_of_opening-items.ensures
-    ∙ sym (items_same r.plan v.plan.now c.args.line.now c.requires.may.1.bytes)) in
+    let fit = opening_fits c.requires.may.1 c.requires.opening c.items_of_opening-items.ensures in
+    let steps = fit.steps in
     let tested = ap (λ (x : LaneWork). length x.steps.items) c.test.ensures.same in
     let guessed = ap length c.guess-guess.ensures.steps in
     let committed = c.commit-first.ensures.room in
@@ -179,40 +125,21 @@ finish-requires-clause-few g c κs within =
 
 pub finish-requires-clause-room : goal.finish-requires-clause-room
 finish-requires-clause-room g c κs within =
-    let v = c.args.self.now in
-    let may = c.requires.may.1.may.may in
-    let w = c.args.work.now in
-    let same : c.commit-first.new.work.progress ≡ w.progress = c.commit-first.ensures.same.progress
-    ∙ ap (λ (x : LaneWork). x.progress) c.test.ensures.same ∙ c.guess-guess.ensures.same.progress in
-    let r = c.requires.may.0 in
-    let line = c.args.line.now in
-    let room : w.progress.taken + served_room r.plan.items line ≤ length w.progress.pool =
-    (finds_room r.plan v.contexts.now v.counter c.args.call line (hears r w) may
-    c.requires.may.1.may.free).room in
-    let size = opening_room r.plan line c.requires.opening in
-    let items = ap (sum_by opened_room) (c.items_of_opening-items.ensures
-    ∙ sym (items_same r.plan v.plan.now line c.requires.may.1.bytes)) in
+    let fit = opening_fits c.requires.may.1 c.requires.opening c.items_of_opening-items.ensures in
+    let same : c.commit-first.new.work.progress ≡ c.args.work.now.progress =
+    c.commit-first.ensures.same.progress ∙ ap (λ (x : LaneWork). x.progress) c.test.ensures.same
+    ∙ c.guess-guess.ensures.same.progress in
     let taken = ap (λ (p : Progress). p.taken) same in
     let pool = ap (λ (p : Progress). length p.pool) same in
-    omega arith
+    omega (arith, fit.room, taken, pool)
 
 pub finish-requires-clause-left : goal.finish-requires-clause-left
 finish-requires-clause-left g c κs within =
-    let v = c.args.self.now in
-    let may = c.requires.may.1.may.may in
-    let w = c.args.work.now in
-    let same : c.commit-first.new.work.progress ≡ w.progress = c.commit-first.ensures.same.progress
-    ∙ ap (λ (x : LaneWork). x.progress) c.test.ensures.same ∙ c.guess-guess.ensures.same.progress in
-    let r = c.requires.may.0 in
-    let left : items_of c.args.line.now ≤ w.progress.left - r.blanks =
-    (finds_room r.plan v.contexts.now v.counter c.args.call c.args.line.now (hears r w) may
-    c.requires.may.1.may.free).left in
-    let count = opening_count r.plan c.args.line.now c.requires.opening
-    (fits r.plan v.contexts.now v.counter c.args.call c.args.line.now (hears r w) may) in
-    let is = ap length (c.items_of_opening-items.ensures
-    ∙ sym (items_same r.plan v.plan.now c.args.line.now c.requires.may.1.bytes)) in
-    let now = ap (λ (p : Progress). p.left) same in
-    omega arith
+    let fit = opening_fits c.requires.may.1 c.requires.opening c.items_of_opening-items.ensures in
+    let same : c.commit-first.new.work.progress ≡ c.args.work.now.progress =
+    c.commit-first.ensures.same.progress ∙ ap (λ (x : LaneWork). x.progress) c.test.ensures.same
+    ∙ c.guess-guess.ensures.same.progress in
+    omega (arith, fit.left, ap (λ (p : Progress). p.left) same)
 
 pub returns : goal.returns
 returns g c =

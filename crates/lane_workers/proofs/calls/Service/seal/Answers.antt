@@ -14,7 +14,8 @@ use Rattle.lane_workers.specs.Readings.{heard, hears, with_more}
 use Rattle.lane_workers.proofs.Heard.{turn_of, draws_heard, enough_left, puts_heard}
 use Rattle.lane_workers.proofs.Adding.{answers_words, adds_one}
 use Rattle.lane_workers.proofs.Later.{pass_of, draws_later}
-use Rattle.lane_workers.proofs.Answering.{fits, finds_room, sealed_on}
+use Rattle.lane_workers.proofs.Answering.{sealed_on}
+use Rattle.lane_workers.proofs.Fitting.{fit_of, room_of}
 use Rattle.lane_workers.proofs.Ready.{can_seal, drawn_below, seal_turn, seal_context, stands_at}
 use Rattle.context_books.proofs.Within.{span_size}
 use Rattle.lane_workers.proofs.calls.Service.seal.Goals as goal
@@ -48,7 +49,7 @@ draw-drawn-requires-clause-turn g c κs within =
     let v = c.args.self.now in
     let r = c.requires.0 in
     let w = c.args.work.now in
-    turn_of r w c.args.shared.now v.counter c.args.number c.args.call 1
+    turn_of (hears r w) w refl refl
     (seal_turn r.plan v.contexts.now v.counter c.args.call
     (calls.Seal c.args.number c.args.item.now) c.args.shared.now (hears r w) c.requires.1.may
     c.args.number c.args.item.now refl)
@@ -62,19 +63,13 @@ draw-drawn-requires-clause-seals g c κs within =
 
 pub of-aad-requires : goal.of-aad-requires
 of-aad-requires g c =
-    let v = c.args.self.now in
-    let fit = fits c.requires.0.plan v.contexts.now v.counter c.args.call
-    (calls.Seal c.args.number c.args.item.now) (hears c.requires.0 c.args.work.now)
-    c.requires.1.may.may in
+    let fit = fit_of c.requires.1 in
     subst (λ i. IsInPool i c.args.item.now.aad)
     (ap length (c.requires.1.bytes.pool ∙ sym c.as_slice-pool.ensures.items)) fit.1.aad.in_pool
 
 pub of-text-requires : goal.of-text-requires
 of-text-requires g c =
-    let v = c.args.self.now in
-    let fit = fits c.requires.0.plan v.contexts.now v.counter c.args.call
-    (calls.Seal c.args.number c.args.item.now) (hears c.requires.0 c.args.work.now)
-    c.requires.1.may.may in
+    let fit = fit_of c.requires.1 in
     subst (λ i. IsInPool i c.args.item.now.text)
     (ap length (c.requires.1.bytes.pool ∙ sym c.as_slice-pool.ensures.items)) fit.1.text.in_pool
 
@@ -102,9 +97,7 @@ finish_seal-requires-clause-drawn g c =
 
 pub finish_seal-requires-clause-text : goal.finish_seal-requires-clause-text
 finish_seal-requires-clause-text g c =
-    let fit = fits c.requires.0.plan c.args.self.now.contexts.now c.args.self.now.counter c.args.call
-    (calls.Seal c.args.number c.args.item.now) (hears c.requires.0 c.args.work.now)
-    c.requires.1.may.may in
+    let fit = fit_of c.requires.1 in
     let text = ap length (c.of-text.ensures
     ∙ ap (λ pool. span_bytes pool c.args.item.now.text)
     (c.as_slice-pool.ensures.items ∙ sym c.requires.1.bytes.pool)) in
@@ -113,9 +106,7 @@ finish_seal-requires-clause-text g c =
 
 pub finish_seal-requires-clause-aad : goal.finish_seal-requires-clause-aad
 finish_seal-requires-clause-aad g c =
-    let fit = fits c.requires.0.plan c.args.self.now.contexts.now c.args.self.now.counter c.args.call
-    (calls.Seal c.args.number c.args.item.now) (hears c.requires.0 c.args.work.now)
-    c.requires.1.may.may in
+    let fit = fit_of c.requires.1 in
     let aad = ap length (c.of-aad.ensures
     ∙ ap (λ pool. span_bytes pool c.args.item.now.aad)
     (c.as_slice-pool.ensures.items ∙ sym c.requires.1.bytes.pool)) in
@@ -124,14 +115,12 @@ finish_seal-requires-clause-aad g c =
 
 pub finish_seal-requires-clause-room : goal.finish_seal-requires-clause-room
 finish_seal-requires-clause-room g c =
-    let v = c.args.self.now in
     let r = c.requires.0 in
     let call = calls.Seal c.args.number c.args.item.now in
     let w = c.args.work.now in
-    let fit = fits r.plan v.contexts.now v.counter c.args.call call (hears r w) c.requires.1.may.may in
+    let fit = fit_of c.requires.1 in
     let room : w.progress.taken + served_room r.plan.items call ≤ length w.progress.pool =
-    (finds_room r.plan v.contexts.now v.counter c.args.call call (hears r w) c.requires.1.may.may
-    c.requires.1.may.free).room in
+    (room_of c.requires.1).room in
     let text = ap length (c.of-text.ensures
     ∙ ap (λ pool. span_bytes pool c.args.item.now.text)
     (c.as_slice-pool.ensures.items ∙ sym c.requires.1.bytes.pool)) in
@@ -142,13 +131,10 @@ finish_seal-requires-clause-room g c =
 
 pub finish_seal-requires-clause-left : goal.finish_seal-requires-clause-left
 finish_seal-requires-clause-left g c =
-    let v = c.args.self.now in
     let r = c.requires.0 in
     let call = calls.Seal c.args.number c.args.item.now in
     let w = c.args.work.now in
-    let left : items_of call ≤ w.progress.left - r.blanks =
-    (finds_room r.plan v.contexts.now v.counter c.args.call call (hears r w) c.requires.1.may.may
-    c.requires.1.may.free).left in
+    let left : items_of call ≤ w.progress.left - r.blanks = (room_of c.requires.1).left in
     let now = ap (λ (p : Progress). p.left) c.draw-drawn.ensures.same.progress in
     omega arith
 
@@ -173,8 +159,7 @@ returns g c = λ r t.
     c.of-aad.result.now (span_bytes r.plan.pool item.aad) c.of-text.result.now
     (span_bytes r.plan.pool item.text) drawn c.draw-drawn.ensures.same.progress
     c.context.ensures.context aad text c.finish_seal.ensures in
-    let left : items_of call ≤ w.progress.left - r.blanks =
-    (finds_room r.plan v.contexts.now v.counter c.args.call call (hears r w) m.may m.free).left in
+    let left : items_of call ≤ w.progress.left - r.blanks = (room_of t).left in
     let enough = enough_left r w.progress p size (reply ∷ []) puts t.enough (omega (arith, left)) in
     record {
       adds = adds_one v.contexts.now call w.progress p size (reply ∷ []) puts m.free refl refl refl

@@ -13,7 +13,8 @@ use Rattle.lane_workers.specs.declared.works.LaneWork.{LaneWork}
 use Rattle.context_books.specs.LaneCalls.{IsOpening}
 use Rattle.lane_workers.specs.Turns.{shared_at, with_progress}
 use Rattle.lane_workers.specs.Lanes.{LaneIsAt}
-use Rattle.lane_workers.proofs.Answering.{fits, finds_room, exported_on, standing_is}
+use Rattle.lane_workers.proofs.Answering.{exported_on, standing_is}
+use Rattle.lane_workers.proofs.Fitting.{fit_of, room_of}
 use Rattle.lane_workers.specs.Readings.{heard, hears, with_more, MayServeAs, IsOneOn}
 use Rattle.lane_workers.proofs.Heard.{heard_batch, enough_left, puts_heard, opens_of, opens_heard}
 use Rattle.lane_workers.proofs.Adding.{answers_words, exported_words, opened_answers, opened_lines, opened_size, opened_each, adds_one, adds_by, adds_all}
@@ -45,13 +46,10 @@ open-batch-requires-clause-opening g c κs within = subst IsOpening (sym c.in-Un
 
 pub put_batch-requires : goal.put_batch-requires
 put_batch-requires g c =
-    let v = c.args.self.now in
     let r = c.requires.0 in
     let w = c.args.work.now in
-    let m = c.requires.1.may in
     let room : served_batches c.args.line.now ≤ w.progress.batches_left - r.spare =
-    (finds_room r.plan v.contexts.now v.counter c.args.call c.args.line.now (hears r w) m.may
-    m.free).batches in
+    (room_of c.requires.1).batches in
     let one = ap served_batches c.in-UnsealAll.is in
     let new = ap (λ (x : LaneWork). x.progress.batches_left) c.open-batch.ensures.new_is in
     let kept = c.open-batch.ensures.puts.batches_left in
@@ -59,35 +57,26 @@ put_batch-requires g c =
 
 pub export-requires-clause-span : goal.export-requires-clause-span
 export-requires-clause-span g c κs within =
-    let v = c.args.self.now in
     let r = c.requires.0 in
-    let m = c.requires.1.may in
     subst (λ (pool : List ℕ). IsInPool (length pool) c.in-Export.exporter) c.requires.1.bytes.pool
     (subst (IsCallWithin (length r.plan.items) (length r.plan.pool)) c.in-Export.is
-    (fits r.plan v.contexts.now v.counter c.args.call c.args.line.now (hears r c.args.work.now)
-    m.may)).1.in_pool
+    (fit_of c.requires.1)).1.in_pool
 
 pub export-requires-clause-room : goal.export-requires-clause-room
 export-requires-clause-room g c κs within =
-    let v = c.args.self.now in
     let r = c.requires.0 in
     let w = c.args.work.now in
-    let m = c.requires.1.may in
     let room : w.progress.taken + served_room r.plan.items c.args.line.now ≤ length w.progress.pool =
-    (finds_room r.plan v.contexts.now v.counter c.args.call c.args.line.now (hears r w) m.may
-    m.free).room in
+    (room_of c.requires.1).room in
     let size = ap (served_room r.plan.items) c.in-Export.is in
     omega arith
 
 pub export-requires-clause-left : goal.export-requires-clause-left
 export-requires-clause-left g c κs within =
-    let v = c.args.self.now in
     let r = c.requires.0 in
     let w = c.args.work.now in
-    let m = c.requires.1.may in
     let left : items_of c.args.line.now ≤ w.progress.left - r.blanks =
-    (finds_room r.plan v.contexts.now v.counter c.args.call c.args.line.now (hears r w) m.may
-    m.free).left in
+    (room_of c.requires.1).left in
     let one = ap items_of c.in-Export.is in
     omega arith
 
@@ -118,7 +107,7 @@ returns-in-Unseal g c = λ r t.
     let each = opened_each r.plan v.contexts.now v.counter c.args.call call (hears r w) m.may opening
     s.context o.first in
     let left : items_of call ≤ w.progress.left - r.blanks =
-    (finds_room r.plan v.contexts.now v.counter c.args.call call (hears r w) m.may m.free).left in
+    (room_of t).left in
     let enough = enough_left r w.progress o.progress (opened_size r.plan call) lines o.puts t.enough
     (omega (arith, left, each)) in
     let now = ap (λ (x : LaneWork). x.progress) (sym o.new_is) in
@@ -164,11 +153,11 @@ returns-in-UnsealAll g c = λ r t.
     let each = opened_each r.plan v.contexts.now v.counter c.args.call call (hears r w) m.may opening
     s.context o.first in
     let left : items_of call ≤ w.progress.left - r.blanks =
-    (finds_room r.plan v.contexts.now v.counter c.args.call call (hears r w) m.may m.free).left in
+    (room_of t).left in
     let enough = enough_left r w.progress o.progress (opened_size r.plan call) lines o.puts t.enough
     (omega (arith, left, each)) in
     let fit = subst (IsCallWithin (length r.plan.items) (length r.plan.pool)) all.is
-    (fits r.plan v.contexts.now v.counter c.args.call call (hears r w) m.may) in
+    (fit_of t) in
     record {
       adds = adds_all v.contexts.now call all.context all.first all.count w.progress o.progress p
           (opened_size r.plan call) lines c.open-batch.result o.puts m.free all.is
@@ -207,7 +196,7 @@ returns-in-Export g c = λ r t.
     (sym t.bytes.pool) c.export.ensures.puts in
     let more = with_more r puts.more in
     let left : items_of call ≤ w.progress.left - r.blanks =
-    (finds_room r.plan v.contexts.now v.counter c.args.call call (hears r w) m.may m.free).left in
+    (room_of t).left in
     let item : items_of call ≡ 1 = ap items_of e.is in
     let enough = enough_left r w.progress p e.size (line ∷ []) puts t.enough
     (omega (arith, left, item)) in

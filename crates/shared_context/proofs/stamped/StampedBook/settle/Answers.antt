@@ -16,12 +16,12 @@ pub invariant_of-self : goal.invariant_of-self
 invariant_of-self c =
     let first : ℕ = c.draw_stamps-first.result.0 in
     let steps = c.settle-missed.new.steps in
-    let many : length steps ≡ length c.args.items.now = c.settle-missed.auto.steps ∙ c.requires.steps in
-    stamped_more c.self.inside.book.quotas c.settle-missed.new.self.quotas c.self.inside.book.entries c.settle-missed.new.self.entries c.self.inside.seat c.draw_stamps-first.new.own (entries_from c.args.lane c.args.call 0 first steps) c.args.counter.now.id first (length c.args.items.now)
+    let many : length steps ≡ length c.args.opening.items.now = c.settle-missed.auto.steps ∙ c.requires.steps in
+    stamped_more c.self.inside.book.quotas c.settle-missed.new.self.quotas c.self.inside.book.entries c.settle-missed.new.self.entries c.self.inside.seat c.draw_stamps-first.new.own (entries_from c.args.opening.lane c.args.opening.call 0 first steps) c.args.counter.now.id first (length c.args.opening.items.now)
     c.self.invariant c.settle-missed.ensures.terms.quotas c.settle-missed.ensures.added c.draw_stamps-first.ensures.own
-    (stamps_of-entries c.args.lane c.args.call 0 first steps ∙ ap (range_with_len first) many)
-    (length-entries c.args.lane c.args.call 0 first steps ∙ many)
-    (StampsBelow-entries c.args.lane c.args.call 0 first (first + length c.args.items.now) steps (omega arith))
+    (stamps_of-entries c.args.opening.lane c.args.opening.call 0 first steps ∙ ap (range_with_len first) many)
+    (length-entries c.args.opening.lane c.args.opening.call 0 first steps ∙ many)
+    (StampsBelow-entries c.args.opening.lane c.args.opening.call 0 first (first + length c.args.opening.items.now) steps (omega arith))
     c.draw_stamps-first.ensures.least c.a_lanes_room_is_the_books.ensures.room
 
 pub returns-clause-added : goal.returns-clause-added
@@ -29,10 +29,10 @@ returns-clause-added c =
     let s = c.draw_stamps-first.ensures in
     let first : ℕ = c.draw_stamps-first.result.0 in
     let steps = c.settle-missed.new.steps in
-    let many : length c.args.items.now ≡ length steps = sym (c.settle-missed.auto.steps ∙ c.requires.steps) in
+    let many : length c.args.opening.items.now ≡ length steps = sym (c.settle-missed.auto.steps ∙ c.requires.steps) in
     let was = ap (λ (v : StampedView). v.book) c.self.view_is in (
       first,
       subst (λ n. ComesAfter c.args.counter.now.id c.args.seat c.draw_stamps-first.result.1 c.args.self.now.book.entries first n) many
-          (subst (λ (b : BookView). ComesAfter c.args.counter.now.id c.args.seat c.draw_stamps-first.result.1 b.entries first (length c.args.items.now)) was (s.after c.self.inside.book.entries c.self.invariant.below)),
-      subst (λ (b : BookView). c.settle-missed.new.self.entries ≡ b.entries ++ entries_from c.args.lane c.args.call 0 first steps) was c.settle-missed.ensures.added,
+          (subst (λ (b : BookView). ComesAfter c.args.counter.now.id c.args.seat c.draw_stamps-first.result.1 b.entries first (length c.args.opening.items.now)) was (s.after c.self.inside.book.entries c.self.invariant.below)),
+      subst (λ (b : BookView). c.settle-missed.new.self.entries ≡ b.entries ++ entries_from c.args.opening.lane c.args.opening.call 0 first steps) was c.settle-missed.ensures.added,
     )

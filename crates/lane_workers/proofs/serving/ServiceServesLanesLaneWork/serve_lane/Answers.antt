@@ -8,20 +8,20 @@ use Rattle.stamp_counter.specs.Seats.{CounterView}
 use Rattle.context_books.specs.LaneCalls.{lane_calls}
 use Rattle.lane_workers.specs.Lanes.{AreShared, LaneIsAt}
 use Rattle.lane_workers.specs.declared.works.LaneWork.{LaneWork}
-use Rattle.lane_workers.specs.Readings.{as_it_is, hears, with_more, MayAnswerAs}
+use Rattle.lane_workers.specs.Readings.{hears, with_more, MayAnswerAs}
 use Rattle.lane_workers.proofs.Ended.{is_served}
-use Rattle.lane_workers.proofs.Heard.{is_as_it_is, is_as_it_was}
+use Rattle.lane_workers.proofs.Heard.{is_as_it_is, is_as_it_was, as_it_is}
 use Rattle.lane_workers.proofs.Found.{lane_here}
 use Rattle.context_books.proofs.Within.{calls_few}
-use Rattle.lane_workers.proofs.calls.Service.serve_lane.Goals as goal
+use Rattle.lane_workers.proofs.serving.ServiceServesLanesLaneWork.serve_lane.Goals as goal
 
 pub overflow_cast-call : goal.overflow_cast-call
 overflow_cast-call g c =
     let v = c.args.self.now in
-    let few = calls_few v.plan.now c.args.work.now.lane c.requires.shared.within c.requires.there in
-    let found = lane_here v.plan.now.lanes c.args.work.now.lane c.index-as_slice-work.result
-    c.requires.there (c.index-as_slice-work.is
-    ∙ ap (λ ls. get_or ls c.args.work.now.lane c.index-as_slice-work.result) c.as_slice.ensures.items) in
+    let few = calls_few v.plan.now c.args.lane.now.lane c.requires.1.within c.requires.2.there in
+    let found = lane_here v.plan.now.lanes c.args.lane.now.lane c.index-as_slice-lane.result
+    c.requires.2.there (c.index-as_slice-lane.is
+    ∙ ap (λ ls. get_or ls c.args.lane.now.lane c.index-as_slice-lane.result) c.as_slice.ensures.items) in
     let same = ap length (c.as_slice-lines.ensures.items ∙ found) in
     let low = c.calls-test.true in
     omega arith
@@ -46,20 +46,28 @@ next_call plan contexts counter lane call w line shared there at t =
       enough = omega arith;
     }
 
-pub answer-requires-after_bounds : goal.answer-requires-after_bounds
-answer-requires-after_bounds g c κs within =
+pub bounds-as_slice-lane : goal.bounds-as_slice-lane
+bounds-as_slice-lane g c =
+    subst (λ (ls : List (List CallLine)). c.args.lane.now.lane < length ls)
+    (sym c.as_slice.ensures.items) c.requires.2.there
+
+pub calls-init : goal.calls-init
+calls-init g c = c.requires.2.is_at
+
+pub reply-requires-after_bounds : goal.reply-requires-after_bounds
+reply-requires-after_bounds g c κs within =
     let v = c.args.self.now in
     let plan = v.plan.now in
-    let lane = c.args.work.now.lane in
-    let w = c.calls.work in
+    let lane = c.args.lane.now.lane in
+    let w = c.calls.lane in
     let lines = c.as_slice-lines.result.now in
-    let found = lane_here plan.lanes lane c.index-as_slice-work.result
-    c.requires.there (c.index-as_slice-work.is
-    ∙ ap (λ ls. get_or ls lane c.index-as_slice-work.result) c.as_slice.ensures.items) in
+    let found = lane_here plan.lanes lane c.index-as_slice-lane.result
+    c.requires.2.there (c.index-as_slice-lane.is
+    ∙ ap (λ ls. get_or ls lane c.index-as_slice-lane.result) c.as_slice.ensures.items) in
     let same : lines ≡ lane_calls plan lane = c.as_slice-lines.ensures.items ∙ found in (
       as_it_is plan w,
-      next_call plan v.contexts.now v.counter lane c.calls.call w _ c.requires.shared
-          c.requires.there (ap (λ (ls : List CallLine). slice_get ls c.calls.call) (sym same)
+      next_call plan v.contexts.now v.counter lane c.calls.call w _ c.requires.1
+          c.requires.2.there (ap (λ (ls : List CallLine). slice_get ls c.calls.call) (sym same)
           ∙ slice_get-get_or lines c.calls.call _ c.calls-test.true) c.calls.invariant,
     )
 
@@ -67,17 +75,17 @@ pub calls-preserved : goal.calls-preserved
 calls-preserved g c =
     let v = c.args.self.now in
     let plan = v.plan.now in
-    let lane = c.args.work.now.lane in
-    let w = c.calls.work in
-    let new = c.answer.new.work in
+    let lane = c.args.lane.now.lane in
+    let w = c.calls.lane in
+    let new = c.reply.new.work in
     let lines = c.as_slice-lines.result.now in
-    let found = lane_here plan.lanes lane c.index-as_slice-work.result
-    c.requires.there (c.index-as_slice-work.is
-    ∙ ap (λ ls. get_or ls lane c.index-as_slice-work.result) c.as_slice.ensures.items) in
+    let found = lane_here plan.lanes lane c.index-as_slice-lane.result
+    c.requires.2.there (c.index-as_slice-lane.is
+    ∙ ap (λ ls. get_or ls lane c.index-as_slice-lane.result) c.as_slice.ensures.items) in
     let same : lines ≡ lane_calls plan lane = c.as_slice-lines.ensures.items ∙ found in
-    let one = c.answer.ensures (as_it_is plan w)
-    (next_call plan v.contexts.now v.counter lane c.calls.call w _ c.requires.shared
-    c.requires.there (ap (λ (ls : List CallLine). slice_get ls c.calls.call) (sym same)
+    let one = c.reply.ensures (as_it_is plan w)
+    (next_call plan v.contexts.now v.counter lane c.calls.call w _ c.requires.1
+    c.requires.2.there (ap (λ (ls : List CallLine). slice_get ls c.calls.call) (sym same)
     ∙ slice_get-get_or lines c.calls.call _ c.calls-test.true) c.calls.invariant) in
     subst (LaneIsAt plan v.contexts.now v.counter lane (c.calls.call + 1))
     (is_as_it_was plan w new one.adds.more one.adds.replies)
@@ -88,16 +96,16 @@ pub returns : goal.returns
 returns g c =
     let v = c.args.self.now in
     let plan = v.plan.now in
-    let lane = c.args.work.now.lane in
-    let found = lane_here plan.lanes lane c.index-as_slice-work.result
-    c.requires.there (c.index-as_slice-work.is
-    ∙ ap (λ ls. get_or ls lane c.index-as_slice-work.result) c.as_slice.ensures.items) in
+    let lane = c.args.lane.now.lane in
+    let found = lane_here plan.lanes lane c.index-as_slice-lane.result
+    c.requires.2.there (c.index-as_slice-lane.is
+    ∙ ap (λ ls. get_or ls lane c.index-as_slice-lane.result) c.as_slice.ensures.items) in
     let size = ap length (c.as_slice-lines.ensures.items ∙ found) in
     let all : c.calls.call ≡ length (lane_calls plan lane) = omega (arith, size) in
-    let done = subst (λ k. LaneIsAt plan v.contexts.now v.counter lane k c.calls.work) all
+    let done = subst (λ k. LaneIsAt plan v.contexts.now v.counter lane k c.calls.lane) all
     c.calls.invariant in
     record {
       lane = c.calls.invariant.lane_is;
-      served = is_served plan v.contexts.now v.counter lane c.calls.work done;
+      served = is_served plan v.contexts.now v.counter lane c.calls.lane done;
       is_at = done;
     }

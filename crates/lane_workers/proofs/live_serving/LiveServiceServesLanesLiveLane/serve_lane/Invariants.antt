@@ -1,5 +1,5 @@
 use Rattle.lane_workers.specs.LiveLanes.{lives, LiveLaneIsAt}
-use Rattle.lane_workers.proofs.live_calls.LiveService.serve_lane.Given as goal
+use Rattle.lane_workers.proofs.live_serving.LiveServiceServesLanesLiveLane.serve_lane.Given as goal
 
 abbrev pub invariant-calls : goal.invariant-calls
 invariant-calls g l =

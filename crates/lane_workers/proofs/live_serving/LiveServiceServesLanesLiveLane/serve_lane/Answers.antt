@@ -13,14 +13,14 @@ use Rattle.lane_workers.specs.LiveServed.{LiveLaneIsServed}
 use Rattle.lane_workers.specs.Served.{seen_by}
 use Rattle.lane_workers.proofs.LiveEnded.{is_served}
 use Rattle.lane_workers.proofs.Found.{lane_here}
-use Rattle.lane_workers.proofs.live_calls.LiveService.serve_lane.Goals as goal
+use Rattle.lane_workers.proofs.live_serving.LiveServiceServesLanesLiveLane.serve_lane.Goals as goal
 
 pub overflow_cast-call : goal.overflow_cast-call
 overflow_cast-call g c =
     let plan = c.args.self.now.service.plan.now in
     let lane = c.args.lane.now.work.lane in
-    let few = calls_few plan lane c.requires.shared.within c.requires.fresh.there in
-    let found = lane_here plan.lanes lane c.index-as_slice-lane.result c.requires.fresh.there
+    let few = calls_few plan lane c.requires.1.within c.requires.2.there in
+    let found = lane_here plan.lanes lane c.index-as_slice-lane.result c.requires.2.there
     (c.index-as_slice-lane.is
     ∙ ap (λ ls. get_or ls lane c.index-as_slice-lane.result) c.as_slice.ensures.items) in
     let same = ap length (c.as_slice-lines.ensures.items ∙ found) in
@@ -46,21 +46,21 @@ answer-requires-clause-may g c κs within =
     let v = lives s.service.plan.now s.service.contexts.now s.table.now s.service.counter in
     let lane = c.args.lane.now.work.lane in
     let lines = c.as_slice-lines.result.now in
-    let found = lane_here v.plan.lanes lane c.index-as_slice-lane.result c.requires.fresh.there
+    let found = lane_here v.plan.lanes lane c.index-as_slice-lane.result c.requires.2.there
     (c.index-as_slice-lane.is
     ∙ ap (λ ls. get_or ls lane c.index-as_slice-lane.result) c.as_slice.ensures.items) in
     let same : lines ≡ lane_calls v.plan lane = c.as_slice-lines.ensures.items ∙ found in
-    next_call v lane c.calls.call _ c.calls.lane c.requires.shared c.requires.fresh.there
+    next_call v lane c.calls.call _ c.calls.lane c.requires.1 c.requires.2.there
     (ap (λ (ls : List CallLine). slice_get ls c.calls.call) (sym same)
     ∙ slice_get-get_or lines c.calls.call _ c.calls-test.true) c.calls.invariant
 
 pub bounds-as_slice-lane : goal.bounds-as_slice-lane
 bounds-as_slice-lane g c =
     subst (λ (ls : List (List CallLine)). c.args.lane.now.work.lane < length ls)
-    (sym c.as_slice.ensures.items) c.requires.fresh.there
+    (sym c.as_slice.ensures.items) c.requires.2.there
 
 pub calls-init : goal.calls-init
-calls-init g c = c.requires.fresh.is_at
+calls-init g c = c.requires.2.is_at
 
 pub calls-preserved : goal.calls-preserved
 calls-preserved g c =
@@ -74,7 +74,7 @@ returns g c =
     let s = c.args.self.now in
     let v = lives s.service.plan.now s.service.contexts.now s.table.now s.service.counter in
     let lane = c.args.lane.now.work.lane in
-    let found = lane_here v.plan.lanes lane c.index-as_slice-lane.result c.requires.fresh.there
+    let found = lane_here v.plan.lanes lane c.index-as_slice-lane.result c.requires.2.there
     (c.index-as_slice-lane.is
     ∙ ap (λ ls. get_or ls lane c.index-as_slice-lane.result) c.as_slice.ensures.items) in
     let size = ap length (c.as_slice-lines.ensures.items ∙ found) in
@@ -90,6 +90,6 @@ returns g c =
           l.work.passes.items (answers_in l.work)) same
           (subst (λ (p : Option PassView). LiveLaneIsServed v.plan replies (standing v) l.work.lane
           (seen_by p) l.work.passes.items (answers_in l.work)) (sym done.holds)
-          (is_served v c.requires.shared l done replies adds));
+          (is_served v c.requires.1 l done replies adds));
       done = done;
     }
