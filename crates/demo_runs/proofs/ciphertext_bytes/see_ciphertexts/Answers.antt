@@ -1,6 +1,6 @@
 use Rattle.std.proofs.Common.{arith}
 use Rattle.demo_runs.proofs.Seen.{seen_more}
-use Rattle.demo_runs.proofs.ciphertexts.see_ciphertexts.Goals as goal
+use Rattle.demo_runs.proofs.ciphertext_bytes.see_ciphertexts.Goals as goal
 
 pub ciphertexts-preserved : goal.ciphertexts-preserved
 ciphertexts-preserved c =
