@@ -28,7 +28,7 @@
 #![tactic(auto)]
 
 mod batches;
-mod ciphertexts;
+mod ciphertext_bytes;
 mod laws;
 mod opening;
 mod plans;
@@ -38,7 +38,7 @@ mod sealing;
 mod texts;
 
 pub use batches::{DemoBatch, ServedBatch};
-pub use ciphertexts::{CIPHERTEXT_SIZE, see_bytes};
+pub use ciphertext_bytes::{CIPHERTEXT_SIZE, see_bytes};
 pub use laws::one_report;
 pub use opening::begin_opening;
 pub use plans::{opening_batch, sealing_batch};

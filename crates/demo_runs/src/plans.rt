@@ -6,7 +6,7 @@ ghost use Rattle.request_frames.specs.Batch.{Spells};
 ghost use Rattle.demo_runs.specs.Texts.{sealing_text, opening_text};
 ghost use Rattle.demo_runs.specs.Plans.{IsSealingPlan, IsOpeningPlan};
 
-use crate::ciphertexts::{CIPHERTEXT_SIZE, see_ciphertexts};
+use crate::ciphertext_bytes::{CIPHERTEXT_SIZE, see_ciphertexts};
 use crate::texts::{opening_text, sealing_text};
 use batch_plans::Plan;
 use field_text::ReadBatchFault;

@@ -7,7 +7,7 @@ ghost use Rattle.demo_runs.specs.Demo.{IsDemo};
 ghost use Rattle.demo_runs.specs.Batches.{IsSealed, HasOpened};
 
 use crate::batches::ServedBatch;
-use crate::ciphertexts::CIPHERTEXT_SIZE;
+use crate::ciphertext_bytes::CIPHERTEXT_SIZE;
 use crate::opening::opened_messages;
 use crate::report_lines::DemoReport;
 use crate::sealing::Ciphertexts;

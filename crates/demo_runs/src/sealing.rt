@@ -10,7 +10,7 @@ ghost use Rattle.demo_runs.specs.Batches.{IsSealed, is_generated, IsSealing, Has
 ghost use Rattle.demo_runs.specs.Steps.{IsSealedLane, AreSealedLanes, put_all};
 
 use crate::batches::{DemoBatch, ServedBatch, begin};
-use crate::ciphertexts::{CIPHERTEXT_SIZE, see_bytes};
+use crate::ciphertext_bytes::{CIPHERTEXT_SIZE, see_bytes};
 use crate::plans::sealing_batch;
 use batch_plans::{Answers, CallLine, KeyReply, LaneAnswers, PlainList, Plan, Reply};
 use std::alloc::{AllocError, Global};

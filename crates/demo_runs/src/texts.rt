@@ -8,7 +8,7 @@ ghost use Rattle.demo_runs.specs.Texts.{seed_bytes, front_text, seal_line, seali
 ghost use Rattle.demo_runs.specs.Texts.{opening_text, opening_line, opening_size};
 ghost use Rattle.field_text.specs.Printing.{hex_text};
 
-use crate::ciphertexts::CIPHERTEXT_SIZE;
+use crate::ciphertext_bytes::CIPHERTEXT_SIZE;
 use std::alloc::{AllocError, Global};
 
 const SET_UP_LINES: &str =
