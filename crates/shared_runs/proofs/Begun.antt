@@ -16,6 +16,7 @@ use Rattle.lane_workers.specs.Handing.{list_at}
 use Rattle.lane_workers.specs.Turns.{shared_at, view_in, views}
 use Rattle.shared_runs.specs.Sharing.{IsSharedBy, Shares, SharesEach}
 use Rattle.shared_runs.specs.Tables.{AreLeft}
+use Rattle.lane_workers.proofs.Found.{one_of, none_some}
 
 -- ---- quotas
 
@@ -35,12 +36,6 @@ module _ (plan : Plan) (contexts : List (Option ContextView)) where
 
 -- ---- contexts that were shared
 
-one_shared : (x y : SharedView) → Some x ≡ Some y → x ≡ y
-one_shared x y is = cc
-
-none_some : {X : Type 0} (x : X) → None ≡ Some x → ⊥
-none_some x e = cc
-
 view_here : (o : Option ContextView) (quotas counter : List ℕ) (x : Option SharedView)
     (l : Option PassListView) → Shares o quotas counter x l → view_in x ≡ o
 view_here None quotas counter x l t = ap view_in t.0
@@ -52,7 +47,7 @@ shared_here : (o : Option ContextView) (quotas counter : List ℕ) (x : Option S
     × (l ≡ Some (record { passes = fresh_from s.lock 0 (length quotas); made = length quotas }))
 shared_here None quotas counter x l s t is = absurd (none_some s (sym t.0 ∙ is))
 shared_here (Some view) quotas counter x l s t is =
-    let same : t.0 ≡ s = one_shared t.0 s (sym t.1 ∙ is) in
+    let same : t.0 ≡ s = one_of t.0 s (sym t.1 ∙ is) in
     subst (λ (y : SharedView). IsSharedBy y.context quotas counter y
     × (l ≡ Some (record { passes = fresh_from y.lock 0 (length quotas); made = length quotas }))) same
     (subst (λ (v : ContextView). IsSharedBy v quotas counter t.0) (sym t.2.context) t.2, t.3)

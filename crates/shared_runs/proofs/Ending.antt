@@ -27,7 +27,7 @@ use Rattle.lane_workers.specs.Served.{seen_of}
 use Rattle.lane_workers.specs.Turns.{views}
 use Rattle.shared_runs.specs.declared.tables.Table.{Table}
 use Rattle.shared_runs.specs.declared.tables.Left.{Left}
-use Rattle.shared_runs.specs.Tables.{planned, HasStamps, IsOwnTable, journal_rooms}
+use Rattle.shared_runs.specs.Tables.{planned, HasStamps, IsOwnTable}
 use Rattle.shared_runs.specs.Collected.{Collected}
 use Rattle.shared_runs.specs.Closing.{entries_of, HasClosedAll}
 use Rattle.shared_runs.proofs.Closed.{book_at, entries_at}
@@ -116,8 +116,13 @@ module _ (plan : Plan) (contexts : List (Option ContextView)) (none : plan.lanes
         given = subst (λ ds. IsPermutation ds []) (sym (no_stamps numbers)) (IsPermutation-refl []);
       }
 
+  -- the journals of all contexts before the lanes are served: a place for each item that there will be
+  abbrev journal_rooms : List (List Mark)
+  journal_rooms = map (journal_room plan.contexts (export_limits contexts) plan.lanes)
+      (range_with_len 0 (length plan.contexts))
+
   pub no_journals : (rooms : List (List Mark))
-      → rooms ≡ journal_rooms plan contexts → map (map mark_of) no_books ≡ rooms
+      → rooms ≡ journal_rooms → map (map mark_of) no_books ≡ rooms
   no_journals rooms is =
       each (range_with_len 0 (length plan.contexts))
       ∙ ap (λ lanes. map (journal_room plan.contexts (export_limits contexts) lanes)

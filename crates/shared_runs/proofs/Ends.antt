@@ -5,6 +5,7 @@ use Rattle.std.proofs.lemmas.Bool.Decides.{nat_tests}
 use Rattle.std.proofs.lemmas.List.{length-map, get_or-map, nil_from_length}
 use Rattle.context_books.proofs.Lists.{is_cases}
 use Rattle.shared_runs.specs.Serving.{InOrder}
+use Rattle.lane_workers.proofs.Found.{none_some}
 
 pub at_front : {X : Type 0} (xs ys : List X) (d : X) (k : ℕ) → k < length xs
     → get_or (xs ++ ys) k d ≡ get_or xs k d
@@ -32,9 +33,6 @@ pub pushed_at : {X : Type 0} (xs : List X) (y w : X) (k : ℕ) → slice_get (xs
     → (slice_get xs k ≡ Some w) ⊎ ((k ≡ length xs) × (y ≡ w))
 pushed_at [] y w zero e = inr (refl, cc)
 pushed_at [] y w (suc k) e = absurd (none_some w e)
-  where
-    none_some : {X : Type 0} (x : X) → None ≡ Some x → ⊥
-    none_some x e = cc
 pushed_at (x ∷ xs) y w zero e = inl e
 pushed_at (x ∷ xs) y w (suc k) e = elim (pushed_at xs y w k e) [
   | inl before ↦ inl before
@@ -88,9 +86,6 @@ some_elements xs e = grind (arith, nat_tests)
 module _ {L : Type 0} (P : ℕ → L → Type 0) where
   pub none_in_order : InOrder P 0 []
   none_in_order = record { count_is = refl; each = λ lane l at. absurd (none_some l at) }
-    where
-      none_some : (l : L) → None ≡ Some l → ⊥
-      none_some l e = cc
 
   pub one_in_order : (n : ℕ) (lanes : List L) (l : L) → InOrder P n lanes → P n l
       → InOrder P (n + 1) (lanes ++ l ∷ [])

@@ -18,6 +18,7 @@ use Rattle.lane_workers.specs.Served.{seen_of, seen_by}
 use Rattle.lane_workers.specs.Turns.{shared_at, pass_at, views}
 use Rattle.shared_runs.specs.declared.tables.Table.{Table}
 use Rattle.shared_runs.specs.Tables.{planned, IsTable, AreLeft, IsHanded}
+use Rattle.lane_workers.proofs.Found.{one_of, none_some}
 
 pub IfOk-both : {X E : Type 0} (r : Result X E) (P Q R : X → Type 0)
     → ((x : X) → P x → Q x → R x) → IfOk r P → IfOk r Q → IfOk r R
@@ -33,9 +34,6 @@ pub written_back : {X : Type 0} (len : ℕ) (items new : List X) → len ≡ len
     → length new ≡ length items → take len (new ++ drop (length new) items) ≡ new
 written_back len items new size same =
     take-append-le len new (drop (length new) items) (omega arith) ∙ take_all len new (omega arith)
-
-none_some : {X : Type 0} (x : X) → None ≡ Some x → ⊥
-none_some x e = cc
 
 -- a context that is shared has a number below their count
 pub within_shared : (shared : List (Option SharedView)) (number : ℕ) (s : SharedView)
@@ -113,14 +111,11 @@ is_given t table lane low passes seat handed answers room stamps same = record {
     seat,
     refl,
     subst (λ (id : List ℕ). IsNote id seat)
-        (sym (ap (λ (b : Bor CounterView). b.now.id) (one_counter other stamps (sym is)) ∙ same))
+        (sym (ap (λ (b : Bor CounterView). b.now.id) (one_of other stamps (sym is)) ∙ same))
         handed.note,
   );
   room = room;
 }
-  where
-    one_counter : (x y : Bor CounterView) → Some x ≡ Some y → x ≡ y
-    one_counter x y is = cc
 
 -- the room of a lane's answers is small
 pub room_is_small : (t : Table) → IsTable t → (lane : ℕ) → lane < length t.lanes.now

@@ -19,6 +19,7 @@ use Rattle.shared_runs.proofs.Ending as shared
 use Rattle.shared_runs.specs.declared.live_contexts.LiveContexts.{LiveContexts}
 use Rattle.shared_runs.specs.declared.live_contexts.LiveLeft.{LiveLeft}
 use Rattle.shared_runs.specs.LiveCollected.{tables_of, CollectedLive}
+use Rattle.lane_workers.proofs.Found.{none_some}
 
 module _ (t : LiveContexts) (l : LiveLeft) (answers : List LaneAnswers) (c : CollectedLive t l answers)
     (count : length answers ≡ length t.shared.plan.now.lanes) (replies : List ContextReply)
@@ -67,6 +68,3 @@ module _ (plan : Plan) (contexts : List (Option ContextView)) (replies : List Co
         given = subst (λ ds. IsPermutation ds (range_with_len 0 closed.stamps))
             (sym (append-nil stamps)) closed.given;
       }
-    where
-      none_some : (e : Entry) → None ≡ Some e → ⊥
-      none_some e is = cc

@@ -23,12 +23,7 @@ use Rattle.shared_runs.specs.declared.live_contexts.LiveContexts.{LiveContexts}
 use Rattle.shared_runs.specs.declared.live_contexts.LiveLeft.{LiveLeft}
 use Rattle.shared_runs.specs.LiveContexts.{AreLive, HasGivenLive, IsReadyLive, seen_by_lanes}
 use Rattle.shared_runs.proofs.LiveShared.{planned_live, lanes_count, are_shared_live}
-
-one_pass : (p q : PassView) → Some p ≡ Some q → p ≡ q
-one_pass p q e = cc
-
-one_list : (p q : PassListView) → Some p ≡ Some q → p ≡ q
-one_list p q e = cc
+use Rattle.lane_workers.proofs.Found.{one_of}
 
 -- calls that have the places of their contexts are as many
 pub own_lane : (t : LiveContexts) (lane : ℕ) → lane < length (all_live t.shared.plan.now).lanes
@@ -59,7 +54,7 @@ module _ (t : LiveContexts) (lane : ℕ) (low : lane < length t.shared.plan.now.
       let first = take_first left.passes new r none taken lowest made t.names.lock lane
       (n - (lane + 1)) fresh_left in (
         first.0,
-        one_list new _ first.1
+        one_of new _ first.1
             ∙ ap (λ m. record { passes = fresh_from t.names.lock (lane + 1) (n - (lane + 1)); made = m })
             (ap (λ (l : PassListView). l.made) given.names),
       )

@@ -21,6 +21,7 @@ use Rattle.shared_runs.specs.Tables.{HasGiven}
 use Rattle.shared_runs.specs.LiveContexts.{AreLive, HasGivenLive, seen_by_lanes}
 use Rattle.shared_runs.specs.LiveCollected.{tables_of, CollectedLive}
 use Rattle.shared_runs.proofs.LiveShared.{lanes_count}
+use Rattle.lane_workers.proofs.Found.{none_some}
 
 pub passes_of_lane : (t : LiveContexts) (counter : Option (Bor CounterView)) (lane k : ℕ) → lane ≡ k
     → (pass : PassView) (passes : List (Option PassView)) (seat : Option SeatView) (a : LaneAnswers)
@@ -53,9 +54,6 @@ none_collected t l live given =
             absurd (none_some p (ap (λ ps. slice_get ps lane) (sym none) ∙ at));
       };
     }
-  where
-    none_some : (p : PassView) → Rattle.std.proofs.Common.None ≡ Some p → ⊥
-    none_some p e = cc
 
 -- a lane more
 module _ (t : LiveContexts) (old new : LiveLeft) (answers : List LaneAnswers)

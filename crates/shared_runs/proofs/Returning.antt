@@ -19,9 +19,7 @@ use Rattle.shared_runs.specs.Tables.{HasGiven}
 use Rattle.shared_runs.specs.Collected.{passes_of, ArePassesOf, IsListOf, ArePut, AreBack, Collected}
 use Rattle.shared_runs.proofs.Ends.{at_end, at_front, one_more, got_here}
 use Rattle.shared_runs.proofs.Handed.{within_shared}
-
-none_some : {X : Type 0} (x : X) → None ≡ Some x → ⊥
-none_some x e = cc
+use Rattle.lane_workers.proofs.Found.{one_of, none_some}
 
 -- ---- lists with one element more
 
@@ -78,9 +76,6 @@ may_put t l given back few passes are = record {
   };
 }
   where
-    one_list : (x y : PassListView) → Some x ≡ Some y → x ≡ y
-    one_list x y e = cc
-
     by_case : (number : ℕ) (list : PassListView) → list_at l.passes.items number ≡ Some list
         → (o : Option SharedView) → shared_at t.contexts number ≡ o
         → (p : PassView) × (pass_at passes number ≡ Some p) × (length list.passes < list.made)
@@ -88,7 +83,7 @@ may_put t l given back few passes are = record {
     by_case number list at (Some s) is =
         let b = back.each number s is in
         let p = are.each number s is in
-        let same : b.0 ≡ list = one_list b.0 list (sym b.1 ∙ at) in
+        let same : b.0 ≡ list = one_of b.0 list (sym b.1 ∙ at) in
         let size = b.2.count in
         let made = b.2.made in (
           p.0,

@@ -1,5 +1,5 @@
 -- The shares of a counter and its seats, one after another.
-use Rattle.std.proofs.Common.{◌≡◌, ℕ, ◌+◌, ◌<◌, ◌≤◌, List, [], ◌∷◌, ◌++◌, length, map, take, drop, get_or, sym, ap, ◌∙◌, arith}
+use Rattle.std.proofs.Common.{◌≡◌, ℕ, ◌+◌, ◌<◌, ◌≤◌, List, [], ◌∷◌, ◌++◌, length, map, take, drop, get_or, Option, Some, None, IsSome, IsNone, refl, sym, ap, ◌∙◌, arith}
 use Rattle.std.specs.Prelude.{sum}
 use Rattle.std.proofs.lemmas.List.{drop_more, get_or-map, map_more, length-map}
 use Rattle.std.proofs.lemmas.List.Sums.{sum-map, sum_by-cons, get_or-le-sum_by}
@@ -44,19 +44,11 @@ first_seats counter given all others seats left rest seat other is shares_are ta
 no_cons : (x : SeatView) (xs : List SeatView) → [] ≡ x ∷ xs → ⊥
 no_cons x xs e = cc
 
--- there is one for the share 0, and one for other lists
-pub some_first : (counter given : List ℕ) (all : List (List ℕ)) (others : ℕ) (seats : List SeatView)
-    → seats ≡ fresh_seats counter given → given ≡ shares all others → seats ≡ [] → ⊥
-some_first counter given all others seats is shares_are none =
-    no_cons (fresh_seat counter 0) _ (sym none ∙ is ∙ ap (fresh_seats counter) shares_are)
-
-pub some_next : (counter given : List ℕ) (all : List (List ℕ)) (others : ℕ)
-    (seats left : List SeatView) (seat : SeatView) → seats ≡ fresh_seats counter given
-    → given ≡ shares all others → seats ≡ seat ∷ left → left ≡ [] → ⊥
-some_next counter given all others seats left seat is shares_are taken none =
-    no_cons (fresh_seat counter others) _ (sym none
-    ∙ (both_parts seat (fresh_seat counter 0) left _
-    (sym taken ∙ is ∙ ap (fresh_seats counter) shares_are)).1)
+-- where seats are left one is taken
+pub some_taken : (taken : Option SeatView) (seats left : List SeatView) (seat : SeatView)
+    → (IsNone taken → seats ≡ []) → seats ≡ seat ∷ left → IsSome taken
+some_taken None seats left seat none is = absurd (no_cons seat left (sym (none refl) ∙ is))
+some_taken (Some s) seats left seat none is = refl
 
 -- the first seat that is left is that of the next share
 pub next_seat : (counter : List ℕ) (all : List (List ℕ)) (k : ℕ) → k < length all

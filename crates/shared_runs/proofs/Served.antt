@@ -20,6 +20,7 @@ use Rattle.shared_runs.specs.BegunRuns.{IsBegun}
 use Rattle.shared_runs.specs.Serving.{InOrder}
 use Rattle.shared_runs.specs.Tables.{planned, IsTable, HasStamps, HasOwnLanes, IsOwnTable, IsReady, IsDoneLane}
 use Rattle.shared_runs.proofs.Begun.{lanes_count}
+use Rattle.lane_workers.proofs.Found.{one_of, none_some}
 
 -- the contexts of a table are shared as its lanes need them
 pub are_shared : (t : Table) (stamps : Bor CounterView) → IsTable t → stamps.now.id ≡ t.counter.id
@@ -70,12 +71,6 @@ own_shared t own stamps is same =
 -- ---- lanes
 
 module _ {L : Type 0} where
-  none_some : (w : L) → None ≡ Some w → ⊥
-  none_some w e = cc
-
-  one_lane : (w v : L) → Some w ≡ Some v → w ≡ v
-  one_lane w v e = cc
-
   module _ (P : L → Type 0) where
     pub each_of : (lanes : List L) → ((k : ℕ) (w : L) → slice_get lanes k ≡ Some w → P w)
         → Each P lanes
@@ -95,7 +90,7 @@ module _ {L : Type 0} where
     served_at [] [] all k v at = absurd (none_some v at)
     served_at [] (x ∷ xs) all k v at = absurd all
     served_at (w ∷ ws) [] all k v at = absurd all
-    served_at (w ∷ ws) (x ∷ xs) all zero v at = (w, refl, subst (P w) (one_lane x v at) all.0)
+    served_at (w ∷ ws) (x ∷ xs) all zero v at = (w, refl, subst (P w) (one_of x v at) all.0)
     served_at (w ∷ ws) (x ∷ xs) all (suc k) v at = served_at ws xs all.1 k v at
 
 -- lanes that were ready and are served are done

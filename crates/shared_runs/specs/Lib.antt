@@ -1,6 +1,7 @@
 pub mod Serving
 pub mod BegunRuns
 pub mod Sharing
+pub mod Counting
 pub mod Tables
 pub mod Collected
 pub mod Closing

@@ -1,8 +1,6 @@
 -- ---- for the proofs: shared contexts, and what of them is with no lane.
 use Rattle.std.specs.Prelude.{ℕ, ◌≡◌, ◌+◌, ◌-◌, List, [], length, map, sum, Option, Some, None}
-use Rattle.std.specs.List.{range_with_len}
 use Rattle.std.specs.Borrow.{Bor}
-use Rattle.call_places.specs.declared.entries.Mark.{Mark}
 use Rattle.hpke_context.specs.Contexts.{ContextView}
 use Rattle.turn_lock.specs.Passes.{PassView, PassListView, fresh_pass, fresh_from}
 use Rattle.stamp_counter.specs.Seats.{SeatView, CounterView}
@@ -10,7 +8,6 @@ use Rattle.shared_context.specs.Stamped.{IsNote}
 use Rattle.shared_context.specs.Calls.{SharedView}
 use Rattle.batch_plans.specs.declared.plan.Plan.{Plan}
 use Rattle.batch_plans.specs.Limits.{IsWithinLimits}
-use Rattle.batch_plans.specs.Room.{journal_room}
 use Rattle.context_books.specs.Standing.{AreOfLines, export_limits}
 use Rattle.lane_workers.specs.declared.works.LaneWork.{LaneWork}
 use Rattle.lane_workers.specs.Groups.{IsFresh, IsDone}
@@ -70,11 +67,6 @@ pub record IsHanded (t : Table) (lane : ℕ) (passes : List (Option PassView)) (
       → pass_at passes number ≡ Some (fresh_pass s.lock lane)
   pub unseen : (number : ℕ) → seen_of passes number ≡ []
   pub note : IsNote t.counter.id seat
-
--- the journals of all contexts before the lanes are served: a place for each item that there will be
-abbrev pub journal_rooms : Plan → List (Option ContextView) → List (List Mark)
-journal_rooms plan contexts = map (journal_room plan.contexts (export_limits contexts) plan.lanes)
-    (range_with_len 0 (length plan.contexts))
 
 -- ---- lanes
 

@@ -39,8 +39,7 @@ fn notes_of(plan: &Plan, contexts: &[Option<Context>], call: &CallLine) -> u32
 fn note_quota(plan: &Plan, contexts: &[Option<Context>], calls: &[CallLine]) -> u32
     requires contexts { length plan.now.contexts ≤ most_contexts }
     requires added { plan.now.added ≤ length plan.now.contexts }
-    requires named { All (AddsOneOf plan.now.added) calls.now }
-    requires few { length calls.now < 2 ^ 32 }
+    requires calls { All (AddsOneOf plan.now.added) calls.now × (length calls.now < 2 ^ 32) }
     ensures { result ≡ note_quota plan.now contexts.now calls.now }
 {
     let mut sum = 0;

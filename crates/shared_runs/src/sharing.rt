@@ -2,14 +2,27 @@
 
 ghost use Rattle.std.specs.Prelude.{ℕ, ◌≡◌, ◌<◌, ◌≤◌, List, All, IfOk, length, map, sum};
 ghost use Rattle.stamp_counter.specs.Seats.{fresh_seats};
+ghost use Rattle.shared_runs.specs.Counting.{AreCounted};
 ghost use Rattle.shared_runs.specs.Sharing.{shares, MayShare, Shares, SharesEach};
 
 use batch_plans::PlainList;
 use hpke_context::Context;
 use shared_context::SharedContext;
-use stamp_counter::{SeatList, StampSeat};
+use stamp_counter::{SeatList, StampCounter, StampSeat};
 use std::alloc::{AllocError as OutOfMemory, Global};
 use turn_lock::PassList;
+
+/// A counter of stamps, and the seats that draw from it.
+#[derive(Drop)]
+pub(crate) struct Counted {
+    pub(crate) counter: StampCounter,
+    /// Of it lanes get notes. It may draw none.
+    pub(crate) seat: StampSeat,
+    /// For other lists than those of contexts.
+    pub(crate) other: StampSeat,
+    /// One for each context.
+    pub(crate) seats: SeatList,
+}
 
 // How many entries all lanes may add to a context.
 fn total(quotas: &[u32]) -> u32
@@ -19,12 +32,8 @@ fn total(quotas: &[u32]) -> u32
     quotas.iter().sum()
 }
 
-/// How many stamps each context may draw, behind a share of 0 and that of other lists.
-pub(crate) fn shares(
-    alloc: Global,
-    all: &[PlainList<u32>],
-    others: u32,
-) -> Result<Vec<u32>, OutOfMemory>
+// How many stamps each context may draw, behind a share of 0 and that of other lists.
+fn shares(alloc: Global, all: &[PlainList<u32>], others: u32) -> Result<Vec<u32>, OutOfMemory>
     requires { sum (map sum all.now) ≤ 65536 }
     ensures { IfOk result (λ r. r.items ≡ shares all.now others) }
 {
@@ -35,6 +44,29 @@ pub(crate) fn shares(
         shares.push_reserved(total(quotas.as_slice()));
     }
     Ok(shares)
+}
+
+/// Counts the stamps of contexts with these quotas, and so many others.
+pub(crate) fn count_stamps(
+    alloc: Global,
+    all: &[PlainList<u32>],
+    others: u32,
+) -> Result<Counted, OutOfMemory>
+    requires few { length all.now ≤ 510 }
+    requires sum { sum (map sum all.now) ≤ 65536 }
+    requires others { others ≤ 65536 }
+    ensures { IfOk result (AreCounted all.now others) }
+{
+    let shares = shares(alloc, all, others)?;
+    let (counter, mut seats) = StampCounter::new(alloc, &shares)?;
+    let seat = seats.take().unwrap();
+    let other = seats.take().unwrap();
+    Ok(Counted {
+        counter,
+        seat,
+        other,
+        seats,
+    })
 }
 
 // Shares a context, where it stands. The stamps of its entries are drawn from `seat`.

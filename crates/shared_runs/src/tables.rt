@@ -9,7 +9,7 @@ ghost use Rattle.lane_workers.specs.Turns.{views};
 ghost use Rattle.shared_runs.specs.Tables.{IsTable, HasStamps, HasGiven, IsHanded};
 ghost use Rattle.shared_runs.specs.Collected.{ArePassesOf, AreBack};
 
-use crate::sharing::{share_all, shares};
+use crate::sharing::{Counted, count_stamps, share_all};
 use batch_plans::{LaneLines, PlainList, Plan};
 use context_books::all_quotas;
 use hpke_context::Context;
@@ -64,15 +64,14 @@ impl<'a> Table<'a> {
         ensures stamps { IfOk result (λ r. HasStamps others r.0) }
     {
         let all = all_quotas(alloc, lanes, contexts)?;
-        let shares = shares(alloc, &all, others)?;
-        let (counter, mut seats) = StampCounter::new(alloc, &shares)?;
-        let Some(seat) = seats.take() else {
-            unreachable!()
-        };
-        let Some(other) = seats.take() else {
-            unreachable!()
-        };
-        let (shared, passes) = share_all(alloc, contexts, &all, &mut seats)?;
+        let mut counted = count_stamps(alloc, &all, others)?;
+        let (shared, passes) = share_all(alloc, contexts, &all, &mut counted.seats)?;
+        let Counted {
+            counter,
+            seat,
+            other,
+            ..
+        } = counted;
         let table = Table {
             plan,
             lanes,

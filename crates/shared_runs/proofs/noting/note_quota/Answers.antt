@@ -16,5 +16,5 @@ overflow_add-sum c =
       length-take k calls,
       c.notes_of-sum.ensures,
       notes_few plan contexts,
-      c.requires.few,
+      c.requires.calls.1,
     )

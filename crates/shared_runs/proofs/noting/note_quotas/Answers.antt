@@ -12,8 +12,8 @@ note_quota-requires-clause-contexts c = c.requires.within.contexts
 pub note_quota-requires-clause-added : goal.note_quota-requires-clause-added
 note_quota-requires-clause-added c = c.requires.within.added
 
-pub note_quota-requires-clause-named : goal.note_quota-requires-clause-named
-note_quota-requires-clause-named c =
+pub note_quota-requires-clause-calls : goal.note_quota-requires-clause-calls
+note_quota-requires-clause-calls c =
     let plan = c.args.plan.now in
     let k = c.lanes.calls-index in
     let items = c.as_slice-calls-items.result.now in
@@ -22,18 +22,6 @@ note_quota-requires-clause-named c =
     let here : c.as_slice.result.now ≡ get_or plan.lanes k [] =
     c.as_slice.ensures.items ∙ found_here items k c.calls-item.result [] low c.calls-item.is
     ∙ ap (λ ls. get_or ls k []) c.as_slice-calls-items.ensures.items in
-    subst (λ (calls : List CallLine). All (AddsOneOf plan.added) calls) (sym here)
-    (c.requires.named k [] (omega arith))
-
-pub note_quota-requires-clause-few : goal.note_quota-requires-clause-few
-note_quota-requires-clause-few c =
-    let plan = c.args.plan.now in
-    let k = c.lanes.calls-index in
-    let items = c.as_slice-calls-items.result.now in
-    let size = ap length c.as_slice-calls-items.ensures.items in
-    let low : k < length items = (let test = c.lanes-test.true in omega arith) in
-    let here : c.as_slice.result.now ≡ get_or plan.lanes k [] =
-    c.as_slice.ensures.items ∙ found_here items k c.calls-item.result [] low c.calls-item.is
-    ∙ ap (λ ls. get_or ls k []) c.as_slice-calls-items.ensures.items in
-    subst (λ (calls : List CallLine). length calls < 2 ^ 32) (sym here)
-    (lanes_short plan c.requires.within k [] (omega arith))
+    subst (λ (calls : List CallLine). All (AddsOneOf plan.added) calls × (length calls < 2 ^ 32))
+    (sym here)
+    (c.requires.named k [] (omega arith), lanes_short plan c.requires.within k [] (omega arith))

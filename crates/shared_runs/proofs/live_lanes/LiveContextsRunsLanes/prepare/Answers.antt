@@ -2,6 +2,7 @@ use Rattle.std.proofs.Common.{◌≡◌, Some, None, sym, ◌∙◌}
 use Rattle.turn_lock.specs.Passes.{PassView, fresh_pass}
 use Rattle.shared_runs.proofs.Handed.{room_is_small}
 use Rattle.shared_runs.proofs.LiveHanded.{name_pass, below, placed_room, is_ready, own_lane}
+use Rattle.lane_workers.proofs.Found.{one_of, none_some}
 use Rattle.shared_runs.proofs.live_lanes.LiveContextsRunsLanes.prepare.Goals as goal
 
 pub hand_out-requires : goal.hand_out-requires
@@ -29,9 +30,6 @@ unreachable-requires g c =
     let first = (name_pass t lane (own_lane t lane c.requires.lane) c.args.left.now c.requires.given
     c.take.new.self c.take.result e.none e.taken e.lowest e.made).0 in
     none_some (fresh_pass t.names.lock c.args.lane) (sym c.in_default.is ∙ first)
-  where
-    none_some : (p : PassView) → None ≡ Some p → ⊥
-    none_some p e = cc
 
 pub returns-clause-ready : goal.returns-clause-ready
 returns-clause-ready g c =
@@ -45,11 +43,8 @@ returns-clause-ready g c =
     (c.in_ok-passes.ensures.handed lane (below t c.requires.kept lane own) c.requires.given.shared)
     c.args.answers c.requires.room
     c.in_ok-work.work c.in_ok-work.ensures.prepared c.in-Some.pass
-    (one_pass c.in-Some.pass (fresh_pass t.names.lock lane) (sym c.in-Some.is ∙ first))
+    (one_of c.in-Some.pass (fresh_pass t.names.lock lane) (sym c.in-Some.is ∙ first))
     c.new.result c.new.ensures.lane c.new.ensures.fresh
-  where
-    one_pass : (p q : PassView) → Some p ≡ Some q → p ≡ q
-    one_pass p q e = cc
 
 pub returns-clause-given : goal.returns-clause-given
 returns-clause-given g c =
