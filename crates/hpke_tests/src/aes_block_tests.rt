@@ -1,11 +1,9 @@
 //! The standard's example vectors.
 
-use crate::expected::assert_bytes;
+use crate::expected::{array_of, assert_bytes};
 use aes_block::AesKey;
-use hex::FromHex;
 use std::alloc::Global;
 use std::process::Abort;
-use std::test::Fail;
 
 struct BlockCase {
     source: &'static str,
@@ -15,7 +13,7 @@ struct BlockCase {
     last_round_key: &'static str,
 }
 
-const BLOCKS128: [BlockCase; 2] = [
+static BLOCKS128: [BlockCase; 2] = [
     BlockCase {
         source: "FIPS 197, A.1 and B",
         key: "2b7e151628aed2a6abf7158809cf4f3c",
@@ -32,7 +30,7 @@ const BLOCKS128: [BlockCase; 2] = [
     },
 ];
 
-const BLOCKS256: [BlockCase; 1] = [BlockCase {
+static BLOCKS256: [BlockCase; 1] = [BlockCase {
     source: "FIPS 197, C.3",
     key: "000102030405060708090a0b0c0d0e0f101112131415161718191a1b1c1d1e1f",
     plaintext: "00112233445566778899aabbccddeeff",
@@ -40,40 +38,35 @@ const BLOCKS256: [BlockCase; 1] = [BlockCase {
     last_round_key: "24fc79ccbf0979e9371ac23c6d68de36",
 }];
 
-fn assert_block(
-    rt: &impl Abort,
-    alloc: Global,
-    key: &AesKey,
-    case: &BlockCase,
-) -> Result<(), Fail> {
-    let plaintext = <[u8; 16]>::from_hex(case.plaintext)?;
+fn assert_block(rt: &impl Abort, alloc: Global, key: &AesKey, case: &BlockCase) {
+    let (source, want) = (case.source, case.ciphertext);
+    let plaintext: [u8; 16] = array_of(rt, case.plaintext);
     let block = key.encrypt_block(&plaintext);
-    assert_bytes(rt, alloc, &block, case.ciphertext, case.source, "block");
-    let block = key.encrypt_eight(&[plaintext; 8])[5];
-    assert_bytes(
-        rt,
-        alloc,
-        &block,
-        case.ciphertext,
-        case.source,
-        "one of eight",
-    );
-    Ok(())
+    assert_bytes(rt, alloc, &block, want, source, "block");
+    let blocks = key.encrypt_eight(&[plaintext; 8]);
+    assert_bytes(rt, alloc, &blocks[5], want, source, "one of eight");
+}
+
+fn assert_128(rt: &impl Abort, alloc: Global, case: &BlockCase) {
+    let key = AesKey::new128(&array_of(rt, case.key));
+    assert_block(rt, alloc, &key, case);
+    let (last, want) = (key.round_key(10), case.last_round_key);
+    assert_bytes(rt, alloc, last, want, case.source, "round key 10");
+}
+
+fn assert_256(rt: &impl Abort, alloc: Global, case: &BlockCase) {
+    let key = AesKey::new256(&array_of(rt, case.key));
+    assert_block(rt, alloc, &key, case);
+    let (last, want) = (key.round_key(14), case.last_round_key);
+    assert_bytes(rt, alloc, last, want, case.source, "round key 14");
 }
 
 #[test]
-fn blocks_are_those_published(rt: HostRuntime) -> Result<(), Fail> {
+fn blocks_are_those_published(rt: HostRuntime) {
     for case in &BLOCKS128 {
-        let key = AesKey::new128(&<[u8; 16]>::from_hex(case.key)?);
-        assert_block(&rt, rt.alloc(), &key, case)?;
-        let (last, want) = (key.round_key(10), case.last_round_key);
-        assert_bytes(&rt, rt.alloc(), last, want, case.source, "round key 10");
+        assert_128(&rt, rt.alloc(), case);
     }
     for case in &BLOCKS256 {
-        let key = AesKey::new256(&<[u8; 32]>::from_hex(case.key)?);
-        assert_block(&rt, rt.alloc(), &key, case)?;
-        let (last, want) = (key.round_key(14), case.last_round_key);
-        assert_bytes(&rt, rt.alloc(), last, want, case.source, "round key 14");
+        assert_256(&rt, rt.alloc(), case);
     }
-    Ok(())
 }

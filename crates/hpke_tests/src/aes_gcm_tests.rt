@@ -1,13 +1,11 @@
 //! Published vectors, texts of many lengths, and tags that were changed.
 
-ghost use Rattle.std.specs.Prelude.{◌≡◌, ◌+◌, ◌≤◌, length};
+ghost use Rattle.std.specs.Prelude.{◌≡◌, ◌+◌, ◌≤◌, length, vec_len};
 
-use crate::expected::{assert_at, assert_bytes, assert_same};
+use crate::expected::{array_of, assert_at, assert_bytes, assert_same, bytes_of};
 use aes_gcm::{Checks, GcmKey};
-use hex::{FromHex, decode};
 use std::alloc::Global;
 use std::process::Abort;
-use std::test::Fail;
 use std::thread::Threads;
 
 struct SealCase {
@@ -21,7 +19,7 @@ struct SealCase {
 }
 
 // McGrew and Viega, The Galois/Counter Mode of Operation (GCM), appendix B, and one of our own.
-const SEALS: [SealCase; 9] = [
+static SEALS: [SealCase; 9] = [
     SealCase {
         source: "GCM specification, test case 1",
         key: "00000000000000000000000000000000",
@@ -106,60 +104,77 @@ const SEALS: [SealCase; 9] = [
 ];
 
 // The key of 32 or of 64 hex digits.
-fn key_of(digits: &str) -> Result<GcmKey, Fail> {
+fn key_of(rt: &impl Abort, digits: &str) -> GcmKey {
     if digits.len() == 32 {
-        Ok(GcmKey::new128(&<[u8; 16]>::from_hex(digits)?))
+        GcmKey::new128(&array_of(rt, digits))
     } else {
-        Ok(GcmKey::new256(&<[u8; 32]>::from_hex(digits)?))
+        GcmKey::new256(&array_of(rt, digits))
     }
 }
 
-fn assert_seal<R: Threads + Abort>(rt: &R, alloc: Global, case: &SealCase) -> Result<(), Fail> {
+// What the key seals, with its tag behind it.
+fn sealed(
+    rt: &impl Abort,
+    alloc: Global,
+    key: &GcmKey,
+    iv: &[u8; 12],
+    aad: &[u8],
+    plaintext: &[u8],
+) -> Vec<u8>
+    requires plaintext { length plaintext.now ≤ 1048576 }
+    requires aad { length aad.now ≤ 64 }
+    ensures { vec_len result ≡ length plaintext.now + 16 }
+{
+    let mut out = vec![in alloc; 0u8; plaintext.len() + 16].expect(rt, "memory");
+    key.seal_into(iv, aad, plaintext, &mut out);
+    out
+}
+
+// The tag holds at the nonce, and not at another one: by one look, and by each of four at once.
+fn assert_held<R: Threads + Abort>(
+    rt: &R,
+    key: &GcmKey,
+    iv: &[u8; 12],
+    aad: &[u8],
+    sealed: &[u8],
+    source: &str,
+)
+    requires sealed { length sealed.now ≤ 1048592 }
+    requires aad { length aad.now ≤ 64 }
+{
+    let hashed = key.hash_ciphertext(rt, aad, sealed);
+    let held = (hashed.holds_at(iv), hashed.holds_at(&NONCE));
+    let what = "hashed once, and another nonce";
+    assert_at(rt, held, (true, false), what, source);
+    let held = hashed.hold_at(&[NONCE, *iv, NONCE, *iv]);
+    let want = [false, true, false, true];
+    assert_at(rt, held, want, "four nonces", source);
+}
+
+fn assert_seal<R: Threads + Abort>(rt: &R, alloc: Global, case: &SealCase) {
     let source = case.source;
-    let key = key_of(case.key)?;
-    let iv = <[u8; 12]>::from_hex(case.iv)?;
-    let plaintext = decode(alloc, case.plaintext)?;
-    let aad = decode(alloc, case.aad)?;
+    let key = key_of(rt, case.key);
+    let iv: [u8; 12] = array_of(rt, case.iv);
+    let plaintext = bytes_of(rt, alloc, case.plaintext);
+    let aad = bytes_of(rt, alloc, case.aad);
     let length = plaintext.len();
     assert!(rt; length <= 64 && aad.len() <= 64, "{source}: lengths");
-    let mut sealed = [0u8; 80];
-    key.seal_into(&iv, &aad, &plaintext, &mut sealed[..length + 16]);
-    let (text, tag) = sealed[..length + 16].split_at(length);
+    let sealed = sealed(rt, alloc, &key, &iv, &aad, &plaintext);
+    let (text, tag) = sealed.split_at(length);
     assert_bytes(rt, alloc, text, case.ciphertext, source, "ciphertext");
     assert_bytes(rt, alloc, tag, case.tag, source, "tag");
-    let hashed = key.hash_ciphertext(rt, &aad, &sealed[..length + 16]);
-    let held = (hashed.holds_at(&iv), hashed.holds_at(&NONCE));
-    assert_at(
-        rt,
-        held,
-        (true, false),
-        "hashed once, and another nonce",
-        source,
-    );
-    let [first, second, third, fourth] = hashed.hold_at(&[NONCE, iv, NONCE, iv]);
-    assert_at(
-        rt,
-        (first, second),
-        (false, true),
-        "the first two of four nonces",
-        source,
-    );
-    assert_at(
-        rt,
-        (third, fourth),
-        (false, true),
-        "the last two of four nonces",
-        source,
-    );
-    Ok(())
+    assert_held(rt, &key, &iv, &aad, &sealed, source);
+}
+
+fn assert_seals<R: Threads + Abort>(rt: &R, alloc: Global, cases: &[SealCase]) {
+    for case in cases {
+        assert_seal(rt, alloc, case);
+    }
 }
 
 #[test]
-fn seals_are_those_published(rt: HostRuntime) -> Result<(), Fail> {
-    for case in &SEALS {
-        assert_seal(&rt, rt.alloc(), case)?;
-    }
-    Ok(())
+fn seals_are_those_published(rt: HostRuntime) {
+    assert_seals(&rt, rt.alloc(), &SEALS);
 }
 
 struct LengthCase {
@@ -168,7 +183,7 @@ struct LengthCase {
 }
 
 // Own, tools/vectors/gcm_lengths.py under Python 3.11.7 with cryptography 48.0.0 (OpenSSL 4.0.0).
-const SEALED: [LengthCase; 9] = [
+static SEALED: [LengthCase; 9] = [
     LengthCase {
         length: 0,
         tag: "7aeee2d17ca93e5334236e177ba86890",
@@ -212,51 +227,54 @@ const KEY: [u8; 16] = [0, 1, 2, 3, 4, 5, 6, 7, 8, 9, 10, 11, 12, 13, 14, 15];
 
 const NONCE: [u8; 12] = [0, 1, 2, 3, 4, 5, 6, 7, 8, 9, 10, 11];
 
-fn fill(text: &mut [u8]) {
-    for i in 0..text.len() {
+// A text of so many bytes.
+fn text_of(rt: &impl Abort, alloc: Global, length: usize) -> Vec<u8>
+    ensures { vec_len result ≡ length }
+{
+    let mut text = vec![in alloc; 0u8; length].expect(rt, "memory");
+    for i in 0..length {
         text[i] = ((7 * (i % 256) + 3) % 256) as u8;
     }
+    text
 }
 
 // What was sealed opens to the text, by one check.
-fn assert_opens<R: Threads + Abort>(
-    rt: &R,
-    alloc: Global,
-    key: &GcmKey,
-    sealed: &[u8],
-    text: &[u8],
-) -> Result<(), Fail>
+fn assert_opens<R: Threads + Abort>(rt: &R, alloc: Global, key: &GcmKey, sealed: &[u8], text: &[u8])
     requires sealed { length sealed.now ≡ length text.now + 16 }
     requires text { length text.now ≤ 1048576 }
 {
     let length = text.len();
     let mut checks = Checks::new(rt);
-    assert!(rt;
-        key.check_tag(&NONCE, b"aad", sealed, &mut checks),
-        "{length} bytes"
-    );
-    let mut clear = vec![in alloc; 0u8; length]?;
+    let holds = key.check_tag(&NONCE, b"aad", sealed, &mut checks);
+    assert!(rt; holds, "{length} bytes");
+    let mut clear = vec![in alloc; 0u8; length].expect(rt, "memory");
     key.decrypt_into(&NONCE, b"aad", sealed, &mut clear);
     assert_at(rt, clear.as_slice(), text, "bytes", length);
     assert_same(rt, checks.count(), 1, "how many checks");
-    Ok(())
+}
+
+fn assert_length<R: Threads + Abort>(rt: &R, alloc: Global, key: &GcmKey, case: &LengthCase) {
+    let length = case.length;
+    assert!(rt; length <= 1_048_576);
+    let text = text_of(rt, alloc, length);
+    let sealed = sealed(rt, alloc, key, &NONCE, b"aad", &text);
+    let tag = bytes_of(rt, alloc, case.tag);
+    assert_at(
+        rt,
+        &sealed[length..],
+        tag.as_slice(),
+        "tag of bytes",
+        length,
+    );
+    assert_opens(rt, alloc, key, &sealed, &text);
 }
 
 #[test]
-fn texts_of_many_lengths_open(rt: HostRuntime) -> Result<(), Fail> {
+fn texts_of_many_lengths_open(rt: HostRuntime) {
     let key = GcmKey::new128(&KEY);
     for case in &SEALED {
-        let length = case.length;
-        assert!(rt; length <= 1_048_576);
-        let mut text = vec![in rt.alloc(); 0u8; length]?;
-        fill(&mut text);
-        let mut sealed = vec![in rt.alloc(); 0u8; length + 16]?;
-        key.seal_into(&NONCE, b"aad", &text, &mut sealed);
-        let source = format!(in rt.alloc(); "{length} bytes")?;
-        assert_bytes(&rt, rt.alloc(), &sealed[length..], case.tag, &source, "tag");
-        assert_opens(&rt, rt.alloc(), &key, &sealed, &text)?;
+        assert_length(&rt, rt.alloc(), &key, case);
     }
-    Ok(())
 }
 
 // Each bit of the text and of the tag is flipped once.
@@ -264,10 +282,8 @@ fn assert_changed_bits<R: Threads + Abort>(rt: &R, key: &GcmKey, sealed: &mut [u
     for bit in 0..256usize {
         let mut checks = Checks::new(rt);
         sealed[bit / 8] ^= 1 << (bit % 8);
-        assert!(rt;
-            !key.check_tag(&[0; 12], &[], sealed, &mut checks),
-            "bit {bit}"
-        );
+        let holds = key.check_tag(&[0; 12], &[], sealed, &mut checks);
+        assert_at(rt, holds, false, "bit", bit);
         sealed[bit / 8] ^= 1 << (bit % 8);
     }
 }
@@ -275,23 +291,21 @@ fn assert_changed_bits<R: Threads + Abort>(rt: &R, key: &GcmKey, sealed: &mut [u
 // Text and tag of test case 2 with each of their bits flipped, another aad, and texts that are too short
 // for a tag.
 #[test]
-fn changed_messages_do_not_hold(rt: HostRuntime) -> Result<(), Fail> {
+fn changed_messages_do_not_hold(rt: HostRuntime) {
     let key = GcmKey::new128(&[0; 16]);
-    let mut sealed = <[u8; 32]>::from_hex(
+    let mut sealed: [u8; 32] = array_of(
+        &rt,
         "0388dace60b6a392f328c2b971b2fe78ab6e47d42cec13bdf53a67b21257bddf",
-    )?;
+    );
     assert_changed_bits(&rt, &key, &mut sealed);
     let mut checks = Checks::new(&rt);
-    assert!(rt; key.check_tag(&[0; 12], &[], &sealed, &mut checks));
-    assert!(rt;
-        !key.check_tag(&[0; 12], b"other", &sealed, &mut checks),
-        "aad"
-    );
-    assert!(rt;
-        !key.check_tag(&[0; 12], &[], &sealed[..15], &mut checks),
-        "15 bytes"
-    );
-    assert!(rt; !key.check_tag(&[0; 12], &[], &[], &mut checks), "no byte");
+    let holds = key.check_tag(&[0; 12], &[], &sealed, &mut checks);
+    assert_same(&rt, holds, true, "unchanged");
+    let holds = key.check_tag(&[0; 12], b"other", &sealed, &mut checks);
+    assert_same(&rt, holds, false, "aad");
+    let holds = key.check_tag(&[0; 12], &[], &sealed[..15], &mut checks);
+    assert_same(&rt, holds, false, "15 bytes");
+    let holds = key.check_tag(&[0; 12], &[], &[], &mut checks);
+    assert_same(&rt, holds, false, "no byte");
     assert_same(&rt, checks.count(), 4, "how many checks");
-    Ok(())
 }

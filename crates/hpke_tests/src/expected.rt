@@ -1,7 +1,8 @@
-//! What tests expect. A comparison stands in a function of its own, since each `assert_eq!` makes the
-//! proof of the function that it stands in seconds longer.
+//! What tests expect, and bytes that are written in hex. A comparison stands in a function of its own,
+//! since each `assert_eq!` makes the proof of the function that it stands in seconds longer; so does
+//! each `?`.
 
-use hex::decode;
+use hex::{FromHex, decode};
 use std::alloc::Global;
 use std::fmt::Debug;
 use std::process::Abort;
@@ -22,6 +23,16 @@ pub fn assert_at<T: Copy + Debug + PartialEq, P: Copy + Debug>(
     assert_eq!(rt; got, want, "{what}: {at:?}");
 }
 
+/// The bytes that these hex digits write.
+pub fn bytes_of(rt: &impl Abort, alloc: Global, digits: &str) -> Vec<u8> {
+    decode(alloc, digits).expect(rt, "hex")
+}
+
+/// The same of so many bytes.
+pub fn array_of<const N: usize>(rt: &impl Abort, digits: &str) -> [u8; N] {
+    <[u8; N]>::from_hex(digits).expect(rt, "hex")
+}
+
 /// The bytes are those that `want` writes in hex; a failure prints where these were published.
 pub fn assert_bytes(
     rt: &impl Abort,
@@ -31,6 +42,6 @@ pub fn assert_bytes(
     source: &str,
     what: &str,
 ) {
-    let want = decode(alloc, want).expect(rt, "hex");
-    assert_eq!(rt; bytes, want.as_slice(), "{source}: {what}");
+    let want = bytes_of(rt, alloc, want);
+    assert_at(rt, bytes, want.as_slice(), what, source);
 }

@@ -1,9 +1,9 @@
 //! Published vectors: products and hashes.
 
-use crate::expected::assert_same;
+use crate::expected::{array_of, assert_same, bytes_of};
 use ghash_core::{Ghash, GhashKey, field_mul};
-use hex::{FromHex, decode};
-use std::test::Fail;
+use std::alloc::Global;
+use std::process::Abort;
 
 struct HashCase {
     source: &'static str,
@@ -14,7 +14,7 @@ struct HashCase {
 }
 
 // McGrew and Viega, The Galois/Counter Mode of Operation (GCM), appendix B: H, A, C and GHASH(H, A, C).
-const HASHES: [HashCase; 4] = [
+static HASHES: [HashCase; 4] = [
     HashCase {
         source: "GCM specification, test case 1",
         h: "66e94bd4ef8a2c3b884cfa59ca342b2e",
@@ -45,36 +45,35 @@ const HASHES: [HashCase; 4] = [
     },
 ];
 
+fn assert_hash(rt: &impl Abort, alloc: Global, case: &HashCase) {
+    let source = case.source;
+    let aad = bytes_of(rt, alloc, case.aad);
+    let ciphertext = bytes_of(rt, alloc, case.ciphertext);
+    let is_short = aad.len() < 64 && ciphertext.len() < 64;
+    assert!(rt; is_short, "{source}: lengths");
+    let key = GhashKey::new(&array_of(rt, case.h));
+    let mut hash = Ghash::start(&key);
+    hash.update_padded(&aad);
+    hash.update_padded(&ciphertext);
+    let hash = hash.finish(aad.len() as u64, ciphertext.len() as u64);
+    assert_same(rt, hash, array_of(rt, case.hash), source);
+}
+
 #[test]
-fn hashes_are_those_published(rt: HostRuntime) -> Result<(), Fail> {
+fn hashes_are_those_published(rt: HostRuntime) {
     for case in &HASHES {
-        let source = case.source;
-        let h = <[u8; 16]>::from_hex(case.h)?;
-        let aad = decode(rt.alloc(), case.aad)?;
-        let ciphertext = decode(rt.alloc(), case.ciphertext)?;
-        assert!(rt;
-            aad.len() < 64 && ciphertext.len() < 64,
-            "{source}: lengths"
-        );
-        let key = GhashKey::new(&h);
-        let mut hash = Ghash::start(&key);
-        hash.update_padded(&aad);
-        hash.update_padded(&ciphertext);
-        let hash = hash.finish(aad.len() as u64, ciphertext.len() as u64);
-        assert_same(&rt, hash, <[u8; 16]>::from_hex(case.hash)?, source);
+        assert_hash(&rt, rt.alloc(), case);
     }
-    Ok(())
 }
 
 // The GCM specification, test case 2: X1 is the product of the ciphertext's block and H. Entry 8 is
 // the product of H with the unit.
 #[test]
-fn products_are_those_published(rt: HostRuntime) -> Result<(), Fail> {
+fn products_are_those_published(rt: HostRuntime) {
     let h = 0x66e94bd4ef8a2c3b884cfa59ca342b2e;
     let product = field_mul(0x0388dace60b6a392f328c2b971b2fe78, h);
     assert_same(&rt, product, 0x5e2ec746917062882c85b0685353deb7, "product");
-    let key = GhashKey::new(&<[u8; 16]>::from_hex("66e94bd4ef8a2c3b884cfa59ca342b2e")?);
+    let key = GhashKey::new(&array_of(&rt, "66e94bd4ef8a2c3b884cfa59ca342b2e"));
     assert_same(&rt, key.products()[8], h, "H times the unit");
     assert_same(&rt, key.products()[0], 0, "H times 0");
-    Ok(())
 }

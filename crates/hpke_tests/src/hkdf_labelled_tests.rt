@@ -1,14 +1,14 @@
 //! Published vectors: HMAC, HKDF and the labelled forms.
 
-use crate::expected::{assert_bytes, assert_same};
-use hex::{FromHex, decode};
+ghost use Rattle.std.specs.Prelude.{◌≤◌, vec_len};
+
+use crate::expected::{array_of, assert_bytes, assert_same, bytes_of};
 use hkdf_labelled::{
     Aead, Expander, Kdf, Mac, Prk, Suite, expand_into, extract, hmac, labeled_expand_into,
     labeled_extract, suite_id,
 };
 use std::alloc::Global;
 use std::process::Abort;
-use std::test::Fail;
 
 struct HmacCase {
     source: &'static str,
@@ -20,7 +20,7 @@ struct HmacCase {
 }
 
 // RFC 4231, test cases 1 to 4, 6 and 7 (case 5 is of a truncated output), in the RFC's order.
-const HMACS: [HmacCase; 6] = [
+static HMACS: [HmacCase; 6] = [
     HmacCase {
         source: "RFC 4231, 4.2",
         key: "0b0b0b0b0b0b0b0b0b0b0b0b0b0b0b0b0b0b0b0b",
@@ -71,22 +71,20 @@ const HMACS: [HmacCase; 6] = [
     },
 ];
 
-fn assert_hmac(
-    rt: &impl Abort,
-    alloc: Global,
-    kdf: Kdf,
-    want: &str,
-    case: &HmacCase,
-) -> Result<(), Fail> {
-    let key = decode(alloc, case.key)?;
-    let data = decode(alloc, case.data)?;
-    let whole = hmac(kdf, &key, &data);
-    assert_bytes(rt, alloc, whole.as_slice(), want, case.source, "HMAC");
+// The HMAC of the whole data, and of its two halves one after the other.
+fn hmacs_of(kdf: Kdf, key: &[u8], data: &[u8]) -> [Prk; 2] {
     let (front, rest) = data.split_at(data.len() / 2);
-    let mut mac = Mac::new(kdf, &key);
+    let mut mac = Mac::new(kdf, key);
     mac.update(front);
     mac.update(rest);
-    let parts = mac.finish();
+    [hmac(kdf, key, data), mac.finish()]
+}
+
+fn assert_hmac(rt: &impl Abort, alloc: Global, kdf: Kdf, want: &str, case: &HmacCase) {
+    let key = bytes_of(rt, alloc, case.key);
+    let data = bytes_of(rt, alloc, case.data);
+    let [whole, parts] = hmacs_of(kdf, &key, &data);
+    assert_bytes(rt, alloc, whole.as_slice(), want, case.source, "HMAC");
     assert_bytes(
         rt,
         alloc,
@@ -95,17 +93,19 @@ fn assert_hmac(
         case.source,
         "in two pieces",
     );
-    Ok(())
+}
+
+fn assert_hmacs(rt: &impl Abort, alloc: Global, cases: &[HmacCase]) {
+    for case in cases {
+        assert_hmac(rt, alloc, Kdf::Sha256, case.sha256, case);
+        assert_hmac(rt, alloc, Kdf::Sha384, case.sha384, case);
+        assert_hmac(rt, alloc, Kdf::Sha512, case.sha512, case);
+    }
 }
 
 #[test]
-fn hmacs_are_those_published(rt: HostRuntime) -> Result<(), Fail> {
-    for case in &HMACS {
-        assert_hmac(&rt, rt.alloc(), Kdf::Sha256, case.sha256, case)?;
-        assert_hmac(&rt, rt.alloc(), Kdf::Sha384, case.sha384, case)?;
-        assert_hmac(&rt, rt.alloc(), Kdf::Sha512, case.sha512, case)?;
-    }
-    Ok(())
+fn hmacs_are_those_published(rt: HostRuntime) {
+    assert_hmacs(&rt, rt.alloc(), &HMACS);
 }
 
 struct HkdfCase {
@@ -118,7 +118,7 @@ struct HkdfCase {
 }
 
 // RFC 5869, appendix A: the cases of HKDF-SHA256.
-const HKDFS: [HkdfCase; 3] = [
+static HKDFS: [HkdfCase; 3] = [
     HkdfCase {
         source: "RFC 5869, A.1",
         ikm: "0b0b0b0b0b0b0b0b0b0b0b0b0b0b0b0b0b0b0b0b0b0b",
@@ -145,32 +145,39 @@ const HKDFS: [HkdfCase; 3] = [
     },
 ];
 
-fn extracted(alloc: Global, case: &HkdfCase) -> Result<Prk, Fail> {
-    let ikm = decode(alloc, case.ikm)?;
-    let salt = decode(alloc, case.salt)?;
-    Ok(extract(Kdf::Sha256, &salt, &ikm))
+fn extracted(rt: &impl Abort, alloc: Global, case: &HkdfCase) -> Prk {
+    let ikm = bytes_of(rt, alloc, case.ikm);
+    let salt = bytes_of(rt, alloc, case.salt);
+    extract(Kdf::Sha256, &salt, &ikm)
 }
 
-fn assert_output(rt: &impl Abort, alloc: Global, prk: Prk, case: &HkdfCase) -> Result<(), Fail> {
-    let info = decode(alloc, case.info)?;
+// Zero bytes, as many as there are of the output keying material.
+fn room_for(rt: &impl Abort, alloc: Global, case: &HkdfCase) -> Vec<u8>
+    ensures { vec_len result ≤ 82 }
+{
     let length = case.okm.len() / 2;
     assert!(rt; length <= 82, "{}, L", case.source);
-    let mut okm = [0; 82];
-    expand_into(Kdf::Sha256, prk.as_slice(), &info, &mut okm[..length]);
-    assert_bytes(rt, alloc, &okm[..length], case.okm, case.source, "OKM");
+    vec![in alloc; 0; length].expect(rt, "memory")
+}
+
+// By one call, and by an expander, which is used twice.
+fn assert_output(rt: &impl Abort, alloc: Global, prk: Prk, case: &HkdfCase) {
+    let info = bytes_of(rt, alloc, case.info);
+    let mut okm = room_for(rt, alloc, case);
+    expand_into(Kdf::Sha256, prk.as_slice(), &info, &mut okm);
+    assert_bytes(rt, alloc, &okm, case.okm, case.source, "OKM");
     let expander = Expander::new(Kdf::Sha256, prk);
     for time in ["first OKM", "second OKM"] {
-        let mut okm = [0; 82];
-        expander.expand_into(&info, &mut okm[..length]);
-        assert_bytes(rt, alloc, &okm[..length], case.okm, case.source, time);
+        let mut okm = room_for(rt, alloc, case);
+        expander.expand_into(&info, &mut okm);
+        assert_bytes(rt, alloc, &okm, case.okm, case.source, time);
     }
-    Ok(())
 }
 
 #[test]
-fn output_keying_material_is_that_published(rt: HostRuntime) -> Result<(), Fail> {
+fn output_keying_material_is_that_published(rt: HostRuntime) {
     for case in &HKDFS {
-        let prk = extracted(rt.alloc(), case)?;
+        let prk = extracted(&rt, rt.alloc(), case);
         assert_bytes(
             &rt,
             rt.alloc(),
@@ -179,9 +186,8 @@ fn output_keying_material_is_that_published(rt: HostRuntime) -> Result<(), Fail>
             case.source,
             "PRK",
         );
-        assert_output(&rt, rt.alloc(), prk, case)?;
+        assert_output(&rt, rt.alloc(), prk, case);
     }
-    Ok(())
 }
 
 // RFC 9180, A.1.1.
@@ -204,37 +210,35 @@ const EXPANDED_KEY: &str = "4531685d41d65f03dc48f6b8302c05b0";
 
 const BASE_NONCE: &str = "56d890e5accaaf011cff4b7d";
 
-// key and base_nonce from secret and key_schedule_context.
-fn assert_key_and_nonce(rt: &impl Abort, alloc: Global, secret: Prk) -> Result<(), Fail> {
-    let context = <[u8; 65]>::from_hex(KEY_SCHEDULE_CONTEXT)?;
+// key from secret and key_schedule_context.
+fn assert_key(rt: &impl Abort, alloc: Global, secret: &Prk, context: &[u8; 65]) {
     let mut key = [0; 16];
-    labeled_expand_into(&SUITE, secret.as_slice(), b"key", &context, &mut key);
+    labeled_expand_into(&SUITE, secret.as_slice(), b"key", context, &mut key);
     assert_bytes(rt, alloc, &key, EXPANDED_KEY, SOURCE, "key");
+}
+
+// base_nonce from secret and key_schedule_context, and key once more, by one expander.
+fn assert_expanded(rt: &impl Abort, alloc: Global, secret: Prk, context: &[u8; 65]) {
     let expander = Expander::new(SUITE.kdf, secret);
     let mut base_nonce = [0; 12];
-    expander.labeled_expand_into(&SUITE, b"base_nonce", &context, &mut base_nonce);
+    expander.labeled_expand_into(&SUITE, b"base_nonce", context, &mut base_nonce);
     assert_bytes(rt, alloc, &base_nonce, BASE_NONCE, SOURCE, "base_nonce");
     let mut again = [0; 16];
-    expander.labeled_expand_into(&SUITE, b"key", &context, &mut again);
+    expander.labeled_expand_into(&SUITE, b"key", context, &mut again);
     assert_bytes(rt, alloc, &again, EXPANDED_KEY, SOURCE, "key again");
-    Ok(())
 }
 
 // secret from shared_secret, and key and base_nonce from secret and key_schedule_context.
 #[test]
-fn labels_are_those_of_hpke(rt: HostRuntime) -> Result<(), Fail> {
+fn labels_are_those_of_hpke(rt: HostRuntime) {
+    let alloc = rt.alloc();
     let id = suite_id(&SUITE);
-    assert_bytes(
-        &rt,
-        rt.alloc(),
-        &id,
-        "48504b45002000010001",
-        SOURCE,
-        "suite_id",
-    );
+    assert_bytes(&rt, alloc, &id, "48504b45002000010001", SOURCE, "suite_id");
     assert_same(&rt, SUITE.kdf.size(), 32, "Nh");
-    let shared_secret = <[u8; 32]>::from_hex(SHARED_SECRET)?;
+    let shared_secret: [u8; 32] = array_of(&rt, SHARED_SECRET);
     let secret = labeled_extract(&SUITE, &shared_secret, b"secret", &[]);
-    assert_bytes(&rt, rt.alloc(), secret.as_slice(), SECRET, SOURCE, "secret");
-    assert_key_and_nonce(&rt, rt.alloc(), secret)
+    assert_bytes(&rt, alloc, secret.as_slice(), SECRET, SOURCE, "secret");
+    let context: [u8; 65] = array_of(&rt, KEY_SCHEDULE_CONTEXT);
+    assert_key(&rt, alloc, &secret, &context);
+    assert_expanded(&rt, alloc, secret, &context);
 }

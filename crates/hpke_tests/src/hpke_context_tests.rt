@@ -2,9 +2,8 @@
 
 ghost use Rattle.std.specs.Prelude.{◌≤◌, length};
 
-use crate::expected::{assert_at, assert_bytes, assert_same};
+use crate::expected::{array_of, assert_at, assert_bytes, assert_same, bytes_of};
 use aes_gcm::Checks;
-use hex::{FromHex, decode};
 use hkdf_labelled::{Aead, Kdf, Suite};
 use hpke_context::{CallFault, Context, Sequential};
 use key_schedule::{Mode, Role, schedule};
@@ -33,7 +32,7 @@ struct ContextCase {
 }
 
 // RFC 9180, A.1.1: DHKEM(X25519, HKDF-SHA256), HKDF-SHA256, AES-128-GCM, base.
-const A_1_1: &ContextCase = &ContextCase {
+static A_1_1: ContextCase = ContextCase {
     suite: Suite {
         kem: 0x0020,
         kdf: Kdf::Sha256,
@@ -82,7 +81,7 @@ const A_1_1: &ContextCase = &ContextCase {
 };
 
 // RFC 9180, A.6.1: DHKEM(P-521, HKDF-SHA512), HKDF-SHA512, AES-256-GCM, base.
-const A_6_1: &ContextCase = &ContextCase {
+static A_6_1: ContextCase = ContextCase {
     suite: Suite {
         kem: 0x0012,
         kdf: Kdf::Sha512,
@@ -132,31 +131,31 @@ const A_6_1: &ContextCase = &ContextCase {
 
 // One end's context, in mode base.
 fn context_of(
+    rt: &impl Abort,
     alloc: Global,
     role: Role,
     suite: &Suite,
     shared_secret: &str,
     limit: u64,
-) -> Result<Context, Fail>
+) -> Context
     requires { 1 ≤ limit }
 {
-    let shared_secret = decode(alloc, shared_secret)?;
-    match schedule(suite, Mode::Base, &shared_secret, INFO, b"", b"") {
-        Ok(secrets) => Ok(Context::new(role, *suite, secrets, limit)),
-        Err(_) => Err("a psk fault".into()),
-    }
+    let shared_secret = bytes_of(rt, alloc, shared_secret);
+    let secrets = schedule(suite, Mode::Base, &shared_secret, INFO, b"", b"");
+    Context::new(role, *suite, secrets.expect(rt, "secrets"), limit)
 }
 
 fn sequential_of(
+    rt: &impl Abort,
     alloc: Global,
     role: Role,
     case: &ContextCase,
     limit: u64,
-) -> Result<Sequential, Fail>
+) -> Sequential
     requires { 1 ≤ limit }
 {
-    let context = context_of(alloc, role, &case.suite, case.shared_secret, limit)?;
-    Ok(Sequential::new(context))
+    let context = context_of(rt, alloc, role, &case.suite, case.shared_secret, limit);
+    Sequential::new(context)
 }
 
 // The messages between the published ones have no aad.
@@ -190,40 +189,33 @@ fn assert_message<R: Threads + Abort>(
     seq: u64,
     sender: &mut Sequential,
     recipient: &mut Sequential,
-) -> Result<(), Fail> {
+) {
     let message = message_at(case, seq);
     let aad = message.map_or(&b""[..], |message| message.aad);
     assert!(rt; aad.len() <= 9);
     let mut ct = [0u8; 45];
-    assert_same(
-        rt,
-        sender.seal_into(aad, TEXT, &mut ct),
-        Ok(seq),
-        "what the sender answers",
-    );
+    let answer = sender.seal_into(aad, TEXT, &mut ct);
+    assert_same(rt, answer, Ok(seq), "what the sender answers");
     if let Some(message) = message {
         assert_bytes(rt, alloc, &ct, message.ct, message.source, "ct");
     }
     assert_opened(rt, recipient, aad, &ct, seq);
-    Ok(())
+}
+
+fn assert_messages<R: Threads + Abort>(rt: &R, alloc: Global, case: &ContextCase) {
+    let mut sender = sequential_of(rt, alloc, Role::Sender, case, u64::MAX);
+    let mut recipient = sequential_of(rt, alloc, Role::Recipient, case, u64::MAX);
+    for seq in 0..257u64 {
+        assert_message(rt, alloc, case, seq, &mut sender, &mut recipient);
+    }
+    let numbers = (sender.seq(), recipient.seq());
+    assert_same(rt, numbers, (257, 257), "sequence numbers");
 }
 
 #[test]
-fn messages_are_those_of_the_tables(rt: HostRuntime) -> Result<(), Fail> {
-    for case in [A_1_1, A_6_1] {
-        let mut sender = sequential_of(rt.alloc(), Role::Sender, case, u64::MAX)?;
-        let mut recipient = sequential_of(rt.alloc(), Role::Recipient, case, u64::MAX)?;
-        for seq in 0..257u64 {
-            assert_message(&rt, rt.alloc(), case, seq, &mut sender, &mut recipient)?;
-        }
-        assert_same(
-            &rt,
-            (sender.seq(), recipient.seq()),
-            (257, 257),
-            "sequence numbers",
-        );
-    }
-    Ok(())
+fn messages_are_those_of_the_tables(rt: HostRuntime) {
+    assert_messages(&rt, rt.alloc(), &A_1_1);
+    assert_messages(&rt, rt.alloc(), &A_6_1);
 }
 
 // C0 and C1 of RFC 9180, A.1.1.1, and C1 with the last bit of its tag changed.
@@ -245,7 +237,7 @@ struct OpeningCase {
 
 // Own, by hand: the number rises where a message opens, and nowhere else; at LIMIT a tag is still
 // checked. Each row is one more call; a new context begins where LIMIT changes.
-const OPENINGS: [OpeningCase; 8] = [
+static OPENINGS: [OpeningCase; 8] = [
     OpeningCase {
         limit: 1,
         aad: b"Count-0",
@@ -296,32 +288,33 @@ const OPENINGS: [OpeningCase; 8] = [
     },
 ];
 
+// The answer to one more call, the text where it opens, and the number.
+fn assert_opening<R: Threads + Abort>(rt: &R, recipient: &mut Sequential, case: &OpeningCase) {
+    let seq = recipient.seq();
+    let at = (case.limit, seq);
+    let aad = case.aad;
+    let ct: [u8; 45] = array_of(rt, case.ct);
+    let mut text = [0xee; 29];
+    let mut checks = Checks::new(rt);
+    let answer = recipient.unseal_into(aad, &ct, &mut text, &mut checks);
+    assert_at(rt, answer, case.answer, "LIMIT and number", at);
+    let want = if answer.is_ok() { *TEXT } else { [0xee; 29] };
+    assert_at(rt, text, want, "LIMIT and number", at);
+    let stays = recipient.seq() == seq;
+    assert_same(rt, stays, answer.is_err(), "the recipient stays");
+}
+
 #[test]
-fn the_number_rises_where_a_message_opens(rt: HostRuntime) -> Result<(), Fail> {
-    let mut recipient = sequential_of(rt.alloc(), Role::Recipient, A_1_1, 1)?;
+fn the_number_rises_where_a_message_opens(rt: HostRuntime) {
+    let mut recipient = sequential_of(&rt, rt.alloc(), Role::Recipient, &A_1_1, 1);
     for case in &OPENINGS {
         let limit = case.limit;
         if recipient.context().limit() != limit {
             assert!(rt; limit >= 1);
-            recipient = sequential_of(rt.alloc(), Role::Recipient, A_1_1, limit)?;
+            recipient = sequential_of(&rt, rt.alloc(), Role::Recipient, &A_1_1, limit);
         }
-        let seq = recipient.seq();
-        let aad = case.aad;
-        let ct = <[u8; 45]>::from_hex(case.ct)?;
-        let mut text = [0xee; 29];
-        let mut checks = Checks::new(&rt);
-        let answer = recipient.unseal_into(aad, &ct, &mut text, &mut checks);
-        assert_at(&rt, answer, case.answer, "LIMIT and number", (limit, seq));
-        let want = if answer.is_ok() { *TEXT } else { [0xee; 29] };
-        assert_at(&rt, text, want, "LIMIT and number", (limit, seq));
-        assert_same(
-            &rt,
-            recipient.seq() == seq,
-            answer.is_err(),
-            "the recipient stays",
-        );
+        assert_opening(&rt, &mut recipient, case);
     }
-    Ok(())
 }
 
 struct RefusalCase {
@@ -360,35 +353,43 @@ const REFUSALS: [RefusalCase; 4] = [
 ];
 
 // A context of the shared secret of A.1.1, for any AEAD.
-fn context_for(alloc: Global, role: Role, aead: Aead, limit: u64) -> Result<Context, Fail>
+fn context_for(rt: &impl Abort, alloc: Global, role: Role, aead: Aead, limit: u64) -> Context
     requires { 1 ≤ limit }
 {
     let suite = Suite {
         aead,
         ..A_1_1.suite
     };
-    context_of(alloc, role, &suite, A_1_1.shared_secret, limit)
+    context_of(rt, alloc, role, &suite, A_1_1.shared_secret, limit)
+}
+
+// The answer to a seal; where it is refused, no byte is written.
+fn assert_sealed(rt: &impl Abort, sequential: &mut Sequential, want: Result<u64, CallFault>) {
+    let mut ct = [0xee; 45];
+    let answer = sequential.seal_into(b"Count-0", TEXT, &mut ct);
+    assert_same(rt, answer, want, "answer");
+    let untouched = ct == [0xee; 45];
+    assert_same(rt, untouched, answer.is_err(), "untouched");
+}
+
+fn assert_refusals<R: Threads + Abort>(rt: &R, alloc: Global, case: &RefusalCase) {
+    let context = context_for(rt, alloc, case.role, case.aead, 1);
+    let mut sequential = Sequential::new(context);
+    for want in &case.sealed {
+        assert_sealed(rt, &mut sequential, *want);
+    }
+    let mut checks = Checks::new(rt);
+    let answer = sequential.unseal_into(b"", &[0; 15], &mut [], &mut checks);
+    assert_same(rt, answer, Err(case.opened), "answer");
+    let checked = case.opened == CallFault::Failed;
+    assert_same(rt, checks.count(), u64::from(checked), "how many checks");
 }
 
 #[test]
-fn refusals_come_in_their_order(rt: HostRuntime) -> Result<(), Fail> {
+fn refusals_come_in_their_order(rt: HostRuntime) {
     for case in &REFUSALS {
-        let context = context_for(rt.alloc(), case.role, case.aead, 1)?;
-        let mut sequential = Sequential::new(context);
-        for want in &case.sealed {
-            let mut ct = [0xee; 45];
-            let answer = sequential.seal_into(b"Count-0", TEXT, &mut ct);
-            assert_same(&rt, answer, *want, "answer");
-            let untouched = ct == [0xee; 45];
-            assert_same(&rt, untouched, answer.is_err(), "untouched");
-        }
-        let mut checks = Checks::new(&rt);
-        let answer = sequential.unseal_into(b"", &[0; 15], &mut [], &mut checks);
-        assert_same(&rt, answer, Err(case.opened), "answer");
-        let checked = case.opened == CallFault::Failed;
-        assert_same(&rt, checks.count(), u64::from(checked), "how many checks");
+        assert_refusals(&rt, rt.alloc(), case);
     }
-    Ok(())
 }
 
 struct ExportCase {
@@ -397,7 +398,7 @@ struct ExportCase {
 }
 
 // RFC 9180, A.1.1.2, each with L = 32.
-const EXPORTS: [ExportCase; 3] = [
+static EXPORTS: [ExportCase; 3] = [
     ExportCase {
         exporter_context: b"",
         exported_value: "3853fe2b4035195a573ffc53856e77058e15d9ea064de3e59f4961d0095250ee",
@@ -412,47 +413,41 @@ const EXPORTS: [ExportCase; 3] = [
     },
 ];
 
-#[test]
-fn exports_are_those_published_at_both_ends(rt: HostRuntime) -> Result<(), Fail> {
-    for role in [Role::Sender, Role::Recipient] {
-        let sequential = sequential_of(rt.alloc(), role, A_1_1, 1)?;
-        for case in &EXPORTS {
-            let (exporter_context, want) = (case.exporter_context, case.exported_value);
-            let mut out = [0u8; 32];
-            let answer = sequential.export_into(exporter_context, &mut out);
-            assert_bytes(
-                &rt,
-                rt.alloc(),
-                &out,
-                want,
-                "RFC 9180, A.1.1.2",
-                "in sequence",
-            );
-            let mut out = [0u8; 32];
-            let again = sequential.context().export_into(exporter_context, &mut out);
-            assert_bytes(
-                &rt,
-                rt.alloc(),
-                &out,
-                want,
-                "RFC 9180, A.1.1.2",
-                "by the context alone",
-            );
-            assert_same(&rt, (answer, again), (Ok(()), Ok(())), "answers");
-        }
+fn assert_export(rt: &impl Abort, alloc: Global, sequential: &Sequential, case: &ExportCase) {
+    let (exporter_context, want) = (case.exporter_context, case.exported_value);
+    let source = "RFC 9180, A.1.1.2";
+    let mut out = [0u8; 32];
+    let answer = sequential.export_into(exporter_context, &mut out);
+    assert_bytes(rt, alloc, &out, want, source, "in sequence");
+    let mut out = [0u8; 32];
+    let again = sequential.context().export_into(exporter_context, &mut out);
+    assert_bytes(rt, alloc, &out, want, source, "by the context alone");
+    assert_same(rt, (answer, again), (Ok(()), Ok(())), "answers");
+}
+
+fn assert_exports(rt: &impl Abort, alloc: Global, role: Role) {
+    let sequential = sequential_of(rt, alloc, role, &A_1_1, 1);
+    for case in &EXPORTS {
+        assert_export(rt, alloc, &sequential, case);
     }
-    Ok(())
+}
+
+#[test]
+fn exports_are_those_published_at_both_ends(rt: HostRuntime) {
+    assert_exports(&rt, rt.alloc(), Role::Sender);
+    assert_exports(&rt, rt.alloc(), Role::Recipient);
 }
 
 // The answer to an export of `len` bytes, and whether it left its room as it was.
 fn export(
+    rt: &impl Abort,
     alloc: Global,
     context: &Context,
     len: usize,
-) -> Result<(Result<(), CallFault>, bool), Fail> {
-    let mut out = vec![in alloc; 0xeeu8; len]?;
+) -> (Result<(), CallFault>, bool) {
+    let mut out = vec![in alloc; 0xeeu8; len].expect(rt, "memory");
     let answer = context.export_into(b"", &mut out);
-    Ok((answer, out.iter().all(|byte| *byte == 0xee)))
+    (answer, out.iter().all(|byte| *byte == 0xee))
 }
 
 // RFC 9180, 5.3: at most 255 Nh bytes.
@@ -462,56 +457,48 @@ const EXPORT_LIMITS: [(Kdf, usize); 3] = [
     (Kdf::Sha512, 16_320),
 ];
 
-fn assert_export_limit(rt: &impl Abort, alloc: Global, kdf: Kdf, limit: usize) -> Result<(), Fail> {
+fn assert_export_limit(rt: &impl Abort, alloc: Global, kdf: Kdf, limit: usize) {
     let suite = Suite {
         kdf,
         aead: Aead::ExportOnly,
         ..A_1_1.suite
     };
-    let context = context_of(alloc, Role::Sender, &suite, A_1_1.shared_secret, 1)?;
+    let context = context_of(rt, alloc, Role::Sender, &suite, A_1_1.shared_secret, 1);
     assert_same(rt, context.export_limit(), limit, "export limit");
-    let answer = export(alloc, &context, 0)?;
+    let answer = export(rt, alloc, &context, 0);
     assert_at(rt, answer, (Ok(()), true), "0 bytes", kdf);
-    let answer = export(alloc, &context, limit)?;
+    let answer = export(rt, alloc, &context, limit);
     assert_at(rt, answer, (Ok(()), false), "255 Nh bytes", kdf);
-    let answer = export(alloc, &context, limit.wrapping_add(1))?;
+    let answer = export(rt, alloc, &context, limit.wrapping_add(1));
     let refused = (Err(CallFault::ExportSize), true);
     assert_at(rt, answer, refused, "one byte more", kdf);
-    Ok(())
 }
 
 #[test]
-fn an_export_has_255_hashes_at_most(rt: HostRuntime) -> Result<(), Fail> {
+fn an_export_has_255_hashes_at_most(rt: HostRuntime) {
     for (kdf, limit) in EXPORT_LIMITS {
-        assert_export_limit(&rt, rt.alloc(), kdf, limit)?;
+        assert_export_limit(&rt, rt.alloc(), kdf, limit);
     }
-    Ok(())
 }
 
-fn assert_parts(rt: &impl Abort, alloc: Global, case: &ContextCase) -> Result<(), Fail> {
-    let context = sequential_of(alloc, Role::Recipient, case, 7)?.into_context();
+fn assert_parts(rt: &impl Abort, alloc: Global, case: &ContextCase) {
+    let context = sequential_of(rt, alloc, Role::Recipient, case, 7).into_context();
     assert_same(rt, context.role(), Role::Recipient, "role");
     assert_same(rt, *context.suite(), case.suite, "suite");
     assert_same(rt, context.limit(), 7, "limit");
-    assert!(rt; context.cipher().is_some());
-    let base_nonce = <[u8; 12]>::from_hex(case.base_nonce)?;
-    assert_same(
-        rt,
-        context.base_nonce().copied(),
-        Some(base_nonce),
-        "base nonce",
-    );
-    Ok(())
+    assert_same(rt, context.cipher().is_some(), true, "a cipher");
+    let base_nonce = context.base_nonce().copied();
+    let want: [u8; 12] = array_of(rt, case.base_nonce);
+    assert_same(rt, base_nonce, Some(want), "base nonce");
 }
 
 #[test]
-fn a_context_tells_what_it_is_made_of(rt: HostRuntime) -> Result<(), Fail> {
-    for case in [A_1_1, A_6_1] {
-        assert_parts(&rt, rt.alloc(), case)?;
-    }
-    let context = context_for(rt.alloc(), Role::Sender, Aead::ExportOnly, 1)?;
-    assert!(rt; context.cipher().is_none() && context.base_nonce().is_none());
-    Ok(())
+fn a_context_tells_what_it_is_made_of(rt: HostRuntime) {
+    assert_parts(&rt, rt.alloc(), &A_1_1);
+    assert_parts(&rt, rt.alloc(), &A_6_1);
+    let context = context_for(&rt, rt.alloc(), Role::Sender, Aead::ExportOnly, 1);
+    let is_none = (context.cipher().is_none(), context.base_nonce().is_none());
+    assert_same(&rt, is_none, (true, true), "an export-only context");
 }
 
 #[test]

@@ -1,10 +1,10 @@
 //! Published vectors: the key schedule, exports and nonces.
 
-use crate::expected::{assert_at, assert_bytes, assert_same};
-use hex::{FromHex, decode};
+use crate::expected::{array_of, assert_at, assert_bytes, assert_same, bytes_of};
 use hkdf_labelled::{Aead, Kdf, Suite, labeled_expand_into};
 use key_schedule::{CipherSecrets, Mode, PskFault, Secrets, nonce_at, schedule, verify_psk_inputs};
 use std::alloc::Global;
+use std::process::Abort;
 use std::test::Fail;
 
 struct ScheduleCase {
@@ -21,7 +21,7 @@ struct ScheduleCase {
     exported_values: [&'static str; 3],
 }
 
-const SCHEDULES: [ScheduleCase; 6] = [
+static SCHEDULES: [ScheduleCase; 6] = [
     ScheduleCase {
         source: "RFC 9180, A.1.1: DHKEM(X25519, HKDF-SHA256), HKDF-SHA256, AES-128-GCM, base",
         suite: Suite {
@@ -151,7 +151,7 @@ const SCHEDULES: [ScheduleCase; 6] = [
 ];
 
 // The exporter contexts of RFC 9180's appendix A, each with L = 32.
-const EXPORTER_CONTEXTS: [&[u8]; 3] = [b"", b"\x00", b"TestContext"];
+static EXPORTER_CONTEXTS: [&[u8]; 3] = [b"", b"\x00", b"TestContext"];
 
 // key and base_nonce.
 fn parts(cipher: &CipherSecrets) -> (&[u8], &[u8]) {
@@ -163,36 +163,41 @@ fn parts(cipher: &CipherSecrets) -> (&[u8], &[u8]) {
 }
 
 // The secrets of a case, whose psk inputs have no fault.
-fn secrets_of(alloc: Global, case: &ScheduleCase) -> Result<Secrets, Fail> {
-    let shared_secret = decode(alloc, case.shared_secret)?;
-    let info = decode(alloc, case.info)?;
-    let psk = decode(alloc, case.psk)?;
-    let psk_id = decode(alloc, case.psk_id)?;
-    match schedule(&case.suite, case.mode, &shared_secret, &info, &psk, &psk_id) {
-        Ok(secrets) => Ok(secrets),
-        Err(_) => Err("a psk fault".into()),
+fn secrets_of(rt: &impl Abort, alloc: Global, case: &ScheduleCase) -> Secrets {
+    let shared_secret = bytes_of(rt, alloc, case.shared_secret);
+    let info = bytes_of(rt, alloc, case.info);
+    let psk = bytes_of(rt, alloc, case.psk);
+    let psk_id = bytes_of(rt, alloc, case.psk_id);
+    let secrets = schedule(&case.suite, case.mode, &shared_secret, &info, &psk, &psk_id);
+    secrets.expect(rt, case.source)
+}
+
+fn assert_secrets(rt: &impl Abort, alloc: Global, case: &ScheduleCase) {
+    let source = case.source;
+    let secrets = secrets_of(rt, alloc, case);
+    let (key, base_nonce) = parts(&secrets.cipher);
+    let exporter = secrets.exporter.as_slice();
+    assert_bytes(rt, alloc, key, case.key, source, "key");
+    assert_bytes(rt, alloc, base_nonce, case.base_nonce, source, "base_nonce");
+    assert_bytes(
+        rt,
+        alloc,
+        exporter,
+        case.exporter_secret,
+        source,
+        "exporter_secret",
+    );
+}
+
+fn assert_all_secrets(rt: &impl Abort, alloc: Global, cases: &[ScheduleCase]) {
+    for case in cases {
+        assert_secrets(rt, alloc, case);
     }
 }
 
 #[test]
-fn secrets_are_those_published(rt: HostRuntime) -> Result<(), Fail> {
-    for case in &SCHEDULES {
-        let (alloc, source) = (rt.alloc(), case.source);
-        let secrets = secrets_of(alloc, case)?;
-        let (key, base_nonce) = parts(&secrets.cipher);
-        assert_bytes(&rt, alloc, key, case.key, source, "key");
-        assert_bytes(
-            &rt,
-            alloc,
-            base_nonce,
-            case.base_nonce,
-            source,
-            "base_nonce",
-        );
-        let (exporter, want) = (secrets.exporter.as_slice(), case.exporter_secret);
-        assert_bytes(&rt, alloc, exporter, want, source, "exporter_secret");
-    }
-    Ok(())
+fn secrets_are_those_published(rt: HostRuntime) {
+    assert_all_secrets(&rt, rt.alloc(), &SCHEDULES);
 }
 
 // Context.Export(exporter_context, 32).
@@ -208,23 +213,23 @@ fn export(suite: &Suite, exporter_secret: &[u8], exporter_context: &[u8]) -> [u8
     exported
 }
 
-#[test]
-fn exported_values_are_those_published(rt: HostRuntime) -> Result<(), Fail> {
-    for case in &SCHEDULES {
-        let exporter_secret = decode(rt.alloc(), case.exporter_secret)?;
-        for (context, want) in EXPORTER_CONTEXTS.iter().zip(&case.exported_values) {
-            let exported = export(&case.suite, &exporter_secret, context);
-            assert_bytes(
-                &rt,
-                rt.alloc(),
-                &exported,
-                want,
-                case.source,
-                "exported_value",
-            );
-        }
+fn assert_exports(rt: &impl Abort, alloc: Global, case: &ScheduleCase) {
+    let exporter_secret = bytes_of(rt, alloc, case.exporter_secret);
+    for (context, want) in EXPORTER_CONTEXTS.iter().zip(&case.exported_values) {
+        let exported = export(&case.suite, &exporter_secret, context);
+        assert_bytes(rt, alloc, &exported, want, case.source, "exported_value");
     }
-    Ok(())
+}
+
+fn assert_all_exports(rt: &impl Abort, alloc: Global, cases: &[ScheduleCase]) {
+    for case in cases {
+        assert_exports(rt, alloc, case);
+    }
+}
+
+#[test]
+fn exported_values_are_those_published(rt: HostRuntime) {
+    assert_all_exports(&rt, rt.alloc(), &SCHEDULES);
 }
 
 struct NonceCase {
@@ -234,7 +239,7 @@ struct NonceCase {
     nonce: &'static str,
 }
 
-const NONCES: [NonceCase; 7] = [
+static NONCES: [NonceCase; 7] = [
     NonceCase {
         source: "RFC 9180, A.1.1.1, sequence number 0",
         base_nonce: "56d890e5accaaf011cff4b7d",
@@ -280,13 +285,12 @@ const NONCES: [NonceCase; 7] = [
 ];
 
 #[test]
-fn nonces_are_those_published(rt: HostRuntime) -> Result<(), Fail> {
+fn nonces_are_those_published(rt: HostRuntime) {
     for case in &NONCES {
-        let base_nonce = <[u8; 12]>::from_hex(case.base_nonce)?;
+        let base_nonce: [u8; 12] = array_of(&rt, case.base_nonce);
         let nonce = nonce_at(&base_nonce, case.seq);
         assert_bytes(&rt, rt.alloc(), &nonce, case.nonce, case.source, "nonce");
     }
-    Ok(())
 }
 
 #[test]
@@ -316,7 +320,7 @@ struct PskCase {
 }
 
 // RFC 9180, 5.1: VerifyPSKInputs(mode, psk, psk_id).
-const PSK_INPUTS: [PskCase; 8] = [
+static PSK_INPUTS: [PskCase; 8] = [
     PskCase {
         mode: Mode::Base,
         psk: b"",
