@@ -4,10 +4,11 @@ use crate::expected::assert_same;
 use batch_io::MemorySink;
 use field_text::Printed;
 use result_lines::{Verdict, print_verdict};
-use std::test::Fail;
+use std::alloc::Global;
+use std::process::Abort;
 
 // Own, by hand: each form of the line; numbers from the least to the greatest.
-const LINES: [(Verdict, &str); 10] = [
+static LINES: [(Verdict, &str); 10] = [
     (Verdict::Legal, "legal\n"),
     (Verdict::Form { line: 1 }, "broken form 1\n"),
     (Verdict::Journal { context: 0 }, "broken journal 0\n"),
@@ -26,26 +27,28 @@ const LINES: [(Verdict, &str); 10] = [
     ),
 ];
 
+// A sink with room for a line. The call of this number fails, and none where it is 0.
+fn sink_of(rt: &impl Abort, alloc: Global, failing: u32) -> MemorySink {
+    let failing = Vec::from_array(alloc, [failing]).expect(rt, "memory");
+    let room = vec![in alloc; 0; 40].expect(rt, "memory");
+    MemorySink::new(room, 40, failing)
+}
+
+// The line is written whole, and nothing of it where the write fails.
+fn expect_line(rt: &impl Abort, alloc: Global, verdict: Verdict, text: &str) {
+    let mut sink = sink_of(rt, alloc, 0);
+    let printed = print_verdict(verdict, &mut sink);
+    assert_same(rt, printed, Printed::Whole, text);
+    assert_same(rt, sink.bytes(), text.as_bytes(), "what is written");
+    let mut failing = sink_of(rt, alloc, 1);
+    let printed = print_verdict(verdict, &mut failing);
+    assert_same(rt, printed, Printed::Failed, text);
+    assert_same(rt, failing.bytes().len(), 0, "bytes before the failure");
+}
+
 #[test]
-fn each_verdict_is_printed(rt: HostRuntime) -> Result<(), Fail> {
-    let alloc = rt.alloc();
+fn each_verdict_is_printed(rt: HostRuntime) {
     for (verdict, text) in &LINES {
-        let mut sink = MemorySink::new(vec![in alloc; 0; 40]?, 40, Vec::new(alloc));
-        assert_same(
-            &rt,
-            print_verdict(*verdict, &mut sink),
-            Printed::Whole,
-            "printed",
-        );
-        assert_same(&rt, sink.bytes(), text.as_bytes(), "what is written");
-        let mut failing = MemorySink::new(vec![in alloc; 0; 40]?, 40, Vec::from_array(alloc, [1])?);
-        assert_same(
-            &rt,
-            print_verdict(*verdict, &mut failing),
-            Printed::Failed,
-            "a print that fails",
-        );
-        assert_same(&rt, failing.bytes().len(), 0, "bytes before the failure");
+        expect_line(&rt, rt.alloc(), *verdict, text);
     }
-    Ok(())
 }

@@ -2,7 +2,7 @@
 
 use crate::expected::assert_same;
 use field_text::{BadBatch, Reason};
-use std::alloc::{AllocError, Global};
+use std::alloc::Global;
 use std::process::Abort;
 
 // A text, with its first bad line and that line's first reason.
@@ -24,14 +24,19 @@ pub struct LongCase {
     pub reason: Reason,
 }
 
+fn put(rt: &impl Abort, text: &mut Vec<u8>, piece: &[u8]) {
+    text.extend_from_slice(piece).expect(rt, "memory");
+}
+
 // The text of these parts.
-pub fn long_text(alloc: Global, case: &LongCase) -> Result<Vec<u8>, AllocError> {
-    let mut text = Vec::from_slice(alloc, case.before)?;
+pub fn long_text(rt: &impl Abort, alloc: Global, case: &LongCase) -> Vec<u8> {
+    let mut text = Vec::new(alloc);
+    put(rt, &mut text, case.before);
     for _ in 0..case.times {
-        text.extend_from_slice(case.part)?;
+        put(rt, &mut text, case.part);
     }
-    text.extend_from_slice(case.after)?;
-    Ok(text)
+    put(rt, &mut text, case.after);
+    text
 }
 
 // A bytes field between `before` and `after`, the most bytes that it may have, and the line that it
@@ -45,13 +50,14 @@ pub struct FieldCase {
 }
 
 // The text whose field has so many bytes, each of them 0, with a line `x` behind the field's.
-pub fn text_with(alloc: Global, case: &FieldCase, count: u32) -> Result<Vec<u8>, AllocError> {
-    let digits = vec![in alloc; b'0'; 2 * count as usize]?;
-    let mut text = Vec::from_slice(alloc, case.before)?;
-    text.extend_from_slice(&digits)?;
-    text.extend_from_slice(case.after)?;
-    text.extend_from_slice(b"x\n")?;
-    Ok(text)
+pub fn text_with(rt: &impl Abort, alloc: Global, case: &FieldCase, count: u32) -> Vec<u8> {
+    let digits = vec![in alloc; b'0'; 2 * count as usize].expect(rt, "memory");
+    let mut text = Vec::new(alloc);
+    put(rt, &mut text, case.before);
+    put(rt, &mut text, &digits);
+    put(rt, &mut text, case.after);
+    put(rt, &mut text, b"x\n");
+    text
 }
 
 // A text was refused for this line and this reason.

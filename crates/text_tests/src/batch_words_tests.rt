@@ -5,13 +5,12 @@ mod no_commands;
 use crate::batch_words_tests::no_commands::NO_COMMANDS;
 use crate::expected::{assert_at, assert_same};
 use batch_words::{Command, Mult, Schedule, read_words};
-use std::alloc::{AllocError, Global};
+use std::alloc::Global;
 use std::process::Abort;
-use std::test::Fail;
 
 // Own, by hand, from the rules of the command grammar: words that spell `run` or `live`, and what
 // they say.
-const RUNS: [(&[&str], u32, Mult); 20] = [
+static RUNS: [(&[&str], u32, Mult); 20] = [
     (&["run"], 4, Mult::Lanes),
     (&["run", "--workers", "1"], 1, Mult::Lanes),
     (&["run", "--workers", "9"], 9, Mult::Lanes),
@@ -47,7 +46,7 @@ const RUNS: [(&[&str], u32, Mult); 20] = [
 ];
 
 // Own, by hand, from the same rules: words that spell a rehearsal, and its lanes.
-const REHEARSALS: [(&[&str], &'static [u8]); 5] = [
+static REHEARSALS: [(&[&str], &'static [u8]); 5] = [
     (&["rehearse", "-"], &[]),
     (&["rehearse", "0"], &[0]),
     (&["rehearse", "15,0"], &[15, 0]),
@@ -56,7 +55,7 @@ const REHEARSALS: [(&[&str], &'static [u8]); 5] = [
 ];
 
 // Own, by hand, from the same rules: words that spell a demonstration, and its three numbers.
-const DEMOS: [(&[&str], u64, u32, u32); 4] = [
+static DEMOS: [(&[&str], u64, u32, u32); 4] = [
     (&["demo", "0", "1", "1"], 0, 1, 1),
     (&["demo", "7", "2000", "8"], 7, 2_000, 8),
     (&["demo", "10", "65536", "16"], 10, 65_536, 16),
@@ -69,7 +68,7 @@ const DEMOS: [(&[&str], u64, u32, u32); 4] = [
 ];
 
 // Own, by hand, from the same rules: the words after `check` and `capsules`, and what they say.
-const MULTS: [(&[&str], Mult); 6] = [
+static MULTS: [(&[&str], Mult); 6] = [
     (&[], Mult::Lanes),
     (&["--mult", "plain"], Mult::Plain),
     (&["--mult", "karatsuba"], Mult::Karatsuba),
@@ -79,7 +78,7 @@ const MULTS: [(&[&str], Mult); 6] = [
 ];
 
 // Own, by hand, from the same rules: the words after `check` for a result of `live`.
-const LIVE_MULTS: [(&[&str], Mult); 5] = [
+static LIVE_MULTS: [(&[&str], Mult); 5] = [
     (&["--live"], Mult::Lanes),
     (&["--live", "--mult", "plain"], Mult::Plain),
     (&["--mult", "karatsuba", "--live"], Mult::Karatsuba),
@@ -87,12 +86,28 @@ const LIVE_MULTS: [(&[&str], Mult); 5] = [
     (&["--mult=karatsuba", "--live"], Mult::Karatsuba),
 ];
 
-fn strings(alloc: Global, words: &[&str]) -> Result<Vec<String>, AllocError> {
+fn push_word(rt: &impl Abort, alloc: Global, words: &mut Vec<String>, word: &str) {
+    let word = String::from_str(alloc, word).expect(rt, "memory");
+    words.push(word).expect(rt, "memory");
+}
+
+// The command that these words spell.
+fn command_of(rt: &impl Abort, alloc: Global, words: &[&str]) -> Option<Command> {
     let mut strings = Vec::new(alloc);
     for word in words {
-        strings.push(String::from_str(alloc, word)?)?;
+        push_word(rt, alloc, &mut strings, word);
     }
-    Ok(strings)
+    read_words(alloc, &strings).expect(rt, "memory")
+}
+
+// The command that a name spells with these words behind it.
+fn command_with(rt: &impl Abort, alloc: Global, name: &str, words: &[&str]) -> Option<Command> {
+    let mut strings = Vec::new(alloc);
+    push_word(rt, alloc, &mut strings, name);
+    for word in words {
+        push_word(rt, alloc, &mut strings, word);
+    }
+    read_words(alloc, &strings).expect(rt, "memory")
 }
 
 // The workers and the multiplier of a command of this name.
@@ -113,35 +128,28 @@ fn schedule_of(command: Option<Command>) -> Option<Schedule> {
 }
 
 #[test]
-fn words_of_a_run_are_read(rt: HostRuntime) -> Result<(), Fail> {
-    let alloc = rt.alloc();
+fn words_of_a_run_are_read(rt: HostRuntime) {
     for (words, workers, mult) in &RUNS {
         let (words, workers, mult) = (*words, *workers, *mult);
-        let read = read_words(alloc, &strings(alloc, words)?)?;
-        assert_at(
-            &rt,
-            run_of(read, words.first().copied().unwrap_or("")),
-            Some((workers, mult)),
-            "words",
-            words,
-        );
+        let read = command_of(&rt, rt.alloc(), words);
+        let said = run_of(read, words.first().copied().unwrap_or(""));
+        assert_at(&rt, said, Some((workers, mult)), "words", words);
     }
-    Ok(())
+}
+
+// The words spell a rehearsal of these lanes.
+fn expect_rehearsal(rt: &impl Abort, alloc: Global, words: &[&str], lanes: &[u8]) {
+    match schedule_of(command_of(rt, alloc, words)) {
+        Some(schedule) => assert_at(rt, schedule.as_slice(), lanes, "words", words),
+        None => panic!(rt; "{words:?}"),
+    }
 }
 
 #[test]
-fn words_of_a_rehearsal_are_read(rt: HostRuntime) -> Result<(), Fail> {
-    let alloc = rt.alloc();
+fn words_of_a_rehearsal_are_read(rt: HostRuntime) {
     for (words, lanes) in &REHEARSALS {
-        let (words, lanes) = (*words, *lanes);
-        let read = read_words(alloc, &strings(alloc, words)?)?;
-        let schedule = schedule_of(read);
-        assert!(rt; schedule.is_some(), "{words:?}");
-        if let Some(schedule) = schedule {
-            assert_at(&rt, schedule.as_slice(), lanes, "words", words);
-        }
+        expect_rehearsal(&rt, rt.alloc(), words, lanes);
     }
-    Ok(())
 }
 
 // The three numbers of a demonstration.
@@ -159,126 +167,90 @@ fn numbers_of(command: Option<Command>) -> Option<(u64, u32, u32)> {
 }
 
 #[test]
-fn words_of_a_demonstration_are_read(rt: HostRuntime) -> Result<(), Fail> {
-    let alloc = rt.alloc();
+fn words_of_a_demonstration_are_read(rt: HostRuntime) {
     for (words, seed, messages, lanes) in &DEMOS {
-        let (words, seed, messages, lanes) = (*words, *seed, *messages, *lanes);
-        let read = read_words(alloc, &strings(alloc, words)?)?;
-        assert_at(
-            &rt,
-            numbers_of(read),
-            Some((seed, messages, lanes)),
-            "words",
-            words,
-        );
+        let (words, want) = (*words, Some((*seed, *messages, *lanes)));
+        let said = numbers_of(command_of(&rt, rt.alloc(), words));
+        assert_at(&rt, said, want, "words", words);
     }
-    Ok(())
 }
 
-// The multiplier of a command of this name with these words behind it.
-fn mult_of(alloc: Global, name: &str, words: &[&str]) -> Result<Option<Mult>, AllocError> {
-    let mut all = Vec::new(alloc);
-    all.push(String::from_str(alloc, name)?)?;
-    for word in words {
-        all.push(String::from_str(alloc, word)?)?;
-    }
-    Ok(match read_words(alloc, &all)? {
-        Some(Command::Check { mult }) if name == "check" => Some(mult),
-        Some(Command::Capsules { mult }) if name == "capsules" => Some(mult),
+// The name and the multiplier of `check`, of `check --live`, or of `capsules`.
+fn mult_of(command: Option<Command>) -> Option<(&'static str, Mult)> {
+    match command {
+        Some(Command::Check { mult }) => Some(("check", mult)),
+        Some(Command::CheckLive { mult }) => Some(("check --live", mult)),
+        Some(Command::Capsules { mult }) => Some(("capsules", mult)),
         _ => None,
-    })
+    }
 }
 
 #[test]
-fn multipliers_of_other_commands_are_read(rt: HostRuntime) -> Result<(), Fail> {
-    let alloc = rt.alloc();
+fn multipliers_of_other_commands_are_read(rt: HostRuntime) {
     for (words, mult) in &MULTS {
         let (words, mult) = (*words, *mult);
-        assert_at(
-            &rt,
-            mult_of(alloc, "check", words)?,
-            Some(mult),
-            "check",
-            words,
-        );
-        assert_at(
-            &rt,
-            mult_of(alloc, "capsules", words)?,
-            Some(mult),
-            "capsules",
-            words,
-        );
+        for name in ["check", "capsules"] {
+            let said = mult_of(command_with(&rt, rt.alloc(), name, words));
+            assert_at(&rt, said, Some((name, mult)), name, words);
+        }
     }
-    Ok(())
 }
 
 #[test]
-fn words_of_a_live_check_are_read(rt: HostRuntime) -> Result<(), Fail> {
-    let alloc = rt.alloc();
+fn words_of_a_live_check_are_read(rt: HostRuntime) {
     for (words, mult) in &LIVE_MULTS {
-        let (words, mult) = (*words, *mult);
-        let mut all = strings(alloc, &["check"])?;
-        for word in words {
-            all.push(String::from_str(alloc, word)?)?;
-        }
-        let said = match read_words(alloc, &all)? {
-            Some(Command::CheckLive { mult }) => Some(mult),
-            _ => None,
-        };
-        assert_at(&rt, said, Some(mult), "check", words);
+        let (words, want) = (*words, Some(("check --live", *mult)));
+        let said = mult_of(command_with(&rt, rt.alloc(), "check", words));
+        assert_at(&rt, said, want, "check", words);
     }
-    Ok(())
+}
+
+// Whether the words of a line spell a command.
+fn is_command(rt: &impl Abort, alloc: Global, line: &str) -> bool {
+    let mut words = Vec::new(alloc);
+    for word in line.split("|") {
+        push_word(rt, alloc, &mut words, word);
+    }
+    read_words(alloc, &words).expect(rt, "memory").is_some()
 }
 
 // The words of each line spell no command.
-fn expect_none(rt: &impl Abort, alloc: Global, lines: &str) -> Result<(), AllocError> {
+fn expect_none(rt: &impl Abort, alloc: Global, lines: &str) {
     for line in lines.lines() {
-        let mut words = Vec::new(alloc);
-        for word in line.split("|") {
-            words.push(String::from_str(alloc, word)?)?;
-        }
-        let read = read_words(alloc, &words)?;
-        assert!(rt; read.is_none(), "{line}");
+        assert_same(rt, is_command(rt, alloc, line), false, line);
     }
-    Ok(())
 }
 
 #[test]
-fn other_words_spell_no_command(rt: HostRuntime) -> Result<(), Fail> {
+fn other_words_spell_no_command(rt: HostRuntime) {
     let alloc = rt.alloc();
     for lines in &NO_COMMANDS {
-        expect_none(&rt, alloc, lines)?;
+        expect_none(&rt, alloc, lines);
     }
-    let read = read_words(alloc, &Vec::new(alloc))?;
-    assert!(rt; read.is_none(), "no words");
-    Ok(())
+    let read = command_of(&rt, alloc, &[]);
+    assert_same(&rt, read.is_some(), false, "no words");
 }
 
-// How many steps are read of a schedule of so many, each of lane 15; none where the words spell no
-// command.
-fn steps_read(alloc: Global, steps: usize) -> Result<Option<usize>, AllocError> {
-    let mut text = String::from_str(alloc, "15")?;
+// A schedule of so many steps, each of lane 15.
+fn schedule_text(rt: &impl Abort, alloc: Global, steps: usize) -> String {
+    let mut text = String::from_str(alloc, "15").expect(rt, "memory");
     for _ in 1..steps {
-        text.push_str(",15")?;
+        text.push_str(",15").expect(rt, "memory");
     }
-    let mut words = Vec::new(alloc);
-    words.push(String::from_str(alloc, "rehearse")?)?;
-    words.push(text)?;
-    match schedule_of(read_words(alloc, &words)?) {
-        Some(schedule) => Ok(Some(schedule.as_slice().len())),
-        None => Ok(None),
-    }
+    text
+}
+
+// How many steps are read of such a schedule; none where the words spell no command.
+fn steps_read(rt: &impl Abort, alloc: Global, steps: usize) -> Option<usize> {
+    let text = schedule_text(rt, alloc, steps);
+    let schedule = schedule_of(command_of(rt, alloc, &["rehearse", &text]))?;
+    Some(schedule.as_slice().len())
 }
 
 #[test]
-fn a_schedule_has_at_most_65536_steps(rt: HostRuntime) -> Result<(), Fail> {
-    let alloc = rt.alloc();
-    assert_same(
-        &rt,
-        steps_read(alloc, 65_536)?,
-        Some(65_536),
-        "65,536 steps",
-    );
-    assert_same(&rt, steps_read(alloc, 65_537)?, None, "65,537 steps");
-    Ok(())
+fn a_schedule_has_at_most_65536_steps(rt: HostRuntime) {
+    let read = steps_read(&rt, rt.alloc(), 65_536);
+    assert_same(&rt, read, Some(65_536), "65,536 steps");
+    let read = steps_read(&rt, rt.alloc(), 65_537);
+    assert_same(&rt, read, None, "65,537 steps");
 }

@@ -7,7 +7,6 @@ use call_places::{
     a_note_changes_its_own_name, later_entries_change_no_number,
 };
 use std::collections::LinkedList;
-use std::test::Fail;
 
 // A list of entries that anybody may add to.
 #[derive(Drop)]
@@ -77,7 +76,7 @@ fn only_a_seal_and_an_opening_raise_the_number(rt: HostRuntime) {
 }
 
 #[test]
-fn a_log_is_listed_and_shows_its_last_entry(rt: HostRuntime) -> Result<(), Fail> {
+fn a_log_is_listed_and_shows_its_last_entry(rt: HostRuntime) {
     let alloc = rt.alloc();
     let mut log = Log {
         entries: Vec::new(alloc),
@@ -88,7 +87,7 @@ fn a_log_is_listed_and_shows_its_last_entry(rt: HostRuntime) -> Result<(), Fail>
     let mut call = 0;
     for (step, _advances) in STEPS {
         let next = entry(call, step);
-        log.entries.push(next)?;
+        log.entries.push(next).expect(&rt, "memory");
         assert_at(&rt, last_of_listed(&log), Some(next), "step", step);
         let mark = Mark {
             place: next.place,
@@ -100,7 +99,6 @@ fn a_log_is_listed_and_shows_its_last_entry(rt: HostRuntime) -> Result<(), Fail>
     later_entries_change_no_number(&log.entries, &log.entries);
     a_note_changes_its_own_name();
     a_name_is_live_until_it_is_retired();
-    Ok(())
 }
 
 #[test]
@@ -110,6 +108,6 @@ fn an_item_names_bytes_of_its_pool(rt: HostRuntime) {
         aad: Span { start: 0, len: 3 },
         text: Span { start: 3, len: 4 },
     };
-    assert!(rt; item.aad.of(pool) == b"aad".as_slice());
-    assert!(rt; item.text.of(pool) == b"text".as_slice());
+    assert_same(&rt, item.aad.of(pool), b"aad".as_slice(), "aad");
+    assert_same(&rt, item.text.of(pool), b"text".as_slice(), "text");
 }

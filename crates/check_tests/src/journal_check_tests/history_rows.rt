@@ -4,7 +4,7 @@ use super::rows::Row;
 use journal_check::Verdict;
 
 // An export, refusals and LIMIT.
-pub const REFUSALS: [Row; 4] = [
+pub static REFUSALS: [Row; 4] = [
     Row {
         source: "RFC 9180, A.1.1.1 and A.1.1.2: an export, refusals, LIMIT",
         batch: "hpkebatch 1\nshare send 32 1 1 fe0e18c9f024ce43799ae393c7e8fe8fce9d218875e8227b0187c04e7d2ea1fc base 4f6465206f6e2061204772656369616e2055726e - - 1\nlane\nexport 0 - 32\nseal 1 - -\nunseal 0 - -\nexport 0 - 8161\nseal 0 436f756e742d30 4265617574792069732074727574682c20747275746820626561757479\nseal 0 436f756e742d30 4265617574792069732074727574682c20747275746820626561757479\nend\n",
@@ -32,7 +32,7 @@ pub const REFUSALS: [Row; 4] = [
 ];
 
 // Journals of version 2.
-pub const STAMPS: [Row; 7] = [
+pub static STAMPS: [Row; 7] = [
     Row {
         source: "own: two journals of one history",
         batch: "hpkebatch 2\nshare send 32 1 1 fe0e18c9f024ce43799ae393c7e8fe8fce9d218875e8227b0187c04e7d2ea1fc base 4f6465206f6e2061204772656369616e2055726e - - 9\nshare recv 32 1 1 fe0e18c9f024ce43799ae393c7e8fe8fce9d218875e8227b0187c04e7d2ea1fc base 4f6465206f6e2061204772656369616e2055726e - - 9\nlane\nseal 0 436f756e742d30 4265617574792069732074727574682c20747275746820626561757479\nunsealall 1 436f756e742d30 f938558b5d72f1a23810b4be2ab4f84331acc02fc97babc53a52ae8218a355a96d8770ac83d07bea87e13c512a 436f756e742d31 af2d7e9ac9ae7e270f46ba1f975be53c09f8d875bdc8535458c2494e8a6eab251c03d0c22a56b8ca42c2063b84\nlane\nseal 0 436f756e742d31 4265617574792069732074727574682c20747275746820626561757479\nend\n",

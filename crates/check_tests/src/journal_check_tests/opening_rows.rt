@@ -4,7 +4,7 @@ use super::rows::Row;
 use journal_check::Verdict;
 
 // An opening of several messages: its guess, and its places in the journal.
-pub const OPENINGS: [Row; 8] = [
+pub static OPENINGS: [Row; 8] = [
     Row {
         source: "RFC 9180, A.1.1.1, three messages together",
         batch: "hpkebatch 1\nshare recv 32 1 1 fe0e18c9f024ce43799ae393c7e8fe8fce9d218875e8227b0187c04e7d2ea1fc base 4f6465206f6e2061204772656369616e2055726e - - 9\nlane\nunsealall 0 436f756e742d30 f938558b5d72f1a23810b4be2ab4f84331acc02fc97babc53a52ae8218a355a96d8770ac83d07bea87e13c512a 436f756e742d31 af2d7e9ac9ae7e270f46ba1f975be53c09f8d875bdc8535458c2494e8a6eab251c03d0c22a56b8ca42c2063b85 436f756e742d31 af2d7e9ac9ae7e270f46ba1f975be53c09f8d875bdc8535458c2494e8a6eab251c03d0c22a56b8ca42c2063b84\nend\n",
@@ -56,7 +56,7 @@ pub const OPENINGS: [Row; 8] = [
 ];
 
 // Guesses, with another lane and without.
-pub const GUESSES: [Row; 5] = [
+pub static GUESSES: [Row; 5] = [
     Row {
         source: "own: a guess before the other lane's place",
         batch: "hpkebatch 1\nshare recv 32 1 1 fe0e18c9f024ce43799ae393c7e8fe8fce9d218875e8227b0187c04e7d2ea1fc base 4f6465206f6e2061204772656369616e2055726e - - 9\nlane\nunsealall 0 436f756e742d31 af2d7e9ac9ae7e270f46ba1f975be53c09f8d875bdc8535458c2494e8a6eab251c03d0c22a56b8ca42c2063b84\nlane\nunseal 0 436f756e742d30 f938558b5d72f1a23810b4be2ab4f84331acc02fc97babc53a52ae8218a355a96d8770ac83d07bea87e13c512a\nend\n",

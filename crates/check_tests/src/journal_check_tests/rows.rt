@@ -11,7 +11,7 @@ pub struct Row {
 }
 
 // The shortest batch, and two seals on one context.
-pub const SEALS: [Row; 11] = [
+pub static SEALS: [Row; 11] = [
     Row {
         source: "own: the shortest batch",
         batch: "hpkebatch 1\nend\n",
@@ -81,7 +81,7 @@ pub const SEALS: [Row; 11] = [
 ];
 
 // Lines that are missing or have another form.
-pub const FORMS: [Row; 8] = [
+pub static FORMS: [Row; 8] = [
     Row {
         source: "own: no result",
         batch: "hpkebatch 1\nshare send 32 1 1 fe0e18c9f024ce43799ae393c7e8fe8fce9d218875e8227b0187c04e7d2ea1fc base 4f6465206f6e2061204772656369616e2055726e - - 2\nlane\nseal 0 436f756e742d30 4265617574792069732074727574682c20747275746820626561757479\nseal 0 436f756e742d31 4265617574792069732074727574682c20747275746820626561757479\nend\n",

@@ -1,5 +1,6 @@
 //! The gate that holds a lane until another has answered.
 
+use crate::expected::assert_same;
 use batch_io::{Gate, HoldGate, Point};
 use std::sync::atomic::{AtomicBool, Ordering};
 use std::thread;
@@ -30,8 +31,8 @@ fn a_lane_is_held_until_the_other_has_answered(rt: HostRuntime) {
             shared.reached(1, 0, Point::Answered)
         },
     );
-    assert!(rt; was_held);
-    assert!(rt; !gate.gave_up());
+    assert_same(&rt, was_held, true, "held");
+    assert_same(&rt, gate.gave_up(), false, "gave up");
 }
 
 #[test]
@@ -39,7 +40,12 @@ fn one_lane_is_held_and_at_one_kind_of_point_alone(rt: HostRuntime) {
     let gate = HoldGate::new(0, Point::Guessed, 1, 10);
     gate.reached(0, 0, Point::Drawn);
     gate.reached(2, 0, Point::Guessed);
-    assert!(rt; !gate.gave_up());
+    assert_same(
+        &rt,
+        gate.gave_up(),
+        false,
+        "gave up at another lane or point",
+    );
     gate.reached(0, 1, Point::Guessed);
-    assert!(rt; gate.gave_up());
+    assert_same(&rt, gate.gave_up(), true, "gave up");
 }

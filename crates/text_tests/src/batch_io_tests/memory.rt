@@ -3,7 +3,8 @@
 use crate::batch_io_tests::{expect_reads, expect_writes};
 use crate::expected::assert_same;
 use batch_io::{FreeGate, Gate, Got, MemorySink, MemorySource, Point, PureSink, PureSource, Took};
-use std::test::Fail;
+use std::alloc::Global;
+use std::process::Abort;
 
 // All rows: own, counted by hand from the doc comments of `MemorySource` and `MemorySink`.
 
@@ -15,7 +16,7 @@ struct SourceCase {
 }
 
 // Reads of "hpkebatch" into a buffer of 4 bytes.
-const SOURCES: [SourceCase; 6] = [
+static SOURCES: [SourceCase; 6] = [
     SourceCase {
         name: "one byte a call",
         step: 1,
@@ -91,7 +92,7 @@ struct SinkCase {
 }
 
 // Writes of "hpkebatch", each of all that is left of it, into room for 7 bytes.
-const SINKS: [SinkCase; 4] = [
+static SINKS: [SinkCase; 4] = [
     SinkCase {
         name: "three bytes a call",
         step: 3,
@@ -118,24 +119,29 @@ const SINKS: [SinkCase; 4] = [
     },
 ];
 
+fn expect_source(rt: &impl Abort, alloc: Global, case: &SourceCase) {
+    let bytes = Vec::from_slice(alloc, b"hpkebatch").expect(rt, "memory");
+    let failing = Vec::from_slice(alloc, case.failing).expect(rt, "memory");
+    let mut source = MemorySource::new(bytes, case.step.max(1), failing);
+    expect_reads(rt, &mut source, case.gives, b"hpkebatch", case.name);
+}
+
+fn expect_sink(rt: &impl Abort, alloc: Global, case: &SinkCase) {
+    let room = vec![in alloc; 0; 7].expect(rt, "memory");
+    let failing = Vec::from_slice(alloc, case.failing).expect(rt, "memory");
+    let mut sink = MemorySink::new(room, case.step.max(1), failing);
+    expect_writes(rt, &mut sink, case.takes, b"hpkebatch", case.name);
+    assert_same(rt, sink.bytes(), b"hpkebat".as_slice(), case.name);
+}
+
 #[test]
-fn ends_in_memory_move_in_steps_and_fail_on_demand(rt: HostRuntime) -> Result<(), Fail> {
-    let alloc = rt.alloc();
+fn ends_in_memory_move_in_steps_and_fail_on_demand(rt: HostRuntime) {
     for case in &SOURCES {
-        let bytes = Vec::from_slice(alloc, b"hpkebatch")?;
-        let failing = Vec::from_slice(alloc, case.failing)?;
-        assert!(rt; case.step > 0);
-        let mut source = MemorySource::new(bytes, case.step, failing);
-        expect_reads(&rt, &mut source, case.gives, b"hpkebatch", case.name);
+        expect_source(&rt, rt.alloc(), case);
     }
     for case in &SINKS {
-        let failing = Vec::from_slice(alloc, case.failing)?;
-        assert!(rt; case.step > 0);
-        let mut sink = MemorySink::new(vec![in alloc; 0; 7]?, case.step, failing);
-        expect_writes(&rt, &mut sink, case.takes, b"hpkebatch", case.name);
-        assert_same(&rt, sink.bytes(), b"hpkebat".as_slice(), case.name);
+        expect_sink(&rt, rt.alloc(), case);
     }
-    Ok(())
 }
 
 fn reach<G: Gate>(gate: &G) {
@@ -145,12 +151,12 @@ fn reach<G: Gate>(gate: &G) {
 }
 
 #[test]
-fn pure_ends_never_fail_and_the_free_gate_holds_nobody(rt: HostRuntime) -> Result<(), Fail> {
-    let mut source = PureSource::new(Vec::from_slice(rt.alloc(), b"batch")?);
+fn pure_ends_never_fail_and_the_free_gate_holds_nobody(rt: HostRuntime) {
+    let bytes = Vec::from_slice(rt.alloc(), b"batch").expect(&rt, "memory");
+    let mut source = PureSource::new(bytes);
     let gives = [Got::Bytes(4), Got::Bytes(1), Got::Bytes(0), Got::Bytes(0)];
     expect_reads(&rt, &mut source, &gives, b"batch", "pure source");
     let takes = [Took::Bytes(5), Took::Bytes(0)];
     expect_writes(&rt, &mut PureSink::new(), &takes, b"batch", "pure sink");
     reach(&FreeGate::new());
-    Ok(())
 }

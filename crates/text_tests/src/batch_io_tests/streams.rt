@@ -3,13 +3,12 @@
 ghost use Rattle.std.specs.Prelude.{◌≤◌, IfOk};
 
 use crate::batch_io_tests::{expect_reads, expect_writes};
-use crate::expected::assert_same;
+use crate::expected::{assert_at, assert_same};
 use batch_io::{Got, Sink, Source, StdSink, StdSource, Took};
-use std::alloc::{AllocError, Global};
+use std::alloc::Global;
 use std::io;
 use std::io::{ErrorKind, Read, Write};
 use std::process::Abort;
-use std::test::Fail;
 
 // A reader and a writer that answer as they are told, by one number a call: how many bytes are
 // moved, or none for an error. What is read is `x`, and what is written is kept.
@@ -121,22 +120,22 @@ fn the_std_sink_flushes_each_write_and_answers_failed_where_one_fails(rt: HostRu
 const SIZES: [usize; 5] = [1, 4096, 20_000, 32_768, 65_536];
 
 // Reads and writes of a piece of this size.
-fn expect_whole(rt: &impl Abort, alloc: Global, size: usize) -> Result<(), AllocError> {
-    let mut piece = vec![in alloc; 0; size]?;
+fn expect_whole(rt: &impl Abort, alloc: Global, size: usize) {
+    let mut piece = vec![in alloc; 0; size].expect(rt, "memory");
     let mut script = Script::new(alloc, &[Some(65_536), Some(65_536)], &[]);
     let got = StdSource::new(&mut script).read(&mut piece);
     assert_same(rt, got, Got::Bytes(size), "got");
-    assert!(rt; piece.iter().all(|byte| *byte == b'x'), "{size}");
+    let is_whole = piece.iter().all(|byte| *byte == b'x');
+    assert_at(rt, is_whole, true, "what is read", size);
     let took = StdSink::new(&mut script).write(&piece);
     assert_same(rt, took, Took::Bytes(size), "took");
-    assert!(rt; script.written == piece, "{size}");
-    Ok(())
+    let written = script.written.as_slice();
+    assert_at(rt, written, piece.as_slice(), "what is written", size);
 }
 
 #[test]
-fn the_std_ends_move_large_pieces_whole(rt: HostRuntime) -> Result<(), Fail> {
+fn the_std_ends_move_large_pieces_whole(rt: HostRuntime) {
     for size in SIZES {
-        expect_whole(&rt, rt.alloc(), size)?;
+        expect_whole(&rt, rt.alloc(), size);
     }
-    Ok(())
 }

@@ -1,7 +1,7 @@
 //! Words that spell no command: a line of text for each, with a bar between two words.
 
 // Own, by hand, from the rules of the command grammar.
-pub const NO_COMMANDS: [&str; 10] = [
+pub static NO_COMMANDS: [&str; 10] = [
     // another command
     "\
 Run

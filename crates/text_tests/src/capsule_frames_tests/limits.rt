@@ -5,7 +5,7 @@ use field_text::Reason;
 
 // One line more of a kind than there may be, and as many as there may be with one of another kind
 // behind them. All are own, made by hand from the grammar.
-pub const COUNTS: [LongCase; 7] = [
+pub static COUNTS: [LongCase; 7] = [
     LongCase {
         what: "257 asks",
         before: b"hpkebatch 2\nrand 0000000000000000000000000000000000000000000000000000000000000000\n",
@@ -72,7 +72,7 @@ pub const COUNTS: [LongCase; 7] = [
 ];
 
 // All are own, from the format's table of fields.
-pub const FIELDS: [FieldCase; 6] = [
+pub static FIELDS: [FieldCase; 6] = [
     FieldCase {
         what: "HEX",
         before: b"hpkebatch 2\nsecret857 ",

@@ -3,12 +3,11 @@
 use crate::expected::{assert_at, assert_same};
 use call_places::Span;
 use field_text::{Pieces, Reason, Stop, cut_at, read_bytes, read_number};
-use std::alloc::{AllocError, Global};
+use std::alloc::Global;
 use std::process::Abort;
-use std::test::Fail;
 
 // A number field from 1 to 65,535, or its reason. All are own, made by hand from the field's form.
-const NUMBERS: [(&'static [u8], Result<u64, Reason>); 10] = [
+static NUMBERS: [(&'static [u8], Result<u64, Reason>); 10] = [
     (b"1", Ok(1)),
     (b"65535", Ok(65_535)),
     (b"0", Err(Reason::Range)),
@@ -23,7 +22,7 @@ const NUMBERS: [(&'static [u8], Result<u64, Reason>); 10] = [
 ];
 
 // A bytes field of at most so many bytes, or its reason. All are own, as above.
-const BYTES: [(&'static [u8], u8, Result<&'static [u8], Reason>); 17] = [
+static BYTES: [(&'static [u8], u8, Result<&'static [u8], Reason>); 17] = [
     (b"-", 2, Ok(b"")),
     (b"0a", 2, Ok(b"\x0a")),
     (b"00ff", 2, Ok(b"\x00\xff")),
@@ -55,8 +54,8 @@ fn expect_bytes(
     piece: &[u8],
     most: u8,
     want: Result<&[u8], Reason>,
-) -> Result<(), AllocError> {
-    let mut pool = Vec::from_slice(alloc, b"pool".as_slice())?;
+) {
+    let mut pool = Vec::from_slice(alloc, b"pool".as_slice()).expect(rt, "memory");
     match read_bytes(&mut pool, piece, usize::from(most)) {
         Ok(span) => {
             assert_at(rt, span.start, 4, "start", piece);
@@ -66,19 +65,17 @@ fn expect_bytes(
         Err(Stop::Bad(reason)) => assert_at(rt, Err(reason), want, "reason", piece),
         Err(Stop::OutOfMemory) => panic!(rt; "memory"),
     }
-    Ok(())
 }
 
 #[test]
-fn a_field_has_its_value_or_its_reason(rt: HostRuntime) -> Result<(), Fail> {
+fn a_field_has_its_value_or_its_reason(rt: HostRuntime) {
     for (piece, want) in &NUMBERS {
         let piece = *piece;
         assert_at(&rt, read_number(piece, 1, 65_535), *want, "number", piece);
     }
     for (piece, most, want) in &BYTES {
-        expect_bytes(&rt, rt.alloc(), piece, *most, *want)?;
+        expect_bytes(&rt, rt.alloc(), piece, *most, *want);
     }
-    Ok(())
 }
 
 // What is left behind a bytes field and a number.
@@ -93,7 +90,7 @@ fn expect_rest(rt: &impl Abort, pieces: &mut Pieces) {
 }
 
 #[test]
-fn a_line_is_read_piece_by_piece(rt: HostRuntime) -> Result<(), Fail> {
+fn a_line_is_read_piece_by_piece(rt: HostRuntime) {
     let Some((line, after)) = cut_at(b"0a0b 7 export \nend", b'\n') else {
         panic!(rt; "no line");
     };
@@ -107,17 +104,16 @@ fn a_line_is_read_piece_by_piece(rt: HostRuntime) -> Result<(), Fail> {
     assert_same(&rt, pool.as_slice(), b"\x0a\x0b".as_slice(), "pool");
     assert_same(&rt, pieces.number(0, 9), Ok(7), "a number");
     expect_rest(&rt, &mut pieces);
-    Ok(())
 }
 
 // Own, by hand: lines of the numbers from 0 on, as many pieces as are cut at once, and one more.
-const LINES: [(&'static [u8], usize); 2] = [
+static LINES: [(&'static [u8], usize); 2] = [
     (b"0 1 2 3 4 5 6 7 8 9 10 11", 12),
     (b"0 1 2 3 4 5 6 7 8 9 10 11 12", 13),
 ];
 
 #[test]
-fn a_long_line_is_read_piece_by_piece(rt: HostRuntime) -> Result<(), Fail> {
+fn a_long_line_is_read_piece_by_piece(rt: HostRuntime) {
     for (line, count) in &LINES {
         let mut pieces = Pieces::of(line);
         for next in 0..*count {
@@ -128,5 +124,4 @@ fn a_long_line_is_read_piece_by_piece(rt: HostRuntime) -> Result<(), Fail> {
         assert_at(&rt, pieces.len(), 0, "how many pieces", *count);
         assert!(rt; pieces.is_empty());
     }
-    Ok(())
 }

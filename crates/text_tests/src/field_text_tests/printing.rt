@@ -3,15 +3,17 @@
 use crate::expected::assert_same;
 use batch_io::MemorySink;
 use field_text::{Buffer, Printed};
-use std::test::Fail;
+use std::alloc::Global;
+use std::process::Abort;
 
 // Own, by hand: the least and the greatest number, no bytes, and bytes of each digit.
 const TEXT: &str = "n 0 9 10 18446744073709551615 - 0123456789abcdef";
 
 #[test]
-fn pieces_are_printed_one_after_another(rt: HostRuntime) -> Result<(), Fail> {
+fn pieces_are_printed_one_after_another(rt: HostRuntime) {
     let alloc = rt.alloc();
-    let mut sink = MemorySink::new(vec![in alloc; 0; 100]?, 7, Vec::new(alloc));
+    let room = vec![in alloc; 0; 100].expect(&rt, "memory");
+    let mut sink = MemorySink::new(room, 7, Vec::new(alloc));
     let mut out = Buffer::new();
     out.put_text(&mut sink, b"n");
     for number in [0, 9, 10, u64::MAX] {
@@ -29,27 +31,26 @@ fn pieces_are_printed_one_after_another(rt: HostRuntime) -> Result<(), Fail> {
         "outcome of the print",
     );
     assert_same(&rt, sink.bytes(), TEXT.as_bytes(), "what is written");
-    Ok(())
 }
 
 // Own, by hand: 40,000 bytes 5a are 80,000 digits, more than wait in a buffer at once. The sink fails
 // in its second call, and has then one buffer of them.
+fn expect_long(rt: &impl Abort, alloc: Global, failing: u32, printed: Printed, count: usize) {
+    let bytes = vec![in alloc; 0x5a; 40_000].expect(rt, "memory");
+    let failing = Vec::from_array(alloc, [failing]).expect(rt, "memory");
+    let room = vec![in alloc; 0; 80_000].expect(rt, "memory");
+    let mut sink = MemorySink::new(room, 80_000, failing);
+    let mut out = Buffer::new();
+    out.put_hex(&mut sink, &bytes);
+    assert_same(rt, out.finish(&mut sink), printed, "outcome of the print");
+    assert_same(rt, sink.bytes().len(), count, "bytes written");
+    let mut pairs = sink.bytes().chunks(2);
+    let is_hex = pairs.all(|digits| digits == b"5a".as_slice());
+    assert_same(rt, is_hex, true, "each byte is 5a");
+}
+
 #[test]
-fn a_long_text_is_printed_in_pieces(rt: HostRuntime) -> Result<(), Fail> {
-    let alloc = rt.alloc();
-    let bytes = vec![in alloc; 0x5a; 40_000]?;
-    for (failing, printed, count) in [(0, Printed::Whole, 80_000), (2, Printed::Failed, 32_768)] {
-        let failing = Vec::from_array(alloc, [failing])?;
-        let mut sink = MemorySink::new(vec![in alloc; 0; 80_000]?, 80_000, failing);
-        let mut out = Buffer::new();
-        out.put_hex(&mut sink, &bytes);
-        assert_same(&rt, out.finish(&mut sink), printed, "outcome of the print");
-        assert_same(&rt, sink.bytes().len(), count, "bytes written");
-        assert!(rt;
-            sink.bytes()
-                .chunks(2)
-                .all(|digits| digits == b"5a".as_slice())
-        );
-    }
-    Ok(())
+fn a_long_text_is_printed_in_pieces(rt: HostRuntime) {
+    expect_long(&rt, rt.alloc(), 0, Printed::Whole, 80_000);
+    expect_long(&rt, rt.alloc(), 2, Printed::Failed, 32_768);
 }

@@ -5,7 +5,7 @@ use crate::bad_cases::{BadCase, LongCase};
 use field_text::Reason;
 
 // What follows the first line `hpkebatch 2`. All are own, made by hand from the grammar.
-pub const BAD: [BadCase; 26] = [
+pub static BAD: [BadCase; 26] = [
     BadCase {
         what: "add before a lane",
         text: b"add send 32 1 1 5e base - - - 9\nend\n",
@@ -165,7 +165,7 @@ pub const BAD: [BadCase; 26] = [
 ];
 
 // Long texts, from their first line on. All are own, as above.
-pub const LONG: [LongCase; 3] = [
+pub static LONG: [LongCase; 3] = [
     LongCase {
         what: "257 contexts, 256 of which are added",
         before: b"hpkebatch 2\nshare send 32 1 1 5e base - - - 9\nlane\n",

@@ -11,7 +11,6 @@ use field_text::Printed;
 use live_frames::{print_live, read_live};
 use std::alloc::{AllocError, Global};
 use std::process::Abort;
-use std::test::Fail;
 
 // A reply to a batch, by what is answered. All are own, made by hand from the format.
 struct Case {
@@ -42,7 +41,7 @@ const GUESSES: [Batch; 2] = [
     },
 ];
 
-const CASES: [Case; 2] = [
+static CASES: [Case; 2] = [
     Case {
         source: "own: a context is called before it is added, while it is live, and after it is retired",
         batch: b"hpkebatch 2\nlane\nseal +0 a0 b0b1\nadd send 32 1 1 5e base 1f - - 9\nseal +0 a0 b0b1\nretire +0\nseal +0 a0 b0b1\nend\n",
@@ -98,21 +97,22 @@ fn place(call: u32, item: u32) -> Place {
     }
 }
 
-fn journal(alloc: Global, places: &[(u32, u32, u64)]) -> Result<PlainList<Mark>, AllocError> {
+fn journal(rt: &impl Abort, alloc: Global, places: &[(u32, u32, u64)]) -> PlainList<Mark> {
     let mut marks = Vec::new(alloc);
     for (call, item, stamp) in places {
-        marks.push(Mark {
+        let mark = Mark {
             place: place(*call, *item),
             stamp: *stamp,
-        })?;
+        };
+        marks.push(mark).expect(rt, "memory");
     }
-    Ok(PlainList::from_vec(marks))
+    PlainList::from_vec(marks)
 }
 
-fn table(alloc: Global, notes: &[(u32, Act, bool, u64)]) -> Result<PlainList<Entry>, AllocError> {
+fn table(rt: &impl Abort, alloc: Global, notes: &[(u32, Act, bool, u64)]) -> PlainList<Entry> {
     let mut entries = Vec::new(alloc);
     for (call, act, live, stamp) in notes {
-        entries.push(Entry {
+        let entry = Entry {
             place: place(*call, 0),
             stamp: *stamp,
             step: Step::Note {
@@ -120,47 +120,75 @@ fn table(alloc: Global, notes: &[(u32, Act, bool, u64)]) -> Result<PlainList<Ent
                 act: *act,
                 live: *live,
             },
-        })?;
+        };
+        entries.push(entry).expect(rt, "memory");
     }
-    Ok(PlainList::from_vec(entries))
+    PlainList::from_vec(entries)
 }
 
-fn answers(alloc: Global, case: &Case) -> Result<Answers, AllocError> {
+fn list<T: Copy>(rt: &impl Abort, alloc: Global, items: &[T]) -> PlainList<T> {
+    PlainList::from_vec(items.to_vec(alloc).expect(rt, "memory"))
+}
+
+fn keys(alloc: Global, count: usize) -> Result<PlainList<KeyReply>, AllocError> {
     let mut keys = Vec::new(alloc);
-    for _ in 0..case.keys {
+    for _ in 0..count {
         keys.push(KeyReply::Peer)?;
     }
+    Ok(PlainList::from_vec(keys))
+}
+
+fn contexts(alloc: Global, count: usize) -> Result<PlainList<ContextReply>, AllocError> {
     let mut contexts = Vec::new(alloc);
+    for _ in 0..count {
+        contexts.push(ContextReply::Shared)?;
+    }
+    Ok(PlainList::from_vec(contexts))
+}
+
+fn lanes(
+    rt: &impl Abort,
+    alloc: Global,
+    case: &Case,
+) -> Result<PlainList<LaneAnswers>, AllocError> {
+    let lane = LaneAnswers {
+        pool: list(rt, alloc, POOL.as_slice()),
+        replies: list(rt, alloc, case.replies),
+        batches: list(rt, alloc, case.batches),
+    };
+    let mut lanes = Vec::new(alloc);
+    lanes.push(lane)?;
+    Ok(PlainList::from_vec(lanes))
+}
+
+fn journals(
+    rt: &impl Abort,
+    alloc: Global,
+    case: &Case,
+) -> Result<PlainList<PlainList<Mark>>, AllocError> {
     let mut journals = Vec::new(alloc);
     for marks in case.journals {
-        contexts.push(ContextReply::Shared)?;
-        journals.push(journal(alloc, marks)?)?;
+        journals.push(journal(rt, alloc, marks))?;
     }
-    let mut lanes = Vec::new(alloc);
-    lanes.push(LaneAnswers {
-        pool: PlainList::from_vec(POOL.to_vec(alloc)?),
-        replies: PlainList::from_vec(case.replies.to_vec(alloc)?),
-        batches: PlainList::from_vec(case.batches.to_vec(alloc)?),
-    })?;
-    Ok(Answers {
-        keys: PlainList::from_vec(keys),
-        contexts: PlainList::from_vec(contexts),
-        lanes: PlainList::from_vec(lanes),
-        journals: PlainList::from_vec(journals),
-        notes: table(alloc, case.notes)?,
-    })
+    Ok(PlainList::from_vec(journals))
+}
+
+fn answers(rt: &impl Abort, alloc: Global, case: &Case) -> Answers {
+    Answers {
+        keys: keys(alloc, case.keys).expect(rt, "memory"),
+        contexts: contexts(alloc, case.journals.len()).expect(rt, "memory"),
+        lanes: lanes(rt, alloc, case).expect(rt, "memory"),
+        journals: journals(rt, alloc, case).expect(rt, "memory"),
+        notes: table(rt, alloc, case.notes),
+    }
 }
 
 fn expect_whole(rt: &impl Abort, alloc: Global, plan: &Plan, answers: &Answers, case: &Case) {
     let source = case.source;
     assert!(rt; is_answered(plan, answers), "{source}");
     let mut sink = sink_of(rt, alloc, 1_000, 0);
-    assert_same(
-        rt,
-        print_live(plan, answers, &mut sink),
-        Printed::Whole,
-        source,
-    );
+    let printed = print_live(plan, answers, &mut sink);
+    assert_same(rt, printed, Printed::Whole, source);
     assert_same(rt, sink.bytes(), case.text, source);
 }
 
@@ -169,26 +197,26 @@ fn expect_cut_short(rt: &impl Abort, alloc: Global, plan: &Plan, answers: &Answe
     let source = case.source;
     assert!(rt; is_answered(plan, answers), "{source}");
     let mut sink = sink_of(rt, alloc, 1_000, 2);
-    assert_same(
-        rt,
-        print_live(plan, answers, &mut sink),
-        Printed::Failed,
-        source,
-    );
+    let printed = print_live(plan, answers, &mut sink);
+    assert_same(rt, printed, Printed::Failed, source);
     assert_same(rt, sink.bytes().len(), 100, source);
-    assert!(rt; case.text.starts_with(sink.bytes()), "{source}");
+    let is_front = case.text.starts_with(sink.bytes());
+    assert_same(rt, is_front, true, source);
+}
+
+fn expect_printed(rt: &impl Abort, alloc: Global, plan: &Plan, case: &Case) {
+    let answers = answers(rt, alloc, case);
+    expect_whole(rt, alloc, plan, &answers, case);
+    expect_cut_short(rt, alloc, plan, &answers, case);
 }
 
 #[test]
-fn a_reply_is_printed_whole_or_cut_short(rt: HostRuntime) -> Result<(), Fail> {
+fn a_reply_is_printed_whole_or_cut_short(rt: HostRuntime) {
     let alloc = rt.alloc();
     for case in &CASES {
-        let Ok(plan) = read_live(alloc, case.batch) else {
-            panic!(rt; "not read");
-        };
-        let answers = answers(alloc, case)?;
-        expect_whole(&rt, alloc, &plan, &answers, case);
-        expect_cut_short(&rt, alloc, &plan, &answers, case);
+        match read_live(alloc, case.batch) {
+            Ok(plan) => expect_printed(&rt, alloc, &plan, case),
+            Err(_) => panic!(rt; "not read"),
+        }
     }
-    Ok(())
 }

@@ -9,9 +9,8 @@ use field_text::{BadBatch, ReadBatchFault, Reason};
 use hkdf_labelled::{Aead, Kdf};
 use key_schedule::{Mode, Role};
 use live_frames::{read_live, read_live_front};
-use std::alloc::{AllocError, Global};
+use std::alloc::Global;
 use std::process::Abort;
-use std::test::Fail;
 
 fn refusal_of(alloc: Global, text: &[u8]) -> Option<BadBatch> {
     match read_live(alloc, text) {
@@ -21,34 +20,31 @@ fn refusal_of(alloc: Global, text: &[u8]) -> Option<BadBatch> {
 }
 
 // The text behind the first line has the bad line and the reason that are due.
-fn expect_behind(rt: &impl Abort, alloc: Global, case: &BadCase) -> Result<(), AllocError> {
-    let mut text = Vec::from_slice(alloc, b"hpkebatch 2\n")?;
-    text.extend_from_slice(case.text)?;
+fn expect_behind(rt: &impl Abort, alloc: Global, case: &BadCase) {
+    let mut text = Vec::from_slice(alloc, b"hpkebatch 2\n").expect(rt, "memory");
+    text.extend_from_slice(case.text).expect(rt, "memory");
     let refusal = refusal_of(alloc, &text);
     expect_bad(rt, refusal, case.line, case.reason, case.what);
-    Ok(())
 }
 
 // The text of these parts has the bad line and the reason that are due.
-fn expect_long(rt: &impl Abort, alloc: Global, case: &LongCase) -> Result<(), AllocError> {
-    let text = long_text(alloc, case)?;
+fn expect_long(rt: &impl Abort, alloc: Global, case: &LongCase) {
+    let text = long_text(rt, alloc, case);
     let refusal = refusal_of(alloc, &text);
     expect_bad(rt, refusal, case.line, case.reason, case.what);
-    Ok(())
 }
 
 #[test]
-fn a_bad_text_has_its_first_bad_line_and_reason(rt: HostRuntime) -> Result<(), Fail> {
+fn a_bad_text_has_its_first_bad_line_and_reason(rt: HostRuntime) {
     let alloc = rt.alloc();
     for case in &BAD {
-        expect_behind(&rt, alloc, case)?;
+        expect_behind(&rt, alloc, case);
     }
     for case in &LONG {
-        expect_long(&rt, alloc, case)?;
+        expect_long(&rt, alloc, case);
     }
     let refusal = refusal_of(alloc, b"hpkebatch 1\nlane\nend\n");
     expect_bad(&rt, refusal, 1, Reason::Header, "version 1");
-    Ok(())
 }
 
 fn span(start: u32, len: u32) -> Span {
@@ -70,16 +66,16 @@ fn expect_calls(rt: &impl Abort, plan: &Plan, lane: usize, calls: &[CallLine]) {
     }
 }
 
-// Own, by hand: a context is called before it is added, while it is live, and after it is retired.
-#[test]
-fn a_context_is_added_called_and_retired(rt: HostRuntime) -> Result<(), Fail> {
-    let text =
-        b"hpkebatch 2\nlane\nseal +0 a0 b0b1\nadd send 32 1 1 5e base 1f - - 9\nseal +0 a0 b0b1\nretire +0\nseal +0 a0 b0b1\nend\n";
-    let Ok(plan) = read_live(rt.alloc(), text.as_slice()) else {
-        panic!(rt; "not read");
-    };
-    assert_same(&rt, plan.version, 2, "version");
-    assert_same(&rt, plan.added, 1, "contexts added");
+// The plan of a text.
+fn plan_of(rt: &impl Abort, alloc: Global, text: &[u8]) -> Plan {
+    match read_live(alloc, text) {
+        Ok(plan) => plan,
+        Err(_) => panic!(rt; "not read"),
+    }
+}
+
+// The one context that the text below adds.
+fn expect_context(rt: &impl Abort, plan: &Plan) {
     let context = ContextLine {
         kind: ContextKind::Share {
             role: Role::Sender,
@@ -94,12 +90,19 @@ fn a_context_is_added_called_and_retired(rt: HostRuntime) -> Result<(), Fail> {
         psk_id: span(5, 0),
         limit: 9,
     };
-    assert_same(
-        &rt,
-        plan.contexts.as_slice(),
-        [context].as_slice(),
-        "contexts",
-    );
+    let contexts = plan.contexts.as_slice();
+    assert_same(rt, contexts, [context].as_slice(), "contexts");
+}
+
+// Own, by hand: a context is called before it is added, while it is live, and after it is retired.
+#[test]
+fn a_context_is_added_called_and_retired(rt: HostRuntime) {
+    let text =
+        b"hpkebatch 2\nlane\nseal +0 a0 b0b1\nadd send 32 1 1 5e base 1f - - 9\nseal +0 a0 b0b1\nretire +0\nseal +0 a0 b0b1\nend\n";
+    let plan = plan_of(&rt, rt.alloc(), text.as_slice());
+    assert_same(&rt, plan.version, 2, "version");
+    assert_same(&rt, plan.added, 1, "contexts added");
+    expect_context(&rt, &plan);
     let calls = [
         CallLine::Seal {
             context: 65_536,
@@ -118,30 +121,27 @@ fn a_context_is_added_called_and_retired(rt: HostRuntime) -> Result<(), Fail> {
     ];
     assert_same(&rt, plan.lanes.as_slice().len(), 1, "how many lanes");
     expect_calls(&rt, &plan, 0, calls.as_slice());
-    Ok(())
 }
 
 // The KEM ids of the contexts, all of whose shared secrets are given.
-fn kems_of(alloc: Global, plan: &Plan) -> Result<Vec<u16>, AllocError> {
+fn kems_of(rt: &impl Abort, alloc: Global, plan: &Plan) -> Vec<u16> {
     let mut kems = Vec::new(alloc);
     for line in plan.contexts.as_slice() {
         if let ContextKind::Share { kem, .. } = line.kind {
-            kems.push(kem)?;
+            kems.push(kem).expect(rt, "memory");
         }
     }
-    Ok(kems)
+    kems
 }
 
 // Own, by hand: contexts are named in the order of the text, behind those of context lines.
 #[test]
-fn contexts_are_named_over_all_lanes(rt: HostRuntime) -> Result<(), Fail> {
+fn contexts_are_named_over_all_lanes(rt: HostRuntime) {
     let text =
         b"hpkebatch 2\nshare recv 7 1 2 - base - - - 1\nlane\nadd recv 8 1 2 - base - - - 1\nunsealall 0 - 00 - 11\nlane\nadd recv 9 1 2 - base - - - 1\nretire +65535\nexport +1 - 7\nunseal 65535 - 00\nend\n";
-    let Ok(plan) = read_live(rt.alloc(), text.as_slice()) else {
-        panic!(rt; "not read");
-    };
+    let plan = plan_of(&rt, rt.alloc(), text.as_slice());
     assert_same(&rt, plan.added, 2, "contexts added");
-    let kems = kems_of(rt.alloc(), &plan)?;
+    let kems = kems_of(&rt, rt.alloc(), &plan);
     assert_same(&rt, kems.as_slice(), [7, 8, 9].as_slice(), "KEM ids");
     let first = [
         CallLine::Add { name: 0 },
@@ -171,7 +171,6 @@ fn contexts_are_named_over_all_lanes(rt: HostRuntime) -> Result<(), Fail> {
     assert_same(&rt, plan.lanes.as_slice().len(), 2, "how many lanes");
     expect_calls(&rt, &plan, 0, first.as_slice());
     expect_calls(&rt, &plan, 1, second.as_slice());
-    Ok(())
 }
 
 // How many contexts the batch at the front of a text adds, and where it ends, or its bad line.
@@ -190,7 +189,7 @@ struct FrontCase {
 }
 
 // Own, by hand: the ends are counted in bytes.
-const FRONTS: [FrontCase; 5] = [
+static FRONTS: [FrontCase; 5] = [
     FrontCase {
         text: b"hpkebatch 2\nlane\nretire +0\nend\n",
         front: Ok((0, 31)),
@@ -228,9 +227,8 @@ const FRONTS: [FrontCase; 5] = [
 ];
 
 #[test]
-fn a_batch_ends_before_what_follows_it(rt: HostRuntime) -> Result<(), Fail> {
+fn a_batch_ends_before_what_follows_it(rt: HostRuntime) {
     for case in &FRONTS {
         assert_same(&rt, front_of(rt.alloc(), case.text), case.front, case.what);
     }
-    Ok(())
 }

@@ -15,7 +15,7 @@ const NOTHING: Span = Span { start: 0, len: 0 };
 // Each form of a reply, over the pool below.
 pub const POOL: [u8; 4] = [0xde, 0xad, 0xbe, 0xef];
 
-pub const FORMS: [Reply; 15] = [
+pub static FORMS: [Reply; 15] = [
     Reply::Sealed {
         number: 0,
         text: Span { start: 0, len: 4 },

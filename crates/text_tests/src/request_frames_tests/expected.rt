@@ -32,10 +32,11 @@ pub fn expect_cut_short(
     answers: &Answers,
     text: &[u8],
 ) {
-    assert!(rt; is_answered(plan, answers));
+    assert!(rt; is_answered(plan, answers), "answers to the plan");
     let mut sink = sink_of(rt, alloc, 2_000, 3);
     let printed = print_answers(plan, answers, &mut sink);
     assert_same(rt, printed, Printed::Failed, "printed");
     assert_same(rt, sink.bytes().len(), 200, "bytes before the failure");
-    assert!(rt; text.starts_with(sink.bytes()));
+    let is_front = text.starts_with(sink.bytes());
+    assert_same(rt, is_front, true, "the front of the text");
 }

@@ -3,7 +3,7 @@
 use crate::bad_cases::FieldCase;
 
 // All are own, from the format's table of fields.
-pub const FIELDS: [FieldCase; 10] = [
+pub static FIELDS: [FieldCase; 10] = [
     FieldCase {
         what: "HEX",
         before: b"hpkebatch 1\npeer ",
@@ -84,7 +84,7 @@ pub const PLAINTEXT: FieldCase = FieldCase {
     line: 3,
 };
 
-pub const CIPHERTEXTS: [FieldCase; 2] = [
+pub static CIPHERTEXTS: [FieldCase; 2] = [
     FieldCase {
         what: "CT of `unseal`",
         before: b"hpkebatch 1\nlane\nunseal 0 - ",

@@ -7,7 +7,7 @@ use request_frames::Reason;
 const DIGITS: &'static [u8] = b"000102030405060708090a0b0c0d0e0f101112131415161718191a1b1c1d1e1f";
 
 // All are own, made by hand from the grammar of the batch text.
-pub const LONG: [LongCase; 11] = [
+pub static LONG: [LongCase; 11] = [
     LongCase {
         what: "65 keys",
         before: b"hpkebatch 1\n",

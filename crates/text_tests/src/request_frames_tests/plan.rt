@@ -9,7 +9,6 @@ use request_frames::{
     read_batch,
 };
 use std::process::Abort;
-use std::test::Fail;
 
 // A batch with a line of each word. Own, made by hand as its plan is.
 const WHOLE: &'static [u8] = b"hpkebatch 2
@@ -45,7 +44,7 @@ const POOL: [u8; 19] = [
     0x12, 0x13, 0x14,
 ];
 
-const KEYS: [KeyLine; 6] = [
+static KEYS: [KeyLine; 6] = [
     KeyLine::Generate,
     KeyLine::Secret(Span { start: 0, len: 2 }),
     KeyLine::Peer(Span { start: 2, len: 0 }),
@@ -58,7 +57,7 @@ const EMPTY_AT_10: Span = Span { start: 10, len: 0 };
 
 const EMPTY_AT_11: Span = Span { start: 11, len: 0 };
 
-const CONTEXTS: [ContextLine; 4] = [
+static CONTEXTS: [ContextLine; 4] = [
     ContextLine {
         kind: ContextKind::Share {
             role: Role::Sender,
@@ -111,7 +110,7 @@ const CONTEXTS: [ContextLine; 4] = [
     },
 ];
 
-const ITEMS: [Item; 3] = [
+static ITEMS: [Item; 3] = [
     Item {
         aad: Span { start: 15, len: 1 },
         text: Span { start: 16, len: 1 },
@@ -126,7 +125,7 @@ const ITEMS: [Item; 3] = [
     },
 ];
 
-const FIRST_LANE: [CallLine; 2] = [
+static FIRST_LANE: [CallLine; 2] = [
     CallLine::Seal {
         context: 0,
         item: Item {
@@ -143,7 +142,7 @@ const FIRST_LANE: [CallLine; 2] = [
     },
 ];
 
-const SECOND_LANE: [CallLine; 3] = [
+static SECOND_LANE: [CallLine; 3] = [
     CallLine::UnsealAll {
         context: 2,
         first: 0,
@@ -183,18 +182,19 @@ fn expect_lanes(rt: &impl Abort, plan: &Plan) {
     };
     assert_same(rt, first.as_slice(), FIRST_LANE.as_slice(), "lane 0");
     assert_same(rt, second.as_slice(), SECOND_LANE.as_slice(), "lane 1");
-    assert!(rt; third.as_slice().is_empty(), "lane 2");
+    assert_same(rt, third.as_slice().len(), 0, "lane 2");
     assert_same(rt, plan.items.as_slice(), ITEMS.as_slice(), "items");
 }
 
 #[test]
-fn a_batch_is_read_with_its_plan(rt: HostRuntime) -> Result<(), Fail> {
+fn a_batch_is_read_with_its_plan(rt: HostRuntime) {
     one_reading();
     one_spelling();
-    let Ok(plan) = read_batch(rt.alloc(), WHOLE) else {
-        panic!(rt; "not read");
-    };
-    expect_set_up(&rt, &plan);
-    expect_lanes(&rt, &plan);
-    Ok(())
+    match read_batch(rt.alloc(), WHOLE) {
+        Ok(plan) => {
+            expect_set_up(&rt, &plan);
+            expect_lanes(&rt, &plan);
+        }
+        Err(_) => panic!(rt; "not read"),
+    }
 }

@@ -127,7 +127,7 @@ pub struct ReplyCase {
     pub text: &'static str,
 }
 
-pub const REPLIES: [ReplyCase; 7] = [
+pub static REPLIES: [ReplyCase; 7] = [
     ReplyCase {
         source: "own: an opening of three messages, of which the second is forged",
         version: 1,

@@ -1,5 +1,6 @@
 //! The refusals of a plan's calls, and the room for its replies.
 
+ghost use Rattle.std.specs.Prelude.{◌≡◌, length};
 ghost use Rattle.batch_plans.specs.Limits.{IsWithinLimits};
 
 use crate::expected::assert_same;
@@ -10,7 +11,6 @@ use request_frames::{
 };
 use std::alloc::Global;
 use std::process::Abort;
-use std::test::Fail;
 
 // A batch of one lane with the export limits of its contexts, and what is due for it: the refusal
 // of each call, the bytes of all replies, how many replies and guesses there are, and the places of
@@ -26,7 +26,7 @@ struct RoomCase {
     places: &'static [usize],
 }
 
-const ROOMS: [RoomCase; 6] = [
+static ROOMS: [RoomCase; 6] = [
     RoomCase {
         source: "RFC 9180, A.1.1.1, sequence numbers 0 and 1: two seals",
         text: "hpkebatch 1\nshare send 32 1 1 fe0e18c9f024ce43799ae393c7e8fe8fce9d218875e8227b0187c04e7d2ea1fc base 4f6465206f6e2061204772656369616e2055726e - - 2\nlane\nseal 0 436f756e742d30 4265617574792069732074727574682c20747275746820626561757479\nseal 0 436f756e742d31 4265617574792069732074727574682c20747275746820626561757479\nend\n",
@@ -104,24 +104,28 @@ const ROOMS: [RoomCase; 6] = [
 
 // Answers that give each context as shared, also one that was refused: the room goes by the plan
 // and the export limits alone.
-fn answers(alloc: Global, plan: &Plan, export_limits: &[u32]) -> Result<Answers, Fail>
+fn answers(rt: &impl Abort, alloc: Global, plan: &Plan, export_limits: &[u32]) -> Answers
     requires { IsWithinLimits plan.now }
 {
     let keys = PlainList::from_vec(Vec::new(alloc));
     let mut contexts = Vec::new(alloc);
     for _line in plan.contexts.as_slice() {
-        contexts.push(ContextReply::Shared)?;
+        contexts.push(ContextReply::Shared).expect(rt, "memory");
     }
     let contexts = PlainList::from_vec(contexts);
-    Ok(Answers::for_plan(alloc, plan, keys, contexts, export_limits)?)
+    match Answers::for_plan(alloc, plan, keys, contexts, export_limits) {
+        Ok(answers) => answers,
+        Err(_) => panic!(rt; "memory"),
+    }
 }
 
-fn places_of(alloc: Global, answers: &Answers) -> Result<Vec<usize>, Fail> {
+fn places_of(rt: &impl Abort, alloc: Global, answers: &Answers) -> Vec<usize> {
     let mut places = Vec::new(alloc);
     for journal in answers.journals.as_slice() {
-        places.push(journal.as_slice().len())?;
+        let count = journal.as_slice().len();
+        places.push(count).expect(rt, "memory");
     }
-    Ok(places)
+    places
 }
 
 // The one lane's calls have the refusals that are due.
@@ -148,35 +152,51 @@ fn expect_room(rt: &impl Abort, answers: &Answers, case: &RoomCase) {
     assert_same(rt, lane.batches.as_slice().len(), case.batches, source);
 }
 
-#[test]
-fn each_call_has_its_room_or_its_refusal(rt: HostRuntime) -> Result<(), Fail> {
-    let alloc = rt.alloc();
-    for case in &ROOMS {
-        let source = case.source;
-        let Ok(plan) = read_batch(alloc, case.text.as_bytes()) else {
-            panic!(rt; "not read: {source}");
-        };
-        let answers = answers(alloc, &plan, case.export_limits)?;
-        expect_refusals(&rt, &plan, case);
-        expect_room(&rt, &answers, case);
-        let places = places_of(alloc, &answers)?;
-        assert_same(&rt, places.as_slice(), case.places, source);
-    }
-    Ok(())
+fn expect_case(rt: &impl Abort, alloc: Global, plan: &Plan, case: &RoomCase)
+    requires { IsWithinLimits plan.now }
+{
+    let answers = answers(rt, alloc, plan, case.export_limits);
+    expect_refusals(rt, plan, case);
+    expect_room(rt, &answers, case);
+    let places = places_of(rt, alloc, &answers);
+    assert_same(rt, places.as_slice(), case.places, case.source);
 }
 
 #[test]
-fn a_lane_takes_its_replies_in_order(rt: HostRuntime) -> Result<(), Fail> {
+fn each_call_has_its_room_or_its_refusal(rt: HostRuntime) {
     let alloc = rt.alloc();
+    for case in &ROOMS {
+        let source = case.source;
+        match read_batch(alloc, case.text.as_bytes()) {
+            Ok(plan) => expect_case(&rt, alloc, &plan, case),
+            Err(_) => panic!(rt; "not read: {source}"),
+        }
+    }
+}
+
+// A lane with room for five bytes, three replies and a guess.
+fn lane(rt: &impl Abort, alloc: Global) -> LaneProgress
+    ensures pool { length result.pool ≡ 5 }
+    ensures taken { result.taken ≡ 0 }
+    ensures left { (result.left ≡ 3) × (result.batches_left ≡ 1) }
+{
     let blank = Batch {
         guess: 0,
         missed: 0,
     };
-    let mut lane = LaneProgress::new(LaneAnswers {
-        pool: PlainList::from_vec(vec![in alloc; 0; 5]?),
-        replies: PlainList::from_vec(vec![in alloc; Reply::Blank; 3]?),
-        batches: PlainList::from_vec(vec![in alloc; blank; 1]?),
-    });
+    let pool = vec![in alloc; 0; 5].expect(rt, "memory");
+    let replies = vec![in alloc; Reply::Blank; 3].expect(rt, "memory");
+    let batches = vec![in alloc; blank; 1].expect(rt, "memory");
+    LaneProgress::new(LaneAnswers {
+        pool: PlainList::from_vec(pool),
+        replies: PlainList::from_vec(replies),
+        batches: PlainList::from_vec(batches),
+    })
+}
+
+#[test]
+fn a_lane_takes_its_replies_in_order(rt: HostRuntime) {
+    let mut lane = lane(&rt, rt.alloc());
     let text = lane.take_room(2);
     lane.pool()[..2].copy_from_slice(b"ab".as_slice());
     lane.put(Reply::Opened { number: 7, text });
@@ -202,11 +222,6 @@ fn a_lane_takes_its_replies_in_order(rt: HostRuntime) -> Result<(), Fail> {
         },
     ];
     assert_same(&rt, answers.replies.as_slice(), want.as_slice(), "replies");
-    assert_same(
-        &rt,
-        answers.batches.as_slice(),
-        [guess].as_slice(),
-        "guesses",
-    );
-    Ok(())
+    let batches = answers.batches.as_slice();
+    assert_same(&rt, batches, [guess].as_slice(), "guesses");
 }
