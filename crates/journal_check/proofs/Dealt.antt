@@ -22,7 +22,8 @@ use Rattle.result_lines.specs.Journals.{is_journal, broken_journal, stamps_rise}
 use Rattle.journal_check.specs.declared.asks.Asked.{Asked}
 use Rattle.journal_check.specs.Asks.{ask_from, batch_from}
 use Rattle.journal_check.specs.Histories.{spots_from}
-use Rattle.journal_check.specs.Piles.{put_on, by_context, by_lane, by_context_stamped, joined, spots_told, lanes_from, lanes_told, lanes_asked, in_lanes, asked_on}
+use Rattle.journal_check.specs.Piles.{put_on, by_context, joined, spots_told, lanes_told, lanes_asked, in_lanes, asked_on}
+use Rattle.journal_check.proofs.PileLists.{by_lane, by_context_stamped, lanes_from}
 use Rattle.journal_check.proofs.Asking.{lane_spots_are}
 use Rattle.journal_check.proofs.Walks.{drop_next}
 

@@ -23,6 +23,7 @@ pub mod Walks
 pub mod Asking
 pub mod Alike
 pub mod Putting
+pub mod PileLists
 pub mod Dealt
 pub mod KeptPlaces
 pub mod OneHistory

@@ -217,21 +217,18 @@ pub fails_with : (b d : Bool) → (b ≡ true → d ≡ true) → d ≡ false �
 fails_with true d needs e = absurd (let clash : true ≡ false = sym (needs refl) ∙ e in cc)
 fails_with false d needs e = refl
 
--- ---- one call after another
+-- ---- one lane after another
 
-pub marks_next : (journals : List (List Mark)) (i : ℕ) (d own : List Mark) (made total : List (List Mark)) → i < length journals → own ≡ map call_mark (get_or journals i d)
-    → made ++ map (map call_mark) (drop i journals) ≡ total → (made ++ own ∷ []) ++ map (map call_mark) (drop (i + 1) journals) ≡ total
-marks_next journals i d own made total low is so_far =
-    append_assoc made (own ∷ []) (map (map call_mark) (drop (i + 1) journals))
-    ∙ ap (λ (ms : List Mark). made ++ ms ∷ map (map call_mark) (drop (i + 1) journals)) is
-    ∙ ap (λ (js : List (List Mark)). made ++ map (map call_mark) js) (sym (drop_next journals i d low))
+pub pairs_next : (plan : Plan) (standing : List (Option ContextView)) (table : ℕ) (calls served : List (List CallLine)) (i : ℕ) (d e : List CallLine) (own : List Asked) (made total : List (List Asked))
+    → i < length calls → i < length served → own ≡ pairs_by plan standing table (get_or calls i d) (get_or served i e)
+    → made ++ all_pairs_by plan standing table (drop i calls) (drop i served) ≡ total
+    → (made ++ own ∷ []) ++ all_pairs_by plan standing table (drop (i + 1) calls) (drop (i + 1) served) ≡ total
+pairs_next plan standing table calls served i d e own made total low few is so_far =
+    let later = all_pairs_by plan standing table (drop (i + 1) calls) (drop (i + 1) served) in
+    append_assoc made (own ∷ []) later
+    ∙ ap (λ (o : List Asked). made ++ o ∷ later) is
+    ∙ sym (λ j. made ++ all_pairs_by plan standing table (drop_next calls i d low j) (drop_next served i e few j))
     ∙ so_far
-
-pub low_next : (journals : List (List Mark)) (i : ℕ) (d : List Mark) (total : Bool) → i < length journals → list_all is_low (get_or journals i d) ≡ true
-    → list_all (list_all is_low) (drop i journals) ≡ total → list_all (list_all is_low) (drop (i + 1) journals) ≡ total
-low_next journals i d total low here so_far =
-    let rest = list_all (list_all is_low) (drop (i + 1) journals) in
-    sym (ap (λ (js : List (List Mark)). list_all (list_all is_low) js) (drop_next journals i d low) ∙ ap (λ b. b && rest) here) ∙ so_far
 
 pub both_hold : (one acts lives : Bool) → acts ≡ true → lives ≡ true → one ≡ ((one && acts) && lives)
 both_hold one acts lives a b = sym ((λ i. (one && a i) && b i) ∙ and_true (one && true) ∙ and_true one)

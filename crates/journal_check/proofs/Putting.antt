@@ -96,10 +96,6 @@ all_next old mid final first journals d marks lt is one rest =
     subst (PutsAll old final first) (sym (drop_next journals first d lt))
     (all_cons old mid final first (get_or journals first d) (drop (first + 1) journals) (subst (Puts old mid first) is one) rest)
 
-pub all_end : (h : List Spot) (first : ℕ) (journals : List (List Mark)) (i : ℕ) → length journals ≤ i → PutsAll h h first (drop i journals)
-all_end h first journals i le = subst (PutsAll h h first) (sym (drop_all i journals le))
-    (record { size = refl; kept = λ other s same all agree. agree; put = λ other c m same all none. absurd none })
-
 -- ---- the spots of a call
 
 pub spots_go_on : (context lane call n i : ℕ) (before total : List Spot) → i < n

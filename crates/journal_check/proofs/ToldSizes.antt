@@ -18,28 +18,6 @@ use Rattle.result_lines.proofs.Took.{told_took}
 abbrev pub Has : ℕ → ℕ → ToldView → Type 0
 Has lanes journals told = (length told.lanes ≡ lanes) × (length told.journals ≡ journals)
 
--- what was read
-pub read_as : (plan : Plan) (keys found_keys : List KeyReply) (replies found_replies : List ContextReply) (contexts found_contexts : List (Option ContextView)) (text : List ℕ) (found : ToldView)
-    → found_keys ≡ keys → found_replies ≡ replies → found_contexts ≡ contexts → Tells (λ (t : ToldView). t) (Ok found) (told_by plan found_keys found_replies found_contexts text)
-    → told_by plan keys replies contexts text ≡ Ok found
-read_as plan keys found_keys replies found_replies contexts found_contexts text found same_keys same_replies same_contexts tells =
-    sym (ap (λ (ks : List KeyReply). told_by plan ks replies contexts text) same_keys)
-    ∙ sym (ap (λ (rs : List ContextReply). told_by plan found_keys rs contexts text) same_replies)
-    ∙ sym (ap (λ (cs : List (Option ContextView)). told_by plan found_keys found_replies cs text) same_contexts)
-    ∙ tells
-
--- a line that has no form
-pub read_wrong : (plan : Plan) (keys found_keys : List KeyReply) (replies found_replies : List ContextReply) (contexts found_contexts : List (Option ContextView)) (text : List ℕ) (stop : Stop) (line : ℕ)
-    → found_keys ≡ keys → found_replies ≡ replies → found_contexts ≡ contexts → stop ≡ Wrong line → Tells (λ (t : ToldView). t) (Err stop) (told_by plan found_keys found_replies found_contexts text)
-    → told_by plan keys replies contexts text ≡ Err line
-read_wrong plan keys found_keys replies found_replies contexts found_contexts text stop line same_keys same_replies same_contexts is tells =
-    let wrong : Tells (λ (t : ToldView). t) (Err (Wrong line)) (told_by plan found_keys found_replies found_contexts text) =
-    subst (λ (s : Stop). Tells (λ (t : ToldView). t) (Err s) (told_by plan found_keys found_replies found_contexts text)) is tells in
-    sym (ap (λ (ks : List KeyReply). told_by plan ks replies contexts text) same_keys)
-    ∙ sym (ap (λ (rs : List ContextReply). told_by plan found_keys rs contexts text) same_replies)
-    ∙ sym (ap (λ (cs : List (Option ContextView)). told_by plan found_keys found_replies cs text) same_contexts)
-    ∙ wrong
-
 pub has_of : (plan : Plan) (keys : List KeyReply) (replies : List ContextReply) (contexts : List (Option ContextView)) (text : List ℕ) (found : ToldView)
     → told_by plan keys replies contexts text ≡ Ok found → Has (length plan.lanes) (length plan.contexts) found
 has_of plan keys replies contexts text found is =

@@ -1,5 +1,5 @@
 -- Lists that are walked from their front.
-use Rattle.std.proofs.Common.{◌≡◌, ◌≢◌, ℕ, suc, ◌+◌, ◌-◌, ◌<◌, ◌≤◌, ◌&&◌, ◌||◌, not, Bool, true, false, List, [], ◌∷◌, length, drop, get_or, refl, sym, ap, ◌∙◌, inl, inr, add-one, arith, length-drop}
+use Rattle.std.proofs.Common.{◌≡◌, ◌≢◌, ℕ, suc, ◌+◌, ◌-◌, ◌<◌, ◌≤◌, ◌&&◌, ◌||◌, not, Bool, true, false, List, [], ◌∷◌, ◌++◌, length, map, drop, get_or, refl, sym, ap, ◌∙◌, inl, inr, add-one, arith, append_assoc, length-drop}
 use Rattle.std.specs.Prelude.{nat_lt}
 use Rattle.std.specs.List.{list_all}
 use Rattle.std.proofs.Math.Seq.{drop-cons}
@@ -26,63 +26,28 @@ pub drop_two : {A : Type 0} (xs : List A) (i : ℕ) (d : A) → i + 1 < length x
     → drop i xs ≡ get_or xs i d ∷ get_or xs (i + 1) d ∷ drop (i + 1 + 1) xs
 drop_two {A} xs i d lt = drop_next xs i d (omega arith) ∙ ap (λ (ys : List A). get_or xs i d ∷ ys) (drop_next xs (i + 1) d lt)
 
--- ---- all pass
+-- ---- one element after another
 
--- the next place passes
-pub all_go_on : (test : Place → Bool) (marks : List Mark) (i : ℕ) (d : Mark) (total : Bool) → i < length marks → test (get_or marks i d).place ≡ true
-    → list_all test (places (drop i marks)) ≡ total → list_all test (places (drop (i + 1) marks)) ≡ total
-all_go_on test marks i d total lt passes so_far =
-    let rest = list_all test (places (drop (i + 1) marks)) in
-    sym (ap (λ b. b && rest) passes) ∙ sym (ap (λ (ms : List Mark). list_all test (places ms)) (drop_next marks i d lt)) ∙ so_far
+-- what is made of the next one
+pub map_next : {A B : Type 0} (f : A → B) (xs : List A) (i : ℕ) (d : A) (y : B) (made total : List B) → i < length xs → y ≡ f (get_or xs i d)
+    → made ++ map f (drop i xs) ≡ total → (made ++ y ∷ []) ++ map f (drop (i + 1) xs) ≡ total
+map_next {A} {B} f xs i d y made total low is so_far =
+    append_assoc made (y ∷ []) (map f (drop (i + 1) xs))
+    ∙ ap (λ (z : B). made ++ z ∷ map f (drop (i + 1) xs)) is
+    ∙ ap (λ (ys : List A). made ++ map f ys) (sym (drop_next xs i d low))
+    ∙ so_far
 
--- it doesn't
-pub all_fail : (test : Place → Bool) (marks : List Mark) (i : ℕ) (d : Mark) (total : Bool) → i < length marks → test (get_or marks i d).place ≡ false
-    → list_all test (places (drop i marks)) ≡ total → false ≡ total
-all_fail test marks i d total lt fails so_far =
-    let rest = list_all test (places (drop (i + 1) marks)) in
-    sym (ap (λ b. b && rest) fails) ∙ sym (ap (λ (ms : List Mark). list_all test (places ms)) (drop_next marks i d lt)) ∙ so_far
+module _ {A : Type 0} (test : A → Bool) (xs : List A) (i : ℕ) (d : A) (total : Bool) (low : i < length xs) (so_far : list_all test (drop i xs) ≡ total) where
+  next_is : (test (get_or xs i d) && list_all test (drop (i + 1) xs)) ≡ total
+  next_is = ap (λ (ys : List A). list_all test ys) (sym (drop_next xs i d low)) ∙ so_far
 
--- none is left
-pub all_end : (test : Place → Bool) (marks : List Mark) (i : ℕ) (total : Bool) → length marks ≤ i → list_all test (places (drop i marks)) ≡ total → true ≡ total
-all_end test marks i total le so_far = sym (ap (λ (ms : List Mark). list_all test (places ms)) (drop_all i marks le)) ∙ so_far
+  -- the next one passes a test
+  pub all_next : test (get_or xs i d) ≡ true → list_all test (drop (i + 1) xs) ≡ total
+  all_next passes = sym (ap (λ b. b && list_all test (drop (i + 1) xs)) passes) ∙ next_is
 
--- ---- the same lists
-
--- lists of other lengths
-pub same_sizes : {X : Type 0} (test : X → X → Bool) (xs ys : List X) → length xs ≢ length ys → are_same test xs ys ≡ false
-same_sizes test [] [] other = absurd (other refl)
-same_sizes test [] (y ∷ ys) other = refl
-same_sizes test (x ∷ xs) [] other = refl
-same_sizes test (x ∷ xs) (y ∷ ys) other =
-    ap (λ b. test x y && b) (same_sizes test xs ys (λ e. other (ap suc e))) ∙ and_false (test x y)
-  where
-    and_false : (b : Bool) → (b && false) ≡ false
-    and_false true = refl
-    and_false false = refl
-
-module _ {X : Type 0} (test : X → X → Bool) (xs ys : List X) where
-  both : (i : ℕ) (d e : X) → i < length xs → i < length ys
-      → are_same test (drop i xs) (drop i ys) ≡ (test (get_or xs i d) (get_or ys i e) && are_same test (drop (i + 1) xs) (drop (i + 1) ys))
-  both i d e low less =
-      ap (λ (zs : List X). are_same test zs (drop i ys)) (drop_next xs i d low)
-      ∙ ap (are_same test (get_or xs i d ∷ drop (i + 1) xs)) (drop_next ys i e less)
-
-  -- two elements that are the same
-  pub same_go_on : (i : ℕ) (d e : X) (total : Bool) → i < length xs → i < length ys → test (get_or xs i d) (get_or ys i e) ≡ true
-      → are_same test (drop i xs) (drop i ys) ≡ total → are_same test (drop (i + 1) xs) (drop (i + 1) ys) ≡ total
-  same_go_on i d e total low less one so_far =
-      sym (ap (λ b. b && are_same test (drop (i + 1) xs) (drop (i + 1) ys)) one) ∙ sym (both i d e low less) ∙ so_far
-
-  -- two that aren't
-  pub same_fail : (i : ℕ) (d e : X) (total : Bool) → i < length xs → i < length ys → test (get_or xs i d) (get_or ys i e) ≡ false
-      → are_same test (drop i xs) (drop i ys) ≡ total → false ≡ total
-  same_fail i d e total low less other so_far =
-      sym (ap (λ b. b && are_same test (drop (i + 1) xs) (drop (i + 1) ys)) other) ∙ sym (both i d e low less) ∙ so_far
-
-  -- none is left
-  pub same_end : (i : ℕ) (total : Bool) → length xs ≤ i → length ys ≤ i → are_same test (drop i xs) (drop i ys) ≡ total → true ≡ total
-  same_end i total le most so_far =
-      sym (ap (λ (zs : List X). are_same test zs (drop i ys)) (drop_all i xs le) ∙ ap (are_same test []) (drop_all i ys most)) ∙ so_far
+  -- or it doesn't
+  pub all_fail : test (get_or xs i d) ≡ false → false ≡ total
+  all_fail fails = sym (ap (λ b. b && list_all test (drop (i + 1) xs)) fails) ∙ next_is
 
 -- ---- places that follow one another
 
@@ -138,43 +103,7 @@ module _ (batch : Batch) (ps : List Place) where
             ∙ sym (ap (is_unbroken batch) (drop_last ps i d last) ∙ ap not stays) ∙ so_far)
       ]
 
-  pub unbroken_end : (i : ℕ) (total : Bool) → length ps ≤ i → is_unbroken batch (drop i ps) ≡ total → true ≡ total
-  unbroken_end i total le so_far = sym (ap (is_unbroken batch) (drop_all i ps le)) ∙ so_far
-
 -- ---- stamps
-
--- so far they rise, where the mark before this number is given
-two_stamps : (marks : List Mark) (i : ℕ) (d : Mark) → i + 1 < length marks
-    → stamps_rise (drop i marks) ≡ (nat_lt (get_or marks i d).stamp (get_or marks (i + 1) d).stamp && stamps_rise (drop (i + 1) marks))
-two_stamps marks i d lt =
-    let m = get_or marks i d in
-    let k = get_or marks (i + 1) d in
-    ap stamps_rise (drop_two marks i d lt)
-    ∙ ap (λ (rest : List Mark). nat_lt m.stamp k.stamp && stamps_rise rest) (sym (drop_next marks (i + 1) d lt))
-
-pub stamps_go_on : (marks : List Mark) (i : ℕ) (d : Mark) (total : Bool) → 1 ≤ i → i < length marks → (get_or marks (i - 1) d).stamp < (get_or marks i d).stamp
-    → stamps_rise (drop (i - 1) marks) ≡ total → stamps_rise (drop (i + 1 - 1) marks) ≡ total
-stamps_go_on marks i d total some lt rises so_far =
-    let again : i - 1 + 1 ≡ i = omega arith in
-    let next : i + 1 - 1 ≡ i = omega arith in
-    let within : i - 1 + 1 < length marks = omega arith in
-    let m = get_or marks (i - 1) d in
-    let both = two_stamps marks (i - 1) d within in
-    let here : nat_lt m.stamp (get_or marks (i - 1 + 1) d).stamp ≡ true =
-    ap (λ n. nat_lt m.stamp (get_or marks n d).stamp) again ∙ lt-ltb m.stamp (get_or marks i d).stamp rises in
-    ap (λ n. stamps_rise (drop n marks)) (next ∙ sym again)
-    ∙ sym (both ∙ ap (λ b. b && stamps_rise (drop (i - 1 + 1) marks)) here) ∙ so_far
-
-pub stamps_fail : (marks : List Mark) (i : ℕ) (d : Mark) (total : Bool) → 1 ≤ i → i < length marks → (get_or marks i d).stamp ≤ (get_or marks (i - 1) d).stamp
-    → stamps_rise (drop (i - 1) marks) ≡ total → false ≡ total
-stamps_fail marks i d total some lt falls so_far =
-    let again : i - 1 + 1 ≡ i = omega arith in
-    let within : i - 1 + 1 < length marks = omega arith in
-    let m = get_or marks (i - 1) d in
-    let both = two_stamps marks (i - 1) d within in
-    let here : nat_lt m.stamp (get_or marks (i - 1 + 1) d).stamp ≡ false =
-    ap (λ n. nat_lt m.stamp (get_or marks n d).stamp) again ∙ le-ltb m.stamp (get_or marks i d).stamp falls in
-    sym (both ∙ ap (λ b. b && stamps_rise (drop (i - 1 + 1) marks)) here) ∙ so_far
 
 one_rises : (marks : List Mark) → length marks ≤ 1 → stamps_rise marks ≡ true
 one_rises [] few = refl

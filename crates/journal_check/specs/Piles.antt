@@ -18,18 +18,6 @@ abbrev pub by_context : List (List Place) → List Spot → List (List Place)
 by_context piles [] = piles
 by_context piles (s ∷ ss) = by_context (put_on piles s.context s.place) ss
 
--- each spot goes onto the pile of its lane
-abbrev pub by_lane : List (List Spot) → List Spot → List (List Spot)
-by_lane piles [] = piles
-by_lane piles (s ∷ ss) = by_lane (put_on piles s.place.lane s) ss
-
--- the place of each spot of a history goes onto the pile of its context, with its stamp; the first
--- has this one
-abbrev pub by_context_stamped : List (List Mark) → ℕ → List Spot → List (List Mark)
-by_context_stamped piles stamp [] = piles
-by_context_stamped piles stamp (s ∷ ss) =
-    by_context_stamped (put_on piles s.context (mark s.place stamp)) (stamp + 1) ss
-
 -- the spots of several lists, one list after another
 abbrev pub joined : List (List Spot) → List Spot
 joined lists = flat_map (λ list. list) lists
@@ -38,11 +26,6 @@ joined lists = flat_map (λ list. list) lists
 abbrev pub spots_told : ℕ → List (List Mark) → List Spot
 spots_told context [] = []
 spots_told context (marks ∷ more) = spots context (places marks) ++ spots_told (context + 1) more
-
--- those that lanes ask for, from this lane on
-abbrev pub lanes_from : ℕ → List (List Asked) → List (List Spot)
-lanes_from lane [] = []
-lanes_from lane (calls ∷ more) = spots_from lane 0 calls ∷ lanes_from (lane + 1) more
 
 -- the spots of each of so many lanes in a history
 abbrev pub lanes_told : ℕ → List Spot → List (List Spot)

@@ -6,6 +6,8 @@ use Rattle.hpke_context.specs.Contexts.{ContextView}
 use Rattle.context_books.specs.Batches.{place}
 use Rattle.batch_plans.specs.declared.plan.Plan.{Plan}
 use Rattle.batch_plans.specs.declared.plan.CallLine.{CallLine}
+use Rattle.batch_plans.specs.declared.replies.KeyReply.{KeyReply}
+use Rattle.batch_plans.specs.declared.replies.ContextReply.{ContextReply}
 use Rattle.batch_plans.specs.declared.plan.CallLine.TheVariants.{Add, Retire}
 use Rattle.batch_plans.specs.Names.{line_count}
 use Rattle.batch_plans.specs.ReplyText.{all_lines, numbered, has_stamps}
@@ -18,10 +20,12 @@ use Rattle.result_lines.specs.declared.verdicts.Verdict.TheVariants as verdicts
 use Rattle.result_lines.specs.Journals.{broken_journal, is_one_history}
 use Rattle.result_lines.specs.LiveVerdicts.{called, live_told}
 use Rattle.result_lines.specs.Replies.{reply_lines}
-use Rattle.result_lines.specs.Told.{ToldView}
+use Rattle.result_lines.specs.Tables.{table_told}
+use Rattle.result_lines.specs.Told.{ToldView, told_by}
+use Rattle.result_lines.specs.ToldLive.{told_live_by}
 use Rattle.journal_check.specs.declared.tables.Table.{Table}
 use Rattle.journal_check.specs.Tables.{written, live_along}
-use Rattle.result_lines.specs.Computed.{by_stamps, verdict_on, is_table, by_table, live_verdict_on}
+use Rattle.result_lines.specs.Computed.{by_stamps, by_form, verdict_on, is_table, by_table, live_by_form, live_verdict_on}
 
 -- the plan's calls are those of the table as they were served, and its notes say what the calls do
 pub record IsServedBy (plan : Plan) (contexts : List (Option ContextView)) (table : Table) : Type 0 where
@@ -106,3 +110,17 @@ verdict_by plan contexts None told = verdict_on plan contexts told
 verdict_by plan contexts (Some table) told =
     live_verdict_on
     (live_told (written plan table.calls.now) table.adds.now contexts table.notes.now told) told
+
+-- the verdict on a text, where these are the replies to the key lines and to the contexts
+abbrev pub verdict_over : Plan → List KeyReply → List ContextReply → List (Option ContextView)
+    → List ℕ → Verdict
+verdict_over plan keys replies standing text =
+    by_form plan standing (told_by plan keys replies standing text)
+
+-- as a result of a plan whose lanes add and retire contexts
+abbrev pub live_verdict_over : Plan → List KeyReply → List ContextReply → List (Option ContextView)
+    → List ℕ → Verdict
+live_verdict_over plan keys replies standing text =
+    let notes = table_told plan standing text in
+    live_by_form plan replies standing notes
+    (told_live_by plan keys replies standing notes text)

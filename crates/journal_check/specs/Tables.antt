@@ -21,14 +21,6 @@ abbrev pub live_along : Plan → List (Option ContextView) → List (List CallLi
 live_along plan standing calls journals notes =
     live_run_along (written plan calls) [] standing journals [] notes
 
-abbrev pub is_standing : Option ContextView → Bool
-is_standing None = false
-is_standing (Some context) = true
-
-abbrev pub is_noting : Option Noting → Bool
-is_noting None = false
-is_noting (Some n) = true
-
 -- ---- each call as two
 
 -- of each call of a lane what its note asks, and then what it asks as it was served

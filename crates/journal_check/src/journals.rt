@@ -25,6 +25,13 @@ use call_places::{Mark, Place};
 use hpke_context::Context;
 use std::alloc::{AllocError, Global};
 
+/// The places of a journal, and those that are asked for on its context, both lane by lane.
+#[derive(Clone, Copy)]
+pub(crate) struct ByLane<'a> {
+    pub(crate) told: &'a [Place],
+    pub(crate) asked: &'a [Place],
+}
+
 // Whether each place is of one of so many lanes.
 fn are_of_lanes(marks: &[Mark], lanes: usize) -> bool
     ensures { result ≡ list_all (λ p. nat_lt p.lane lanes) (places_in marks.now) }
@@ -39,13 +46,13 @@ fn are_of_lanes(marks: &[Mark], lanes: usize) -> bool
 
 // Whether no place is of a lane that isn't there, and each lane's places are those that it asks for
 // on the context, in order: lane by lane, the journal's places are those that are asked for.
-fn has_lanes(marks: &[Mark], lanes: usize, told: &[Place], asked: &[Place]) -> bool
-    requires { told.now ≡ in_lanes lanes (places_in marks.now) }
+fn has_lanes(marks: &[Mark], lanes: usize, by_lane: ByLane) -> bool
+    requires { by_lane.told.now ≡ in_lanes lanes (places_in marks.now) }
     ensures { (batch : Batch) (context : ℕ) → length batch ≡ lanes
-        → asked.now ≡ asked_on batch context
+        → by_lane.entry.asked.now ≡ asked_on batch context
         → result ≡ has_lanes_of batch context (places_in marks.now) }
 {
-    are_of_lanes(marks, lanes) && are_places(told, asked)
+    are_of_lanes(marks, lanes) && are_places(by_lane.told, by_lane.asked)
 }
 
 // Whether a place is that of the next item.
@@ -80,15 +87,14 @@ fn is_legal(
     alloc: Global,
     asks: &[PlainList<Asked>],
     marks: &[Mark],
-    told: &[Place],
-    asked: &[Place],
+    by_lane: ByLane,
 ) -> Result<bool, AllocError>
-    requires { told.now ≡ in_lanes (length asks.now) (places_in marks.now) }
+    requires { by_lane.told.now ≡ in_lanes (length asks.now) (places_in marks.now) }
     ensures { IfOk result (λ good. (context : ℕ)
-        → asked.now ≡ asked_on (batch_from asks.now) context
+        → by_lane.entry.asked.now ≡ asked_on (batch_from asks.now) context
         → good ≡ is_legal_of (batch_from asks.now) context (places_in marks.now)) }
 {
-    if !has_lanes(marks, asks.len(), told, asked) {
+    if !has_lanes(marks, asks.len(), by_lane) {
         return Ok(false);
     }
     let places = places_of(alloc, marks)?;
@@ -113,15 +119,14 @@ pub(crate) fn is_journal(
     asks: &[PlainList<Asked>],
     stamps: bool,
     marks: &[Mark],
-    told: &[Place],
-    asked: &[Place],
+    by_lane: ByLane,
 ) -> Result<bool, AllocError>
-    requires { told.now ≡ in_lanes (length asks.now) (places_in marks.now) }
+    requires { by_lane.told.now ≡ in_lanes (length asks.now) (places_in marks.now) }
     ensures { IfOk result (λ good. (context : ℕ)
-        → asked.now ≡ asked_on (batch_from asks.now) context
+        → by_lane.entry.asked.now ≡ asked_on (batch_from asks.now) context
         → good ≡ is_journal_of stamps (batch_from asks.now) context marks.now) }
 {
-    let legal = is_legal(alloc, asks, marks, told, asked)?;
+    let legal = is_legal(alloc, asks, marks, by_lane)?;
     Ok(legal && (!stamps || stamps_rise(marks)))
 }
 
@@ -147,7 +152,16 @@ fn first_broken(
     'journals: for (number, marks) in journals.iter().enumerate() {
         let places = told[number].as_slice();
         let due = asked[number].as_slice();
-        let legal = is_journal(alloc, asks, stamps, marks.as_slice(), places, due)?;
+        let legal = is_journal(
+            alloc,
+            asks,
+            stamps,
+            marks.as_slice(),
+            ByLane {
+                told: places,
+                asked: due,
+            },
+        )?;
         if !legal {
             return Ok(Some(number as u32));
         }

@@ -8,13 +8,15 @@ ghost use Rattle.context_books.specs.Live.{looked_up_plan};
 ghost use Rattle.context_books.specs.LiveChecks.{tells_act};
 ghost use Rattle.result_lines.specs.declared.verdicts.Verdict.{Verdict};
 ghost use Rattle.result_lines.specs.LiveVerdicts.{live_told};
+ghost use Rattle.result_lines.specs.ToldLive.{told_live_by};
+ghost use Rattle.journal_check.specs.Served.{live_verdict_over};
 ghost use Rattle.journal_check.specs.Verdicts.{IsLiveVerdict};
-ghost use Rattle.result_lines.specs.Computed.{live_verdict_on as verdict_of};
+ghost use Rattle.result_lines.specs.Computed.{live_verdict_on as verdict_of, live_by_form};
 
-use crate::checking::verdict_on;
+use crate::checking::Judge;
 use crate::tables::Table;
 use aes_gcm::MayCheck;
-use batch_plans::{ContextReply, LaneLines, Plan};
+use batch_plans::{LaneLines, Plan};
 use call_places::Entry;
 use context_table::set_up;
 use hpke_context::Context;
@@ -24,36 +26,111 @@ use std::alloc::{AllocError, Global};
 use std::mem;
 use std::thread::Threads;
 
-// The verdict on what a result tells, where these are the lanes as they were served. They take the
-// place of the plan's.
-fn verdict_as_served(
+impl Judge<'_> {
+    // The verdict on what a result tells, where these are the lanes as they were served. They take the
+    // place of the plan's.
+    fn verdict_as_served(
+        &self,
+        plan: &mut Plan,
+        contexts: &mut [Option<Context>],
+        lanes: LaneLines,
+        notes: &[Entry],
+        told: &Told,
+    ) -> Result<Verdict, AllocError>
+        requires within { IsWithinLimits plan.old }
+        requires served { lanes ≡ (looked_up_plan plan.old notes.now).lanes }
+        requires lanes_size { length told.now.lanes ≡ length plan.old.lanes }
+        requires journals_size { length told.now.journals ≡ length plan.old.contexts }
+        requires contexts_size { length contexts.old ≡ length plan.old.contexts }
+        requires acts { list_all (tells_act plan.old contexts.old) notes.now ≡ true }
+        ensures { IfOk result (λ verdict. verdict ≡ verdict_of
+            (live_told plan.old self.now.replies.now contexts.old notes.now told.now) told.now) }
+    {
+        let calls = mem::replace(&mut plan.lanes, lanes);
+        let table = Table {
+            calls: calls.as_slice(),
+            adds: self.replies,
+            notes,
+        };
+        self.verdict_on(plan, contexts, Some(table), told)
+    }
+
+    // The verdict on the text, where these are the notes of its table.
+    fn verdict_by_notes(
+        &self,
+        plan: &mut Plan,
+        contexts: &mut [Option<Context>],
+        notes: &[Entry],
+    ) -> Result<Verdict, AllocError>
+        requires within { IsWithinLimits plan.old }
+        requires size { length self.now.text.now ≤ most_input }
+        requires contexts_size { length contexts.old ≡ length plan.old.contexts }
+        requires acts { list_all (tells_act plan.old contexts.old) notes.now ≡ true }
+        ensures { IfOk result (λ verdict. verdict
+            ≡ live_by_form plan.old self.now.replies.now contexts.old notes.now
+            (told_live_by plan.old self.now.keys.now self.now.replies.now contexts.old notes.now
+            self.now.text.now)) }
+    {
+        let lanes = looked_up_lanes(self.alloc, plan, notes)?;
+        let served = lanes.as_slice();
+        match read_live_result(
+            self.alloc,
+            plan,
+            self.keys,
+            self.replies,
+            contexts,
+            served,
+            notes,
+            self.text,
+        ) {
+            Ok(told) => self.verdict_as_served(plan, contexts, lanes, notes, &told),
+            Err(Stop::Wrong(line)) => Ok(Verdict::Form { line }),
+            Err(Stop::OutOfMemory) => Err(AllocError),
+        }
+    }
+
+    // The verdict on the text, as a result of a plan whose lanes add and retire contexts. The table is
+    // read first, since the lines that a call has depend on it.
+    fn live_verdict(
+        &self,
+        plan: &mut Plan,
+        contexts: &mut [Option<Context>],
+    ) -> Result<Verdict, AllocError>
+        requires within { IsWithinLimits plan.old }
+        requires size { length self.now.text.now ≤ most_input }
+        requires contexts_size { length contexts.old ≡ length plan.old.contexts }
+        ensures { IfOk result (λ verdict. verdict ≡ live_verdict_over plan.old self.now.keys.now
+            self.now.replies.now contexts.old self.now.text.now) }
+    {
+        let table = read_table(self.alloc, plan, contexts, self.text)?;
+        self.verdict_by_notes(plan, contexts, table.as_slice())
+    }
+}
+
+// Checks a text, over a plan whose lanes become those of the calls as they were served.
+fn check_over<M: Multiplier>(
     permission: MayCheck,
     alloc: Global,
-    mut plan: Plan,
-    lanes: LaneLines,
-    contexts: &mut [Option<Context>],
-    told: &Told,
-    adds: &[ContextReply],
-    notes: &[Entry],
+    mult: &M,
+    plan: &mut Plan,
+    text: &[u8],
 ) -> Result<Verdict, AllocError>
-    requires within { IsWithinLimits plan }
-    requires served { lanes ≡ (looked_up_plan plan notes.now).lanes }
-    requires lanes_size { length told.now.lanes ≡ length plan.lanes }
-    requires journals_size { length told.now.journals ≡ length plan.contexts }
-    requires contexts_size { length contexts.old ≡ length plan.contexts }
-    requires acts { list_all (tells_act plan contexts.old) notes.now ≡ true }
-    ensures { IfOk result (λ verdict. verdict
-        ≡ verdict_of (live_told plan adds.now contexts.old notes.now told.now) told.now) }
+    requires within { IsWithinLimits plan.old }
+    requires size { length text.now ≤ most_input }
+    ensures { IfOk result (λ verdict. IsLiveVerdict plan.old text.now verdict) }
 {
-    let calls = mem::replace(&mut plan.lanes, lanes);
-    let table = Table {
-        calls: calls.as_slice(),
-        adds,
-        notes,
+    let setup = set_up(alloc, plan, mult)?;
+    let mut contexts = setup.standing.into_vec();
+    let keys = setup.keys.as_slice();
+    let replies = setup.contexts.as_slice();
+    let judge = Judge {
+        permission,
+        alloc,
+        keys,
+        replies,
+        text,
     };
-    let verdict = verdict_on(permission, alloc, &plan, contexts, Some(table), told);
-    drop(plan);
-    verdict
+    judge.live_verdict(plan, &mut contexts)
 }
 
 /// Checks whether a text is one that a plan may be answered with whose lanes add and retire contexts.
@@ -74,28 +151,10 @@ pub fn check_live_result_by<M: Multiplier>(
     ensures legal { IfOk result (λ verdict.
         (verdict ≡ Verdict.Legal) ↔ IsLiveReply plan text.now) }
 {
-    let setup = set_up(alloc, &plan, mult)?;
-    let mut contexts = setup.standing.into_vec();
-    let keys = setup.keys.as_slice();
-    let adds = setup.contexts.as_slice();
-    let table = read_table(alloc, &plan, &contexts, text)?;
-    let notes = table.as_slice();
-    let lanes = looked_up_lanes(alloc, &plan, notes)?;
-    let served = lanes.as_slice();
-    match read_live_result(alloc, &plan, keys, adds, &contexts, served, notes, text) {
-        Ok(told) => verdict_as_served(
-            permission,
-            alloc,
-            plan,
-            lanes,
-            &mut contexts,
-            &told,
-            adds,
-            notes,
-        ),
-        Err(Stop::Wrong(line)) => Ok(Verdict::Form { line }),
-        Err(Stop::OutOfMemory) => Err(AllocError),
-    }
+    let mut plan = plan;
+    let verdict = check_over(permission, alloc, mult, &mut plan, text);
+    drop(plan);
+    verdict
 }
 
 /// Checks whether a text is one that a plan may be answered with whose lanes add and retire contexts.

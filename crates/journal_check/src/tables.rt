@@ -9,13 +9,12 @@ ghost use Rattle.std.specs.Prelude.{ℕ, ◌≡◌, ◌≤◌, ◌<◌, ◌+◌,
 ghost use Rattle.std.specs.List.{list_all};
 ghost use Rattle.batch_plans.specs.Limits.{IsWithinLimits, most_contexts};
 ghost use Rattle.batch_plans.specs.Names.{line_count};
-ghost use Rattle.context_books.specs.Live.{noting};
+ghost use Rattle.context_books.specs.Live.{noting as noting_of};
 ghost use Rattle.context_books.specs.LiveChecks.{note_ask, note_mark, call_mark};
 ghost use Rattle.context_books.specs.LiveChecks.{is_live_history as is_live_history_of};
-ghost use Rattle.context_books.specs.Standing.{standing_at};
 ghost use Rattle.result_lines.specs.Journals.{is_journal as is_journal_of};
 ghost use Rattle.journal_check.specs.Asks.{size_of as size_of_ask, AreFew, batch_from};
-ghost use Rattle.journal_check.specs.Tables.{is_standing, is_noting, pairs_by, all_pairs_by};
+ghost use Rattle.journal_check.specs.Tables.{pairs_by, all_pairs_by};
 ghost use Rattle.journal_check.specs.Tables.{lane_lengths, is_low, is_low_note, are_low, with_marks};
 ghost use Rattle.journal_check.specs.Served.{IsServedBy, table_along};
 ghost use Rattle.result_lines.specs.Computed.{is_table as is_table_of};
@@ -23,11 +22,12 @@ ghost use Rattle.result_lines.specs.Computed.{is_table as is_table_of};
 use crate::asks::{Asked, size_of};
 use crate::dealing::{places_asked, places_told};
 use crate::histories::is_history_by;
-use crate::journals::is_journal;
+use crate::journals::{ByLane, is_journal};
 use crate::lives::tell_lives;
-use batch_plans::{CallLine, ContextReply, FIRST_NAME, PlainList, Plan};
+use batch_plans::{CallLine, ContextReply, PlainList, Plan};
 use call_places::{Entry, Mark, Place};
 use hpke_context::Context;
+use result_lines::noting;
 use std::alloc::{AllocError, Global};
 
 /// The notes of a result whose lanes add and retire contexts, and what they are judged by: the calls of
@@ -44,81 +44,76 @@ const MOST_CALLS: u32 = 65_536;
 
 // ---- each call as two
 
-fn stands(contexts: &[Option<Context>], number: usize) -> bool
-    ensures { result ≡ is_standing (standing_at contexts.now number) }
-{
-    match contexts.get(number) {
-        Some(slot) => slot.is_some(),
-        None => false,
-    }
-}
-
-// Whether a call has a note: it looks up or retires a name that a line adds, or adds a context that
-// stands.
-fn is_noted(plan: &Plan, contexts: &[Option<Context>], call: &CallLine) -> bool
-    requires few { length plan.now.contexts ≤ most_contexts }
-    requires added { plan.now.added ≤ length plan.now.contexts }
-    ensures { result ≡ is_noting (noting plan.now contexts.now call.now) }
-{
-    let added = plan.added;
-    match *call {
-        CallLine::Seal { context, .. }
-        | CallLine::Unseal { context, .. }
-        | CallLine::UnsealAll { context, .. }
-        | CallLine::Export { context, .. } => {
-            context >= FIRST_NAME && context - FIRST_NAME < added
-        }
-        CallLine::Add { name } => {
-            let lines = plan.contexts.as_slice().len() - added as usize;
-            stands(contexts, lines + name as usize)
-        }
-        CallLine::Retire { name } => name < added,
-    }
-}
-
-// What the note of a call asks, on this context.
-fn note_size(plan: &Plan, contexts: &[Option<Context>], table: u32, call: &CallLine) -> Asked
-    requires few { length plan.now.contexts ≤ most_contexts }
-    requires added { plan.now.added ≤ length plan.now.contexts }
-    ensures { result ≡ size_of_ask (note_ask table (noting plan.now contexts.now call.now)) }
-{
-    if is_noted(plan, contexts, call) {
-        Asked {
-            context: table,
-            count: 1,
-        }
-    } else {
-        Asked {
-            context: 0,
-            count: 0,
-        }
-    }
-}
-
-// Of each call of a lane what its note asks, and then what it asks as it was served.
-fn pair_sizes(
-    alloc: Global,
-    plan: &Plan,
-    contexts: &[Option<Context>],
+// What the notes of calls are told by: the plan, the contexts that stand, and the context behind all
+// others that the notes are on.
+#[derive(Clone, Copy)]
+struct Notes<'a> {
+    plan: &'a Plan,
+    contexts: &'a [Option<Context>],
     table: u32,
-    calls: &[CallLine],
-    served: &[CallLine],
-) -> Result<PlainList<Asked>, AllocError>
-    requires few { length plan.now.contexts ≤ most_contexts }
-    requires added { plan.now.added ≤ length plan.now.contexts }
-    requires size { length served.now ≡ length calls.now }
-    ensures { IfOk result (λ sizes.
-        sizes ≡ pairs_by plan.now contexts.now table calls.now served.now) }
-{
-    let mut sizes = Vec::new(alloc);
-    'calls: for number in 0..calls.len() {
-        sizes.push(note_size(plan, contexts, table, &calls[number]))?;
-        sizes.push(size_of(contexts, &served[number]))?;
-    }
-    Ok(PlainList::from_vec(sizes))
 }
 
-// The same of all lanes, whose calls as they were served are those of the plan.
+impl Notes<'_> {
+    // What the note of a call asks, where it has one.
+    fn size(&self, call: &CallLine) -> Asked
+        requires { IsWithinLimits self.now.plan.now }
+        ensures { result ≡ size_of_ask (note_ask self.now.table
+            (noting_of self.now.plan.now self.now.contexts.now call.now)) }
+    {
+        match noting(self.plan, self.contexts, call) {
+            Some(_) => Asked {
+                context: self.table,
+                count: 1,
+            },
+            None => Asked {
+                context: 0,
+                count: 0,
+            },
+        }
+    }
+
+    // Of each call of a lane what its note asks, and then what it asks as it was served.
+    fn pair_sizes(
+        &self,
+        alloc: Global,
+        calls: &[CallLine],
+        served: &[CallLine],
+    ) -> Result<PlainList<Asked>, AllocError>
+        requires within { IsWithinLimits self.now.plan.now }
+        requires size { length served.now ≡ length calls.now }
+        ensures { IfOk result (λ sizes. sizes ≡ pairs_by self.now.plan.now self.now.contexts.now
+            self.now.table calls.now served.now) }
+    {
+        let mut sizes = Vec::new(alloc);
+        'calls: for number in 0..calls.len() {
+            sizes.push(self.size(&calls[number]))?;
+            sizes.push(size_of(self.contexts, &served[number]))?;
+        }
+        Ok(PlainList::from_vec(sizes))
+    }
+
+    // The same of all lanes, whose calls as they were served are those of the plan.
+    fn all_sizes(
+        &self,
+        alloc: Global,
+        calls: &[PlainList<CallLine>],
+    ) -> Result<Vec<PlainList<Asked>>, AllocError>
+        requires within { IsWithinLimits self.now.plan.now }
+        requires sizes { lane_lengths calls.now ≡ lane_lengths self.now.plan.now.lanes }
+        ensures { IfOk result (λ asks. asks.items ≡ all_pairs_by self.now.plan.now
+            self.now.contexts.now self.now.table calls.now self.now.plan.now.lanes) }
+    {
+        let served = self.plan.lanes.as_slice();
+        let mut asks = Vec::new(alloc);
+        'lanes: for lane in 0..calls.len() {
+            let own = self.pair_sizes(alloc, calls[lane].as_slice(), served[lane].as_slice())?;
+            asks.push(own)?;
+        }
+        Ok(asks)
+    }
+}
+
+// What the notes of all calls ask, and the calls as they were served.
 fn asks_with_table(
     alloc: Global,
     plan: &Plan,
@@ -131,20 +126,12 @@ fn asks_with_table(
     ensures { IfOk result (λ asks.
         asks.items ≡ all_pairs_by plan.now contexts.now table calls.now plan.now.lanes) }
 {
-    let served = plan.lanes.as_slice();
-    let mut asks = Vec::new(alloc);
-    'lanes: for lane in 0..calls.len() {
-        let own = pair_sizes(
-            alloc,
-            plan,
-            contexts,
-            table,
-            calls[lane].as_slice(),
-            served[lane].as_slice(),
-        )?;
-        asks.push(own)?;
-    }
-    Ok(asks)
+    let notes = Notes {
+        plan,
+        contexts,
+        table,
+    };
+    notes.all_sizes(alloc, calls)
 }
 
 // ---- the places of the calls that are two each
@@ -264,14 +251,11 @@ fn is_one_journal(
     let asked = places_asked(alloc, asks, context + 1)?;
     let told = places_told(alloc, asks.len(), &journals)?;
     let due = asked[context].as_slice();
-    is_journal(
-        alloc,
-        asks,
-        true,
-        journals[0].as_slice(),
-        told[0].as_slice(),
-        due,
-    )
+    let by_lane = ByLane {
+        told: told[0].as_slice(),
+        asked: due,
+    };
+    is_journal(alloc, asks, true, journals[0].as_slice(), by_lane)
 }
 
 /// Whether a table is legal, over the plan whose calls are those as they were served: it has the notes

@@ -103,7 +103,13 @@ fn read_live_lines(
         (told_live_by plan.now set_up.now.keys.now set_up.now.replies.now set_up.now.contexts.now
         served.now.notes.now text) }
 {
-    read_setup(told, alloc, 2, set_up.keys, line_replies(plan, set_up.replies))?;
+    read_setup(
+        told,
+        alloc,
+        2,
+        set_up.keys,
+        line_replies(plan, set_up.replies),
+    )?;
     read_lanes(told, alloc, set_up.contexts, served.lanes)?;
     read_all_journals(told, alloc, plan)?;
     read_table_lines(told, alloc, served.notes)?;

@@ -2,7 +2,7 @@ use Rattle.std.proofs.Common.{◌+◌, ◌++◌, ◌∷◌, [], List, length, dr
 use Rattle.std.proofs.lemmas.List.{get_or_default}
 use Rattle.journal_check.specs.declared.asks.Asked.{Asked}
 use Rattle.journal_check.specs.Histories.{spots_from}
-use Rattle.journal_check.specs.Piles.{lanes_from}
+use Rattle.journal_check.proofs.PileLists.{lanes_from}
 use Rattle.journal_check.proofs.Walks.{drop_next}
 use Rattle.journal_check.proofs.Dealt.{lanes_end}
 use Rattle.journal_check.proofs.dealing.lanes_asked.Goals as goal

@@ -1,5 +1,5 @@
 use Rattle.std.proofs.Common.{◌≡◌, ◌++◌, drop}
-use Rattle.journal_check.specs.Piles.{lanes_from}
+use Rattle.journal_check.proofs.PileLists.{lanes_from}
 use Rattle.journal_check.proofs.dealing.lanes_asked.Given as goal
 
 abbrev pub invariant-lanes : goal.invariant-lanes

@@ -1,6 +1,6 @@
 use Rattle.std.proofs.Common.{sym, ap, ◌∙◌}
 use Rattle.std.proofs.lemmas.List.{drop_all}
-use Rattle.journal_check.specs.Piles.{by_lane}
+use Rattle.journal_check.proofs.PileLists.{by_lane}
 use Rattle.journal_check.proofs.Dealt.{lanes_empty}
 use Rattle.journal_check.proofs.dealing.lanes_in.Goals as goal
 

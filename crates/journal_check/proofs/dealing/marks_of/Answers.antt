@@ -1,6 +1,6 @@
 use Rattle.std.proofs.Common.{sym, ap, ◌∙◌}
 use Rattle.std.proofs.lemmas.List.{drop_all}
-use Rattle.journal_check.specs.Piles.{by_context_stamped}
+use Rattle.journal_check.proofs.PileLists.{by_context_stamped}
 use Rattle.journal_check.proofs.Dealt.{stamped_empty}
 use Rattle.journal_check.proofs.dealing.marks_of.Goals as goal
 

@@ -1,6 +1,6 @@
 use Rattle.std.proofs.Common.{◌≡◌, [], drop}
 use Rattle.std.specs.Prelude.{replicate}
-use Rattle.journal_check.specs.Piles.{by_context_stamped}
+use Rattle.journal_check.proofs.PileLists.{by_context_stamped}
 use Rattle.journal_check.proofs.dealing.marks_of.Given as goal
 
 abbrev pub invariant-history : goal.invariant-history

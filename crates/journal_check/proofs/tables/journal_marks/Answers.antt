@@ -4,7 +4,7 @@ use Rattle.std.specs.List.{list_all}
 use Rattle.call_places.specs.declared.entries.Mark.{Mark}
 use Rattle.context_books.specs.LiveChecks.{call_mark}
 use Rattle.journal_check.specs.Tables.{is_low}
-use Rattle.journal_check.proofs.NotedCalls.{marks_next, low_next}
+use Rattle.journal_check.proofs.Walks.{map_next, all_next}
 use Rattle.journal_check.proofs.tables.journal_marks.Goals as goal
 
 pub journals-preserved : goal.journals-preserved
@@ -17,6 +17,6 @@ journals-preserved c =
     c.in-Some.is c.in_ok-own.ensures in
     record {
       made = ap (λ (ms : List (List Mark)). ms ++ map (map call_mark) (drop (i + 1) journals)) c.in_ok-push.ensures.items
-          ∙ marks_next journals i _ c.in-Some.own c.journals.marks.items _ c.journals-test.true (found.0 ∙ ap (map call_mark) here) c.journals.invariant.made;
-      low = low_next journals i _ _ c.journals-test.true (sym (ap (list_all is_low) here) ∙ found.1) c.journals.invariant.low;
+          ∙ map_next (map call_mark) journals i _ c.in-Some.own c.journals.marks.items _ c.journals-test.true (found.0 ∙ ap (map call_mark) here) c.journals.invariant.made;
+      low = all_next (list_all is_low) journals i _ _ c.journals-test.true c.journals.invariant.low (sym (ap (list_all is_low) here) ∙ found.1);
     }

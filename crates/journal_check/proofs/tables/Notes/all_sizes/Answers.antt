@@ -2,12 +2,12 @@ use Rattle.std.proofs.Common.{◌<◌, List, [], length, get_or, ap, sym, ◌∙
 use Rattle.std.proofs.lemmas.List.{get_or_default}
 use Rattle.batch_plans.specs.declared.plan.CallLine.{CallLine}
 use Rattle.journal_check.proofs.NotedCalls.{length_at, as_many_lanes}
-use Rattle.journal_check.proofs.tables.asks_with_table.Goals as goal
+use Rattle.journal_check.proofs.tables.Notes.all_sizes.Goals as goal
 
 pub pair_sizes-requires-clause-size : goal.pair_sizes-requires-clause-size
 pair_sizes-requires-clause-size c =
     let calls = c.args.calls.now in
-    let lanes = c.args.plan.now.lanes in
+    let lanes = c.args.self.now.plan.now.lanes in
     let i = c.lanes.lane in
     let many = as_many_lanes calls lanes c.requires.sizes in
     let low : i < length calls = c.lanes-test.true in
