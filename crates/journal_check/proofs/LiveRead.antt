@@ -1,5 +1,5 @@
 -- How many lanes and journals a text tells, of a result whose lanes add and retire contexts.
-use Rattle.std.proofs.Common.{◌≡◌, ℕ, List, length, Result, Ok, Err, Option, sym, ap, ◌∙◌}
+use Rattle.std.proofs.Common.{◌≡◌, ℕ, List, length, Ok, Option, sym, ap, ◌∙◌}
 use Rattle.std.proofs.lemmas.List.{length-map}
 use Rattle.call_places.specs.declared.entries.Entry.{Entry}
 use Rattle.hpke_context.specs.Contexts.{ContextView}
@@ -8,7 +8,6 @@ use Rattle.batch_plans.specs.declared.plan.Plan.{Plan}
 use Rattle.batch_plans.specs.declared.replies.Batch.{Batch}
 use Rattle.batch_plans.specs.declared.replies.KeyReply.{KeyReply}
 use Rattle.batch_plans.specs.declared.replies.ContextReply.{ContextReply}
-use Rattle.context_table.specs.SetUp.{IsSetUp}
 use Rattle.context_books.specs.Live.{looked_up_plan}
 use Rattle.result_lines.specs.Printed.{lane_guesses, guesses_told}
 use Rattle.result_lines.specs.Tables.{table_told}
@@ -17,13 +16,10 @@ use Rattle.result_lines.specs.ToldLive.{told_live_by}
 use Rattle.result_lines.proofs.Growing.{batches}
 use Rattle.result_lines.proofs.TookLive.{told_live_took}
 use Rattle.result_lines.specs.declared.verdicts.Verdict.{Verdict}
-use Rattle.result_lines.specs.declared.verdicts.Verdict.TheVariants.{Form}
-use Rattle.result_lines.specs.LiveVerdicts.{live_told}
-use Rattle.result_lines.proofs.FirstWrongLive.{first_wrong_live}
 use Rattle.result_lines.proofs.LookedLimits.{looked_lanes}
 use Rattle.journal_check.specs.Served.{live_verdict_over}
 use Rattle.journal_check.proofs.ToldSizes.{Has}
-use Rattle.result_lines.specs.Computed.{live_verdict_on, live_by_form}
+use Rattle.result_lines.specs.Computed.{live_by_form}
 
 pub live_has_of : (plan : Plan) (keys : List KeyReply) (replies : List ContextReply) (contexts : List (Option ContextView)) (notes : List Entry) (text : List ℕ) (found : ToldView)
     → IsWithinLimits plan → told_live_by plan keys replies contexts notes text ≡ Ok found → Has (length plan.lanes) (length plan.contexts) found

@@ -1,14 +1,11 @@
 -- How many lanes and journals a text tells.
-use Rattle.std.proofs.Common.{◌≡◌, ℕ, List, length, Ok, Err, Option, sym, ap, ◌∙◌, subst}
+use Rattle.std.proofs.Common.{◌≡◌, ℕ, List, length, Ok, Option, sym, ap, ◌∙◌}
 use Rattle.std.proofs.lemmas.List.{length-map}
 use Rattle.hpke_context.specs.Contexts.{ContextView}
 use Rattle.batch_plans.specs.declared.plan.Plan.{Plan}
 use Rattle.batch_plans.specs.declared.replies.Batch.{Batch}
 use Rattle.batch_plans.specs.declared.replies.KeyReply.{KeyReply}
 use Rattle.batch_plans.specs.declared.replies.ContextReply.{ContextReply}
-use Rattle.result_lines.specs.declared.stop.Stop.{Stop}
-use Rattle.result_lines.specs.declared.stop.Stop.TheVariants.{Wrong}
-use Rattle.result_lines.specs.Places.{Tells}
 use Rattle.result_lines.specs.Told.{ToldView, told_by}
 use Rattle.result_lines.specs.Printed.{lane_guesses, guesses_told}
 use Rattle.result_lines.proofs.Growing.{batches}

@@ -4,10 +4,8 @@ use Rattle.std.specs.List.{flat_map, range_with_len}
 use Rattle.call_places.specs.declared.entries.Place.{Place}
 use Rattle.call_places.specs.declared.entries.Mark.{Mark}
 use Rattle.context_books.specs.Batches.{Batch, Spot, spots, all_asked, lane_of, lane_places, own_places}
-use Rattle.context_books.specs.Histories.{mark, marks_at, places, own_spots}
+use Rattle.context_books.specs.Histories.{marks_at, places, own_spots}
 use Rattle.result_lines.specs.Journals.{broken_journal}
-use Rattle.journal_check.specs.declared.asks.Asked.{Asked}
-use Rattle.journal_check.specs.Histories.{spots_from}
 
 -- an item goes onto the pile of this number, where there is one
 abbrev pub put_on : {X : Type 0} → List (List X) → ℕ → X → List (List X)

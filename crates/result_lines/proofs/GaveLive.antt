@@ -2,7 +2,7 @@
 use Rattle.std.proofs.Common.{◌≡◌, ℕ, ◌+◌, true, List, [], ◌∷◌, ◌++◌, length, map, take, drop, codes, decimal, Option, Ok, refl, sym, ap, ◌∙◌, subst, append_assoc, append-nil, arith}
 use Rattle.std.specs.List.{concat, All}
 use Rattle.std.proofs.lemmas.List.{length-drop, length-take-le, take-append-drop}
-use Rattle.std.proofs.lemmas.List.Elements.{All-nil, All-cons, All-head, All-tail, All-take, All-drop}
+use Rattle.std.proofs.lemmas.List.Elements.{All-nil, All-cons, All-take, All-drop}
 use Rattle.call_places.specs.declared.entries.Entry.{Entry}
 use Rattle.call_places.specs.declared.entries.Mark.{Mark}
 use Rattle.hpke_context.specs.Contexts.{ContextView}
@@ -13,24 +13,23 @@ use Rattle.batch_plans.specs.declared.plan.ContextLine.{ContextLine}
 use Rattle.batch_plans.specs.declared.replies.Batch.{Batch}
 use Rattle.batch_plans.specs.declared.replies.KeyReply.{KeyReply}
 use Rattle.batch_plans.specs.declared.replies.ContextReply.{ContextReply}
-use Rattle.batch_plans.specs.ReplyText.{all_lines, numbered, lane_lines, mark_line, journal_lines}
+use Rattle.batch_plans.specs.ReplyText.{all_lines, numbered, lane_lines, journal_lines}
 use Rattle.batch_plans.specs.LiveText.{added_journal_lines, note_line, table_lines}
 use Rattle.context_books.specs.Live.{looked_up_plan}
 use Rattle.result_lines.specs.declared.told.GuessLine.{GuessLine}
 use Rattle.result_lines.specs.declared.stamps.Stamps.TheVariants.{PlacesAndNotes}
-use Rattle.result_lines.specs.Places.{MarksFound, marks_of}
-use Rattle.result_lines.specs.Told.{ToldView, nothing_yet, with_line, with_lines, with_lanes, journal_ended, with_journals, with_setup}
+use Rattle.result_lines.specs.Told.{ToldView, nothing_yet, with_lines, with_lanes, with_journals, with_setup}
 use Rattle.result_lines.specs.ToldLive.{with_added_journal, with_added_journals, with_all_journals, told_live_by}
 use Rattle.result_lines.specs.Printed.{told_lanes, lines_told, guesses_told, AreComplete, IsLine, IsGuessWithin, IsPlaceWithin}
 use Rattle.result_lines.specs.PrintedLive.{told_live_text}
 use Rattle.result_lines.proofs.FirstLines.{step_gives, IsLeft}
-use Rattle.result_lines.proofs.Growing.{concat-append, batches, GrewJournals, journals_stayed, journals_more, journal_grew}
+use Rattle.result_lines.proofs.Growing.{batches, GrewJournals, journals_more}
 use Rattle.result_lines.proofs.NumberLines.{no_mark}
 use Rattle.result_lines.proofs.NoteLines.{note_line_is}
-use Rattle.result_lines.proofs.PlainLines.{tested, both, decimal_one, numbered_line}
+use Rattle.result_lines.proofs.PlainLines.{tested}
 use Rattle.result_lines.proofs.Took.{no_guesses}
 use Rattle.result_lines.proofs.TookLive.{journals_text, setup, live_parts}
-use Rattle.result_lines.proofs.Gave.{other_left, line_gave, lines_gave, lanes_gave, EndsMarks, Heads, same_ends, behind_ends, GaveJournals, headed_gave, journals_gave, setup_gave, end_gave}
+use Rattle.result_lines.proofs.Gave.{other_left, lines_gave, lanes_gave, EndsMarks, Heads, same_ends, behind_ends, GaveJournals, headed_gave, journals_gave, setup_gave, end_gave}
 
 -- ---- journals of contexts that are added
 

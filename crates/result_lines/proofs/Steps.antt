@@ -1,7 +1,6 @@
 -- Steps that take the lines of a list's elements one after another.
 use Rattle.std.proofs.Common.{◌≡◌, ℕ, ◌+◌, ◌-◌, ◌<◌, ◌≤◌, suc, List, [], ◌∷◌, length, drop, get_or, Result, Ok, sym, ap, ◌∙◌, add-one, arith}
 use Rattle.std.proofs.Math.Seq.{drop-cons}
-use Rattle.std.proofs.lemmas.List.{drop_all}
 use Rattle.result_lines.specs.declared.stop.Stop.{Stop}
 use Rattle.result_lines.specs.declared.stop.Stop.TheVariants as stops
 use Rattle.result_lines.specs.Places.{◌>>=◌, Stops}

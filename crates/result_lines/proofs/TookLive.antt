@@ -1,5 +1,5 @@
 -- What was read of a result whose lanes add and retire contexts is the text of what it tells.
-use Rattle.std.proofs.Common.{◌≡◌, ℕ, suc, ◌+◌, true, List, [], ◌∷◌, ◌++◌, length, map, take, drop, codes, decimal, Option, Ok, refl, sym, ap, ◌∙◌, subst, append_assoc, append-nil, length-append, arith}
+use Rattle.std.proofs.Common.{◌≡◌, ℕ, ◌+◌, true, List, [], ◌∷◌, ◌++◌, length, map, take, drop, codes, Option, Ok, refl, sym, ap, ◌∙◌, append_assoc, append-nil, length-append, arith}
 use Rattle.std.specs.List.{concat}
 use Rattle.std.proofs.lemmas.List.{take_at, drop_at, length-drop, length-take-le}
 use Rattle.call_places.specs.declared.entries.Entry.{Entry}
@@ -12,19 +12,18 @@ use Rattle.batch_plans.specs.declared.replies.Batch.{Batch}
 use Rattle.batch_plans.specs.declared.replies.KeyReply.{KeyReply}
 use Rattle.batch_plans.specs.declared.replies.ContextReply.{ContextReply}
 use Rattle.batch_plans.specs.Lines.{key_line, context_line}
-use Rattle.batch_plans.specs.ReplyText.{all_lines, numbered, lane_lines, mark_line, journal_lines, version_line}
+use Rattle.batch_plans.specs.ReplyText.{all_lines, numbered, lane_lines, journal_lines, version_line}
 use Rattle.batch_plans.specs.LiveText.{added_journal_lines, table_lines, live_lines}
 use Rattle.context_books.specs.Live.{looked_up_plan}
 use Rattle.result_lines.specs.declared.told.GuessLine.{GuessLine}
 use Rattle.result_lines.specs.declared.stamps.Stamps.TheVariants.{PlacesAndNotes}
-use Rattle.result_lines.specs.Places.{marks_of}
-use Rattle.result_lines.specs.Told.{ToldView, nothing_yet, with_line, with_lines, with_lanes, journal_ended, with_journals, with_setup}
+use Rattle.result_lines.specs.Told.{ToldView, nothing_yet, with_lines, with_lanes, with_journals, with_setup}
 use Rattle.result_lines.specs.ToldLive.{with_added_journal, with_added_journals, with_all_journals, told_live_by}
 use Rattle.result_lines.specs.Printed.{told_lanes, lines_told, guesses_told}
 use Rattle.result_lines.specs.PrintedLive.{told_live_text, IsLiveTextOf}
-use Rattle.result_lines.proofs.FirstLines.{step_ok, ok_is, IsLeft}
-use Rattle.result_lines.proofs.Growing.{concat-append, batches, GrewJournals, journals_stayed, journals_more, journal_grew}
-use Rattle.result_lines.proofs.Took.{line_took, lines_took, lanes_took, TookJournals, headed_took, journals_took, setup_took, end_took, no_guesses}
+use Rattle.result_lines.proofs.FirstLines.{step_ok, IsLeft}
+use Rattle.result_lines.proofs.Growing.{concat-append, batches, GrewJournals, journals_more}
+use Rattle.result_lines.proofs.Took.{lines_took, lanes_took, TookJournals, headed_took, journals_took, setup_took, end_took, no_guesses}
 
 -- ---- journals of contexts that are added
 

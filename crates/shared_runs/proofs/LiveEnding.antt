@@ -1,9 +1,8 @@
 -- What all lanes show that were served, and a plan with no lanes.
-use Rattle.std.proofs.Common.{◌≡◌, List, [], length, Option, Some, None, sym, refl, ap, ◌∙◌, subst, arith, append-nil}
+use Rattle.std.proofs.Common.{◌≡◌, List, [], length, Option, sym, refl, ap, ◌∙◌, subst, arith, append-nil}
 use Rattle.std.specs.Prelude.{flat_map, IsPermutation}
 use Rattle.std.specs.List.{All, range_with_len}
 use Rattle.std.proofs.lemmas.List.{length-map, get_or_default}
-use Rattle.call_places.specs.declared.entries.Entry.{Entry}
 use Rattle.call_places.specs.Entries.{stamps_of}
 use Rattle.turn_lock.specs.Passes.{PassView}
 use Rattle.hpke_context.specs.Contexts.{ContextView}

@@ -1,14 +1,13 @@
 -- ---- for the proofs: shared contexts, and what of them is with no lane.
 use Rattle.std.specs.Prelude.{ℕ, ◌≡◌, ◌+◌, ◌-◌, List, [], length, map, sum, Option, Some, None}
 use Rattle.std.specs.Borrow.{Bor}
-use Rattle.hpke_context.specs.Contexts.{ContextView}
 use Rattle.turn_lock.specs.Passes.{PassView, PassListView, fresh_pass, fresh_from}
 use Rattle.stamp_counter.specs.Seats.{SeatView, CounterView}
 use Rattle.shared_context.specs.Stamped.{IsNote}
 use Rattle.shared_context.specs.Calls.{SharedView}
 use Rattle.batch_plans.specs.declared.plan.Plan.{Plan}
 use Rattle.batch_plans.specs.Limits.{IsWithinLimits}
-use Rattle.context_books.specs.Standing.{AreOfLines, export_limits}
+use Rattle.context_books.specs.Standing.{AreOfLines}
 use Rattle.lane_workers.specs.declared.works.LaneWork.{LaneWork}
 use Rattle.lane_workers.specs.Groups.{IsFresh, IsDone}
 use Rattle.lane_workers.specs.Handing.{list_at}

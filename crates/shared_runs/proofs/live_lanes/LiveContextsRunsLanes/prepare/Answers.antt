@@ -1,5 +1,5 @@
-use Rattle.std.proofs.Common.{◌≡◌, Some, None, sym, ◌∙◌}
-use Rattle.turn_lock.specs.Passes.{PassView, fresh_pass}
+use Rattle.std.proofs.Common.{◌≡◌, sym, ◌∙◌}
+use Rattle.turn_lock.specs.Passes.{fresh_pass}
 use Rattle.shared_runs.proofs.Handed.{room_is_small}
 use Rattle.shared_runs.proofs.LiveHanded.{name_pass, below, placed_room, is_ready, own_lane}
 use Rattle.lane_workers.proofs.Found.{one_of, none_some}
