@@ -49,32 +49,40 @@ fn text_asked<'p>(asks: &[AskResult<'p>], request: EncField) -> &'p [u8] {
     }
 }
 
-// The answer of a key to a request, where there is one. Its text may be one that is known.
+// What an answer is made of, besides its key: the key identifier, the request where there is one, a
+// text that it may have, the nonce and the text.
+#[derive(Drop)]
+struct AnswerParts<'a, 'p> {
+    id: u8,
+    request: Option<&'a [u8]>,
+    known: &'p [u8],
+    nonce: &'a [u8],
+    text: &'p [u8],
+}
+
+// The answer of a key to a request, where there is one.
 fn given_with<'p, S: KemParams, M: Multiplier>(
     permission: MayCheck,
     alloc: Global,
     mult: &M,
     key: &KeyPair<S>,
-    id: u8,
-    request: Option<&[u8]>,
-    known: &'p [u8],
-    nonce: &[u8],
-    text: &'p [u8],
+    parts: &AnswerParts<'_, 'p>,
 ) -> Result<AnswerResult<'p>, OutOfMemory>
-    requires request { IfSome request (λ r. length r.now ≤ most_request) }
-    requires text { length text.now ≤ most_text }
-    ensures { IfOk result (λ g. g ≡ given_with key.now.kem key.now.secret id
-        (option_copied request.entry) nonce.now text.now) }
+    requires request { IfSome parts.now.request (λ r. length r.now ≤ most_request) }
+    requires text { length parts.now.text.now ≤ most_text }
+    ensures { IfOk result (λ g. g ≡ given_with key.now.kem key.now.secret parts.now.id
+        (option_copied parts.now.request) parts.now.nonce.now parts.now.text.now) }
 {
     let Some(secret) = key.secret() else {
         return Ok(Err(CapsuleRefusal::NeedSecret));
     };
-    let Some(request) = request else {
+    let Some(request) = parts.request else {
         return Ok(Err(CapsuleRefusal::NoAsk));
     };
+    let (id, nonce, text) = (parts.id, parts.nonce, parts.text);
     match answer_by(permission, alloc, mult, secret, id, request, nonce, text) {
         Ok((question, response)) => {
-            let question = KnownText::held_in(known, question);
+            let question = KnownText::held_in(parts.known, question);
             Ok(Ok(Given::new(question, response, text)))
         }
         Err(fault) => Ok(Err(refusal_of(fault)?)),
@@ -107,21 +115,17 @@ impl<'p, M: Multiplier> Gateway<'_, 'p, M> {
     {
         let pool = self.plan.pool.as_slice();
         let asks = first(self.asks, job.asks);
-        let request = request_at(pool, asks, job.request);
-        let known = text_asked(asks, job.request);
-        let (nonce, text) = (job.nonce.of(pool), job.text.of(pool));
+        let parts = AnswerParts {
+            id: job.id,
+            request: request_at(pool, asks, job.request),
+            known: text_asked(asks, job.request),
+            nonce: job.nonce.of(pool),
+            text: job.text.of(pool),
+        };
         match self.keys.key(job.key) {
             None => Ok(Err(CapsuleRefusal::NoKey)),
-            Some(Key::Of761(pair)) => {
-                given_with(
-                    permission, alloc, self.mult, pair, job.id, request, known, nonce, text,
-                )
-            }
-            Some(Key::Of857(pair)) => {
-                given_with(
-                    permission, alloc, self.mult, pair, job.id, request, known, nonce, text,
-                )
-            }
+            Some(Key::Of761(pair)) => given_with(permission, alloc, self.mult, pair, &parts),
+            Some(Key::Of857(pair)) => given_with(permission, alloc, self.mult, pair, &parts),
         }
     }
 

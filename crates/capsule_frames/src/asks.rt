@@ -22,25 +22,37 @@ use ring_core::Multiplier;
 use sntrup_kem::KemParams;
 use std::alloc::{AllocError as OutOfMemory, Global};
 
+// An ask line, with its number among the asks.
+#[derive(Clone, Copy)]
+struct AskJob {
+    number: usize,
+    key: u32,
+    id: u8,
+    kdf: Kdf,
+    aead: Aead,
+    text: Span,
+}
+
 // A request to a key, by words of a stream that stands at its first.
 fn sent_to<'p, S: KemParams, M: Multiplier>(
     alloc: Global,
     mut words: SeedStream,
     mult: &M,
     key: &KeyPair<S>,
-    id: u8,
-    kdf: Kdf,
-    aead: Aead,
+    job: AskJob,
     text: &'p [u8],
 ) -> Result<Sent<'p>, OutOfMemory>
     requires start { ⟦<SeedStream as Words>⟧.place words ≡ 0 }
     requires size { S.ENC ≤ 1184 }
-    requires aead { aead ≢ ExportOnly }
+    requires aead { job.aead ≢ ExportOnly }
     requires text { length text.now ≤ most_text }
-    ensures { IfOk result (λ s. s ≡ sent_to key.now.kem key.now.public id kdf aead
+    ensures { IfOk result (λ s. s ≡ sent_to key.now.kem key.now.public job.id job.kdf job.aead
         (⟦<SeedStream as Words>⟧.word words) text.now) }
 {
-    let (asked, request) = ask(alloc, &mut words, mult, key.public(), id, kdf, aead, text)?;
+    let public = key.public();
+    let (asked, request) = ask(
+        alloc, &mut words, mult, public, job.id, job.kdf, job.aead, text,
+    )?;
     Ok(Sent::new(asked, request, text))
 }
 
@@ -50,50 +62,48 @@ fn sent_by<'p, M: Multiplier>(
     words: SeedStream,
     mult: &M,
     key: &Key,
-    id: u8,
-    kdf: Kdf,
-    aead: Aead,
+    job: AskJob,
     text: &'p [u8],
 ) -> Result<Sent<'p>, OutOfMemory>
     requires start { ⟦<SeedStream as Words>⟧.place words ≡ 0 }
-    requires aead { aead ≢ ExportOnly }
+    requires aead { job.aead ≢ ExportOnly }
     requires text { length text.now ≤ most_text }
-    ensures { IfOk result (λ s. s ≡ sent_to (view_of key.now).kem (view_of key.now).public id kdf
-        aead (⟦<SeedStream as Words>⟧.word words) text.now) }
+    ensures { IfOk result (λ s. s ≡ sent_to (view_of key.now).kem (view_of key.now).public job.id
+        job.kdf job.aead (⟦<SeedStream as Words>⟧.word words) text.now) }
 {
     match key {
-        Key::Of761(pair) => sent_to(alloc, words, mult, pair, id, kdf, aead, text),
-        Key::Of857(pair) => sent_to(alloc, words, mult, pair, id, kdf, aead, text),
+        Key::Of761(pair) => sent_to(alloc, words, mult, pair, job, text),
+        Key::Of857(pair) => sent_to(alloc, words, mult, pair, job, text),
     }
 }
 
-// What becomes of the ask of this number.
-#[tactic(auto, unfolding(crate::specs::Lines::sent))]
-fn sent<'p, M: Multiplier>(
-    alloc: Global,
+// What asks are made with, besides their lines.
+#[derive(Drop)]
+struct Client<'a, 'p, M: Multiplier> {
     plan: &'p Plan,
-    mult: &M,
-    keys: &KeyTable,
-    number: usize,
-    key: u32,
-    id: u8,
-    kdf: Kdf,
-    aead: Aead,
-    text: Span,
-) -> Result<AskResult<'p>, OutOfMemory>
-    requires seed { IsSome plan.now.seed }
-    requires keys { HoldKeys plan.now keys.now.replies keys.now.slots }
-    requires number { number < 2 ^ 32 }
-    requires aead { aead ≢ ExportOnly }
-    requires text { IsField most_text (length plan.now.pool) text }
-    ensures { IfOk result (λ s. s
-        ≡ sent plan.now keys.now.replies number key id kdf aead text) }
-{
-    let text = text.of(plan.pool.as_slice());
-    let words = context_stream(plan, number);
-    match keys.key(key) {
-        None => Ok(Err(CapsuleRefusal::NoKey)),
-        Some(key) => Ok(Ok(sent_by(alloc, words, mult, key, id, kdf, aead, text)?)),
+    mult: &'a M,
+    keys: &'a KeyTable,
+}
+
+impl<'p, M: Multiplier> Client<'_, 'p, M> {
+    // What becomes of an ask.
+    #[tactic(auto, unfolding(crate::specs::Lines::sent))]
+    fn sent(&self, alloc: Global, job: AskJob) -> Result<AskResult<'p>, OutOfMemory>
+        requires seed { IsSome self.now.plan.now.seed }
+        requires number { job.number < 2 ^ 32 }
+        requires aead { job.aead ≢ ExportOnly }
+        requires text { IsField most_text (length self.now.plan.now.pool) job.text }
+        requires keys { HoldKeys self.now.plan.now self.now.keys.now.replies
+            self.now.keys.now.slots }
+        ensures { IfOk result (λ s. s ≡ sent self.now.plan.now self.now.keys.now.replies
+            job.number job.key job.id job.kdf job.aead job.text) }
+    {
+        let text = job.text.of(self.plan.pool.as_slice());
+        let words = context_stream(self.plan, job.number);
+        match self.keys.key(job.key) {
+            None => Ok(Err(CapsuleRefusal::NoKey)),
+            Some(key) => Ok(Ok(sent_by(alloc, words, self.mult, key, job, text)?)),
+        }
     }
 }
 
@@ -110,6 +120,11 @@ pub(crate) fn all_asks<'p, M: Multiplier>(
     ensures { IfOk result (λ v. v.items
         ≡ asks_from plan.now.plan keys.now.replies 0 plan.now.lines) }
 {
+    let client = Client {
+        plan: &plan.plan,
+        mult,
+        keys,
+    };
     let lines = plan.lines.as_slice();
     let mut asks = Vec::new(alloc);
     'lines: for line in lines {
@@ -122,9 +137,15 @@ pub(crate) fn all_asks<'p, M: Multiplier>(
         } = *line
         {
             let number = asks.len();
-            asks.push(sent(
-                alloc, &plan.plan, mult, keys, number, key, id, kdf, aead, text,
-            )?)?;
+            let job = AskJob {
+                number,
+                key,
+                id,
+                kdf,
+                aead,
+                text,
+            };
+            asks.push(client.sent(alloc, job)?)?;
         }
     }
     Ok(asks)

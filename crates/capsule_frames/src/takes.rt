@@ -12,7 +12,7 @@ use crate::lines::{CapsuleLine, CapsulePlan};
 use crate::replies::CapsuleRefusal;
 use crate::results::{AnswerResult, AskResult, TakeResult};
 use aes_gcm::MayCheck;
-use batch_plans::EncField;
+use batch_plans::{EncField, Plan};
 use ohttp_capsule::take_by;
 use std::alloc::{AllocError as OutOfMemory, Global};
 
@@ -43,30 +43,40 @@ fn text_said<'p>(answers: &[AnswerResult<'p>], response: EncField) -> &'p [u8] {
     }
 }
 
-// What becomes of a take, after these asks and answers.
-#[tactic(auto, unfolding(crate::specs::Lines::took))]
-fn took<'p>(
-    permission: MayCheck,
-    alloc: Global,
-    plan: &CapsulePlan,
-    asks: &[AskResult<'p>],
-    answers: &[AnswerResult<'p>],
-    ask: u32,
-    response: EncField,
-) -> Result<TakeResult<'p>, OutOfMemory>
-    requires { IsMessageWithin most_response (length plan.now.plan.pool) response }
-    ensures { IfOk result (λ t. t ≡ took plan.now.plan asks.now answers.now ask response) }
-{
-    let Some(sent) = sent_by(asks, ask) else {
-        return Ok(Err(CapsuleRefusal::NoAsk));
-    };
-    let known = text_said(answers, response);
-    let Some(response) = response_at(plan.plan.pool.as_slice(), answers, response) else {
-        return Ok(Err(CapsuleRefusal::NoAnswer));
-    };
-    match take_by(permission, alloc, sent.asked(), response) {
-        Ok(text) => Ok(Ok(KnownText::held_in(known, text))),
-        Err(fault) => Ok(Err(refusal_of(fault)?)),
+// What a take may name: the text, and what the asks and the answers before it left.
+#[derive(Drop)]
+struct Before<'a, 'p> {
+    plan: &'a Plan,
+    asks: &'a [AskResult<'p>],
+    answers: &'a [AnswerResult<'p>],
+}
+
+impl<'p> Before<'_, 'p> {
+    // What becomes of a take.
+    #[tactic(auto, unfolding(crate::specs::Lines::took))]
+    fn took(
+        &self,
+        permission: MayCheck,
+        alloc: Global,
+        ask: u32,
+        response: EncField,
+    ) -> Result<TakeResult<'p>, OutOfMemory>
+        requires { IsMessageWithin most_response (length self.now.plan.now.pool) response }
+        ensures { IfOk result (λ t. t
+            ≡ took self.now.plan.now self.now.asks.now self.now.answers.now ask response) }
+    {
+        let Some(sent) = sent_by(self.asks, ask) else {
+            return Ok(Err(CapsuleRefusal::NoAsk));
+        };
+        let known = text_said(self.answers, response);
+        let pool = self.plan.pool.as_slice();
+        let Some(response) = response_at(pool, self.answers, response) else {
+            return Ok(Err(CapsuleRefusal::NoAnswer));
+        };
+        match take_by(permission, alloc, sent.asked(), response) {
+            Ok(text) => Ok(Ok(KnownText::held_in(known, text))),
+            Err(fault) => Ok(Err(refusal_of(fault)?)),
+        }
     }
 }
 
@@ -92,9 +102,12 @@ pub(crate) fn all_takes<'p>(
             CapsuleLine::Ask { .. } => asks_before += 1,
             CapsuleLine::Answer { .. } => answers_before += 1,
             CapsuleLine::Take { ask, response } => {
-                let asks = first(asks, asks_before);
-                let answers = first(answers, answers_before);
-                takes.push(took(permission, alloc, plan, asks, answers, ask, response)?)?
+                let before = Before {
+                    plan: &plan.plan,
+                    asks: first(asks, asks_before),
+                    answers: first(answers, answers_before),
+                };
+                takes.push(before.took(permission, alloc, ask, response)?)?
             }
         }
     }
