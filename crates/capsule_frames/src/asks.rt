@@ -50,7 +50,9 @@ fn sent_to<'p, S: KemParams, M: Multiplier>(
         (⟦<SeedStream as Words>⟧.word words) text.now) }
 {
     let public = key.public();
-    let (asked, request) = ask(alloc, &mut words, mult, public, job.id, job.kdf, job.aead, text)?;
+    let (asked, request) = ask(
+        alloc, &mut words, mult, public, job.id, job.kdf, job.aead, text,
+    )?;
     Ok(Sent::new(asked, request, text))
 }
 
