@@ -16,7 +16,8 @@ use Rattle.batch_plans.specs.ReplyText.{IsAnswered, has_stamps}
 use Rattle.context_books.specs.Runs.{Run, asks_of, journal_of, LegalFor, run_along}
 use Rattle.context_table.specs.SetUp.{IsSetUp}
 use Rattle.demo_runs.specs.Texts.{share_of}
-use Rattle.demo_runs.specs.Plans.{SealsText, IsSealingPlan, BeginsAs, set_up_plan}
+use Rattle.demo_runs.specs.Plans.{SealsText, IsSealingPlan, BeginsAs}
+use Rattle.demo_runs.specs.SetUp.{set_up_plan}
 use Rattle.demo_runs.proofs.Spelled.{share_sum}
 use Rattle.demo_runs.specs.declared.batches.DemoBatch.{DemoBatch}
 use Rattle.demo_runs.specs.declared.batches.ServedBatch.{ServedBatch}

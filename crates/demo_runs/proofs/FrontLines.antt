@@ -15,8 +15,8 @@ use Rattle.request_frames.specs.declared.words.LineWord.TheVariants.{Rand, Key, 
 use Rattle.request_frames.specs.declared.words.ContextWord.TheVariants as contexts
 use Rattle.request_frames.specs.Batch.{with_line, with_rand, with_key, with_context, empty_plan}
 use Rattle.request_frames.specs.Forms.{schedule, send, recv}
-use Rattle.demo_runs.specs.Texts.{seed_bytes, rand_line, set_up_lines}
-use Rattle.demo_runs.specs.Plans.{sender_line, set_up_plan}
+use Rattle.demo_runs.specs.Texts.{rand_line, set_up_lines}
+use Rattle.demo_runs.specs.SetUp.{seed_bytes, sender_line, set_up_plan}
 use Rattle.demo_runs.proofs.HexFields.{no_feed, no_space, cut_behind, hex_is, field}
 use Rattle.demo_runs.proofs.Steps.{Reads, reads_on, reads_line, line_is}
 

@@ -17,7 +17,7 @@ use Rattle.std.proofs.lemmas.Option.{slice_get_within}
 use Rattle.std.proofs.lemmas.Bool.{cases_lt}
 use Rattle.context_books.proofs.Steps.{seal_below}
 use Rattle.context_books.proofs.Sums.{count_parts, sum_numbers}
-use Rattle.demo_runs.specs.Texts.{sealed_text}
+use Rattle.demo_runs.specs.Demo.{sealed_text}
 
 -- what each call of such a lane asks
 abbrev pub the_ask : Ask

@@ -23,7 +23,8 @@ use Rattle.request_frames.specs.Batch.{with_line, with_several, counted, add_cal
 use Rattle.request_frames.specs.Forms.{item, pairs, unseal_all}
 use Rattle.request_frames.proofs.Growth.{sums_more, items_own, items_stay}
 use Rattle.demo_runs.specs.Texts.{item_text, opening_line}
-use Rattle.demo_runs.specs.Plans.{infos, span, BeginsAs, message, OpensThese, OpenAll, none, and_more}
+use Rattle.demo_runs.specs.Plans.{BeginsAs, message, OpensThese, OpenAll, none, and_more}
+use Rattle.demo_runs.specs.SetUp.{infos, span}
 use Rattle.demo_runs.specs.Ciphertexts.{IsCiphertext, AreCiphertexts}
 use Rattle.demo_runs.proofs.HexFields.{no_feed, no_space, cut_on, cut_behind, hex_is, field}
 use Rattle.demo_runs.proofs.Steps.{Reads, reads_nothing, reads_on, reads_line, line_is}

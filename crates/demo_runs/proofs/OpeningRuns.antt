@@ -26,7 +26,7 @@ use Rattle.context_books.specs.Standing.{standing_at, call_refusal}
 use Rattle.context_books.specs.Asks.{ask_of, asked_by, ask_unless, cipher_in, cipher_at}
 use Rattle.context_books.specs.Runs.{Run, asks_of, journal_of, guesses_of, place_line, answer_line_of, call_lines, served_lines, lines_unless}
 use Rattle.context_books.specs.Guesses.{guess_at, missed_in}
-use Rattle.demo_runs.specs.Texts.{sealed_text}
+use Rattle.demo_runs.specs.Demo.{sealed_text}
 use Rattle.demo_runs.specs.Plans.{message, OpensThese, OpenAll, none, and_more}
 use Rattle.demo_runs.specs.Steps.{opened_line}
 use Rattle.demo_runs.proofs.Openings.{AreOpenings, reply_there, call_parted}

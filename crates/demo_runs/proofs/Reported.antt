@@ -10,7 +10,7 @@ use Rattle.hpke_context.specs.Contexts.{ContextView}
 use Rattle.batch_plans.specs.declared.replies.KeyReply.{KeyReply}
 use Rattle.batch_plans.specs.declared.replies.KeyReply.TheVariants.{Generated, Secret, Peer, Refused}
 use Rattle.context_table.proofs.OneSetUp.{one_set_up_lem}
-use Rattle.demo_runs.specs.Plans.{set_up_plan}
+use Rattle.demo_runs.specs.SetUp.{set_up_plan}
 use Rattle.demo_runs.specs.declared.report_lines.DemoReport.{DemoReport}
 use Rattle.demo_runs.specs.Demo.{sealed_at, all_sealed, all_opened, none_opened, IsReportOf, IsDemo}
 use Rattle.demo_runs.specs.Batches.{ciphertexts, is_generated, HasCiphertexts, IsSealed}

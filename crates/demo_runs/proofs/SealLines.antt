@@ -21,8 +21,10 @@ use Rattle.request_frames.specs.Batch.{with_line, with_lane, with_one, counted, 
 use Rattle.request_frames.specs.Forms.{seal, one_item, item}
 use Rattle.request_frames.proofs.Growth.{sums_more}
 use Rattle.request_frames.proofs.Lanes.{add_call-end}
-use Rattle.demo_runs.specs.Texts.{sealed_text, seal_line, share_of, sealing_lane}
-use Rattle.demo_runs.specs.Plans.{infos, span, BeginsAs, SealsText}
+use Rattle.demo_runs.specs.Texts.{seal_line, share_of, sealing_lane}
+use Rattle.demo_runs.specs.Demo.{sealed_text}
+use Rattle.demo_runs.specs.Plans.{BeginsAs, SealsText}
+use Rattle.demo_runs.specs.SetUp.{infos, span}
 use Rattle.demo_runs.proofs.Steps.{Reads, reads_nothing, reads_on, reads_line, line_is}
 
 -- ---- what a lane holds

@@ -21,9 +21,9 @@ use Rattle.context_books.specs.Runs.{Run, asks_of, journal_of, LegalFor, lane_ca
 use Rattle.context_table.specs.SetUp.{IsSetUp}
 use Rattle.context_table.specs.Laws.{EndsMatch, Message, to_seal, to_open, sealed_from, opened_from, OpensInOrder}
 use Rattle.context_table.proofs.OneSetUp.{one_set_up_lem}
-use Rattle.demo_runs.specs.Texts.{sealed_text}
-use Rattle.demo_runs.specs.Plans.{IsOpeningPlan, set_up_plan}
-use Rattle.demo_runs.specs.Demo.{sealed_at}
+use Rattle.demo_runs.specs.Plans.{IsOpeningPlan}
+use Rattle.demo_runs.specs.SetUp.{set_up_plan}
+use Rattle.demo_runs.specs.Demo.{sealed_at, sealed_text}
 use Rattle.demo_runs.specs.declared.batches.DemoBatch.{DemoBatch}
 use Rattle.demo_runs.specs.declared.batches.ServedBatch.{ServedBatch}
 use Rattle.demo_runs.specs.Batches.{AnswersARun, ciphertexts, HasCiphertexts, IsSealed, IsBegun, IsOpening, HasOpened}

@@ -23,15 +23,15 @@ use Rattle.aes_gcm.proofs.Opening.{IsWhole, length-gctr, length-tag_of}
 use Rattle.context_table.proofs.Messages.{key_is_whole}
 use Rattle.context_books.proofs.Members.{value_at}
 use Rattle.context_books.specs.Standing.{standing_at, AreOfLines}
-use Rattle.demo_runs.specs.Demo.{sealed_at}
+use Rattle.demo_runs.specs.Demo.{sealed_at, sealed_text}
 use Rattle.demo_runs.specs.Batches.{is_generated}
 use Rattle.context_table.specs.Streams.{context_words}
 use Rattle.context_table.specs.Keys.{IsKeyReply, kem761}
 use Rattle.context_table.specs.Contexts.{outcome, IsOutcome, suite_of, reply_of, slot_of}
 use Rattle.context_table.specs.SetUp.{IsSetUp}
 use Rattle.context_table.specs.Laws.{EndsMatch, OpensInOrder}
-use Rattle.demo_runs.specs.Texts.{seed_bytes, sealed_text}
-use Rattle.demo_runs.specs.Plans.{sender_line, recipient_line, infos, set_up_plan, BeginsAs}
+use Rattle.demo_runs.specs.SetUp.{seed_bytes, sender_line, recipient_line, infos, set_up_plan}
+use Rattle.demo_runs.specs.Plans.{BeginsAs}
 
 -- a plan with these lines, written out
 abbrev plan_by : ℕ → Plan → List ℕ → Plan

@@ -14,7 +14,8 @@ use Rattle.context_books.proofs.Sums.{count_parts}
 use Rattle.batch_plans.specs.declared.plan.Plan.{Plan}
 use Rattle.request_frames.specs.Batch.{Spells, empty_plan}
 use Rattle.demo_runs.specs.Texts.{rand_line, set_up_lines, share_of, sealing_lanes, sealing_text, opening_line, opening_lines, opening_size, opening_count, opening_text}
-use Rattle.demo_runs.specs.Plans.{set_up_plan, BeginsAs, IsSealingPlan, IsOpeningPlan}
+use Rattle.demo_runs.specs.Plans.{BeginsAs, IsSealingPlan, IsOpeningPlan}
+use Rattle.demo_runs.specs.SetUp.{set_up_plan}
 use Rattle.demo_runs.specs.Ciphertexts.{AreCiphertexts}
 use Rattle.demo_runs.proofs.Steps.{reads_on, spelled}
 use Rattle.demo_runs.proofs.FrontLines.{reads_front}

@@ -13,7 +13,8 @@ use Rattle.batch_plans.specs.ReplyText.{lanes_lines, numbered, IsAnswered}
 use Rattle.context_books.specs.Standing.{standing_at, AreOfLines, export_limits}
 use Rattle.context_books.specs.Runs.{run_along, IsAllowed, lane_call_lines}
 use Rattle.context_table.specs.SetUp.{IsSetUp}
-use Rattle.demo_runs.specs.Plans.{set_up_plan, IsSealingPlan, IsOpeningPlan}
+use Rattle.demo_runs.specs.Plans.{IsSealingPlan, IsOpeningPlan}
+use Rattle.demo_runs.specs.SetUp.{set_up_plan}
 use Rattle.demo_runs.specs.Demo.{sealed_at}
 use Rattle.demo_runs.specs.declared.batches.DemoBatch.{DemoBatch}
 use Rattle.demo_runs.specs.declared.batches.ServedBatch.{ServedBatch}

@@ -10,9 +10,12 @@ use Rattle.batch_plans.specs.declared.replies.KeyReply.TheVariants.{Generated}
 use Rattle.batch_plans.specs.declared.replies.ContextReply.{ContextReply}
 use Rattle.context_books.specs.Standing.{standing_at}
 use Rattle.context_table.specs.SetUp.{IsSetUp}
-use Rattle.demo_runs.specs.Texts.{sealed_text}
-use Rattle.demo_runs.specs.Plans.{set_up_plan}
+use Rattle.demo_runs.specs.SetUp.{set_up_plan}
 use Rattle.demo_runs.specs.declared.report_lines.DemoReport.{DemoReport}
+
+-- T, the text that is sealed: the bytes 00 to 3f
+abbrev pub sealed_text : List ℕ
+sealed_text = range_with_len 0 64
 
 -- Seal(key, ComputeNonce(n), "", T) with the key and the base_nonce of a context (RFC 9180, 5.2)
 abbrev pub sealed_at : ContextView → ℕ → List ℕ

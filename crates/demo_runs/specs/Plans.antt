@@ -1,67 +1,17 @@
--- What the two texts of a demonstration spell: the set-up of a key, of a sender's context, which has
--- number 0, and of the recipient's, which has number 1; lanes that seal; a lane that opens.
-use Rattle.std.specs.Prelude.{◌≡◌, ℕ, ◌+◌, List, [], ◌∷◌, ◌++◌, length, map, codes, Some}
+-- What the two texts of a demonstration spell: its set-up, and lanes that seal, or a lane that opens.
+use Rattle.std.specs.Prelude.{◌≡◌, ℕ, ◌+◌, List, [], ◌∷◌, ◌++◌, length, map, Some}
 use Rattle.std.specs.List.{All, flat_map, range_with_len}
-use Rattle.call_places.specs.declared.spans.Span.{Span}
 use Rattle.call_places.specs.declared.spans.Item.{Item}
 use Rattle.call_places.specs.Spans.{span_bytes}
 use Rattle.call_places.specs.Messages.{SealedMessage, sealed_messages}
-use Rattle.hkdf_labelled.specs.declared.suites.Kdf.TheVariants.{Sha256}
-use Rattle.hkdf_labelled.specs.declared.suites.Aead.TheVariants.{Aes128}
-use Rattle.key_schedule.specs.declared.modes.Mode.TheVariants.{Base}
 use Rattle.batch_plans.specs.declared.plan.KeyLine.TheVariants.{Generate}
-use Rattle.batch_plans.specs.declared.plan.EncField.TheVariants.{Of}
-use Rattle.batch_plans.specs.declared.plan.ContextKind.{ContextKind}
-use Rattle.batch_plans.specs.declared.plan.ContextKind.TheVariants.{Send, Recv}
-use Rattle.batch_plans.specs.declared.plan.ContextLine.{ContextLine}
 use Rattle.batch_plans.specs.declared.plan.CallLine.{CallLine}
 use Rattle.batch_plans.specs.declared.plan.CallLine.TheVariants.{Seal, UnsealAll}
 use Rattle.batch_plans.specs.declared.plan.Plan.{Plan}
 use Rattle.batch_plans.specs.Limits.{items_from}
-use Rattle.demo_runs.specs.Texts.{seed_bytes, sealed_text, share_of}
-
--- ---- the set-up
-
-abbrev pub span : ℕ → ℕ → Span
-span start len = record { start = start; len = len }
-
--- a context line whose info is the 4 bytes of the pool from here on
-abbrev pub context_line : ContextKind → ℕ → ContextLine
-context_line kind start =
-    record {
-      kind = kind;
-      kdf = Sha256;
-      aead = Aes128;
-      mode = Base;
-      info = span start 4;
-      psk = span (start + 4) 0;
-      psk_id = span (start + 4) 0;
-      limit = 65536;
-    }
-
-abbrev pub sender_line : ContextLine
-sender_line = context_line (Send 0) 0
-
-abbrev pub recipient_line : ContextLine
-recipient_line = context_line (Recv 0 (Of 0)) 4
-
--- the info of both
-abbrev pub infos : List ℕ
-infos = codes "demo" ++ codes "demo"
-
--- the plan of the first five lines alone
-abbrev pub set_up_plan : ℕ → Plan
-set_up_plan seed =
-    record {
-      version = 1;
-      seed = Some (seed_bytes seed);
-      pool = infos;
-      keys = Generate ∷ [];
-      contexts = sender_line ∷ recipient_line ∷ [];
-      items = [];
-      lanes = [];
-      added = 0;
-    }
+use Rattle.demo_runs.specs.Texts.{share_of}
+use Rattle.demo_runs.specs.SetUp.{seed_bytes, infos, sender_line, recipient_line}
+use Rattle.demo_runs.specs.Demo.{sealed_text}
 
 -- a plan that begins with these lines
 pub record BeginsAs (seed : ℕ) (plan : Plan) : Type 0 where

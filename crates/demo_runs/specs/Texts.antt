@@ -1,20 +1,12 @@
 -- The two batch texts of a demonstration. The first seals the same text again and again on the
 -- context of a fresh key's sender, the second opens those ciphertexts on the context of its
 -- recipient. A byte string is a list of numbers below 256.
-use Rattle.std.specs.Prelude.{ℕ, ◌%◌, ◌==◌, List, ◌++◌, length, replicate, codes}
+use Rattle.std.specs.Prelude.{ℕ, ◌%◌, ◌==◌, List, ◌++◌, length, codes}
 use Rattle.std.specs.Int.{div_ceil}
 use Rattle.std.specs.List.{range_with_len, filter, flat_map}
 use Rattle.std.specs.Fork.{slice_chunk}
-use Rattle.byte_strings.specs.Bytes.{i2osp}
 use Rattle.field_text.specs.Printing.{hex_text}
-
--- T, the text that is sealed: the bytes 00 to 3f
-abbrev pub sealed_text : List ℕ
-sealed_text = range_with_len 0 64
-
--- the seed of the random bytes: SEED as 8 bytes, the high byte first, and 24 zero bytes
-abbrev pub seed_bytes : ℕ → List ℕ
-seed_bytes seed = i2osp seed 8 ++ replicate 24 0
+use Rattle.demo_runs.specs.SetUp.{seed_bytes}
 
 -- `rand H64`
 abbrev pub rand_line : ℕ → List ℕ

@@ -1,7 +1,8 @@
 use Rattle.std.proofs.Common.{◌≡◌, ◌++◌, List, ℕ, codes, ap, ◌∙◌, append_assoc}
 use Rattle.std.proofs.lemmas.Slice.{pushed}
 use Rattle.field_text.specs.Printing.{hex_text}
-use Rattle.demo_runs.specs.Texts.{seed_bytes, set_up_lines}
+use Rattle.demo_runs.specs.Texts.{set_up_lines}
+use Rattle.demo_runs.specs.SetUp.{seed_bytes}
 use Rattle.demo_runs.proofs.texts.front_text.Goals as goal
 
 joined : (hex : List ℕ) → (codes "hpkebatch 1\nrand " ++ hex) ++ (codes "\n" ++ set_up_lines)
