@@ -1,5 +1,4 @@
 pub mod Lived
-pub mod Told
 pub mod Demonstrated
 pub mod LaneByLane
 pub mod TableStamps

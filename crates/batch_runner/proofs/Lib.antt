@@ -1,4 +1,3 @@
 pub mod Texts
-pub mod Serves
 pub mod LiveSetUp
 pub mod Demonstrated
