@@ -10,7 +10,7 @@ use Rattle.batch_serving.proofs.commands.input_of.Goals as goal
 pub returns-in-Demo-clause-input : goal.returns-in-Demo-clause-input
 returns-in-Demo-clause-input g c =
     let left = g.S.Source.left c.args.source.now in
-    subst (λ (one : Command). IsReadBy one left left _) (sym c.in-Demo.is) refl
+    subst (λ (one : Command). IsReadBy one left left c.new.result.items) (sym c.in-Demo.is) refl
 
 pub returns-in-Demo-clause-taken : goal.returns-in-Demo-clause-taken
 returns-in-Demo-clause-taken g c = ([], none_taken (g.S.Source.left c.args.source.now), omega arith)
