@@ -1,4 +1,5 @@
 pub mod Lived
+pub mod Told
 pub mod Demonstrated
 pub mod LaneByLane
 pub mod TableStamps

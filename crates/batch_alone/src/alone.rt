@@ -11,16 +11,51 @@ ghost use Rattle.batch_plans.specs.ReplyText.{bad_text};
 ghost use Rattle.result_lines.specs.declared.verdicts.Verdict.{Verdict};
 ghost use Rattle.result_lines.specs.VerdictText.{verdict_text};
 ghost use Rattle.batch_words.specs.declared.commands.Command.{Command as Command_};
-ghost use Rattle.batch_words.specs.Words.{command_of};
+ghost use Rattle.batch_words.specs.Words.{command_of, IsWithin};
 ghost use Rattle.batch_serving.specs.declared.outcomes.Outcome.{Outcome as Outcome_};
+ghost use Rattle.batch_serving.specs.Effects.{Writes};
 ghost use Rattle.batch_serving.specs.Text.{IsBadFor, IsBrokenFor, MayEnd};
 
-use crate::callers::Caller;
+use crate::demonstrating::demonstrate;
+use crate::exchanging::exchange_alone;
+use crate::living::live_in_order;
+use crate::rehearsing::rehearse_batch;
+use crate::running::run_in_order;
 use aes_gcm::MayCheck;
 use batch_io::Sink;
-use batch_serving::{Outcome, answer};
-use batch_words::read_words;
+use batch_serving::{Outcome, judge, judge_live};
+use batch_words::{Command, read_words};
+use speculative_open::Alone;
 use std::alloc::Global;
+
+// Does with an input what a command says.
+fn obey<K: Sink>(
+    permission: MayCheck,
+    alloc: Global,
+    command: &Command,
+    input: &[u8],
+    sink: &mut K,
+) -> Outcome
+    requires { IsWithin command.now }
+    ensures { Writes K.written K.faults sink.old sink.new (MayEnd command.now input.now) result }
+{
+    let alone = Alone::new(permission);
+    match command {
+        Command::Run { mult, .. } => run_in_order(&alone, alloc, input, *mult, sink),
+        Command::Live { mult, .. } => live_in_order(&alone, alloc, input, *mult, sink),
+        Command::Rehearse { schedule } => {
+            rehearse_batch(&alone, alloc, input, schedule.as_slice(), sink)
+        }
+        Command::Check { mult } => judge(permission, alloc, input, *mult, sink),
+        Command::CheckLive { mult } => judge_live(permission, alloc, input, *mult, sink),
+        Command::Capsules { mult } => exchange_alone(permission, alloc, input, *mult, sink),
+        Command::Demo {
+            seed,
+            messages,
+            lanes,
+        } => demonstrate(&alone, alloc, *seed, *messages, *lanes, sink),
+    }
+}
 
 /// Does what the words ask for with an input that lies in memory, on the calling thread: writes the
 /// text that comes of it to `sink`, and tells how the run ended. `words` doesn't hold the program's
@@ -76,7 +111,7 @@ pub fn serve_alone<K: Sink>(
         → ((text : List ℕ) × MayEnd command input.now result text) ⊎ (result ≡ Outcome.OutOfMemory) }
 {
     match read_words(alloc, words) {
-        Ok(Some(command)) => answer(&Caller::new(permission), alloc, &command, input, sink),
+        Ok(Some(command)) => obey(permission, alloc, &command, input, sink),
         Ok(None) => Outcome::Usage,
         Err(_) => Outcome::OutOfMemory,
     }

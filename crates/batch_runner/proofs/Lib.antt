@@ -1,3 +1,4 @@
 pub mod Texts
+pub mod Serves
 pub mod LiveSetUp
 pub mod Demonstrated

@@ -11,18 +11,107 @@ ghost use Rattle.batch_plans.specs.ReplyText.{bad_text};
 ghost use Rattle.result_lines.specs.declared.verdicts.Verdict.{Verdict};
 ghost use Rattle.result_lines.specs.VerdictText.{verdict_text};
 ghost use Rattle.batch_serving.specs.declared.outcomes.Outcome.{Outcome as Outcome_};
+ghost use Rattle.batch_serving.specs.Effects.{Serves, Writes};
 ghost use Rattle.batch_serving.specs.Input.{IsInput, input_limit};
-ghost use Rattle.batch_serving.specs.Text.{IsBadFor, IsBrokenFor, IsReadBy, MayEnd};
+ghost use Rattle.batch_serving.specs.Text.{IsBadFor, IsBrokenFor, IsReadBy, MayEnd, ReadsInput};
 ghost use Rattle.batch_words.specs.declared.commands.Command.{Command as Command_};
-ghost use Rattle.batch_words.specs.Words.{command_of};
+ghost use Rattle.batch_words.specs.Words.{command_of, IsWithin};
 
-use crate::threads::ByThreads;
+use crate::demonstrating::demonstrate;
+use crate::exchanging::exchange;
+use crate::living::answer_live;
+use crate::rehearsing::rehearse_batch;
+use crate::running::run_batch;
+use aes_gcm::MayCheck;
 use batch_io::{Gate, PureSink, PureSource, Sink, Source};
-use batch_serving::{Outcome, obey};
-use batch_words::read_words;
+use batch_serving::{Outcome, ReadStop, judge, judge_live, read_input};
+use batch_words::{Command, read_words};
 use std::alloc::Global;
 use std::sync::Wait;
 use std::thread::Threads;
+
+// Does with an input what a command says.
+fn answer_input<R: Threads + Wait + Sync, K: Sink, G: Gate + Sync>(
+    rt: &R,
+    alloc: Global,
+    input: &[u8],
+    command: &Command,
+    sink: &mut K,
+    gate: &G,
+) -> Outcome
+    requires within { IsWithin command.now }
+    requires reads { ReadsInput command.now }
+    ensures { Writes K.written K.faults sink.old sink.new (MayEnd command.now input.now) result }
+{
+    match command {
+        Command::Run { workers, mult } => {
+            run_batch(rt, alloc, input, *workers, *mult, sink, gate)
+        }
+        Command::Live { workers, mult } => {
+            answer_live(rt, alloc, input, *workers, *mult, sink, gate)
+        }
+        Command::Rehearse { schedule } => {
+            rehearse_batch(rt, alloc, input, schedule.as_slice(), sink)
+        }
+        Command::Check { mult } => { judge(MayCheck::on_threads(rt), alloc, input, *mult, sink) }
+        Command::CheckLive { mult } => {
+            judge_live(MayCheck::on_threads(rt), alloc, input, *mult, sink)
+        }
+        Command::Capsules { mult } => exchange(rt, alloc, input, *mult, sink),
+        Command::Demo { .. } => unreachable!(),
+    }
+}
+
+// Reads an input and does with it what a command says.
+fn answer<R: Threads + Wait + Sync, S: Source, K: Sink, G: Gate + Sync>(
+    rt: &R,
+    alloc: Global,
+    command: &Command,
+    source: &mut S,
+    sink: &mut K,
+    gate: &G,
+) -> Outcome
+    requires within { IsWithin command.now }
+    requires reads { ReadsInput command.now }
+    ensures { Serves S.left S.faults K.written K.faults source.old source.new
+        sink.old sink.new command.now result }
+{
+    match read_input(alloc, source) {
+        Ok(input) => answer_input(rt, alloc, &input, command, sink, gate),
+        Err(ReadStop::Fault) => Outcome::ReadFault,
+        Err(ReadStop::OutOfMemory) => Outcome::OutOfMemory,
+    }
+}
+
+// Does what a command says.
+fn obey<R: Threads + Wait + Sync, S: Source, K: Sink, G: Gate + Sync>(
+    rt: &R,
+    alloc: Global,
+    command: &Command,
+    source: &mut S,
+    sink: &mut K,
+    gate: &G,
+) -> Outcome
+    requires { IsWithin command.now }
+    ensures serves { Serves S.left S.faults K.written K.faults source.old source.new
+        sink.old sink.new command.now result }
+    ensures unread { (seed messages lanes : ℕ) → command.now ≡ Command.Demo seed messages lanes
+        → (source.new ≡ source.old) × (result ≢ Outcome.ReadFault) }
+{
+    match command {
+        Command::Demo {
+            seed,
+            messages,
+            lanes,
+        } => demonstrate(rt, alloc, *seed, *messages, *lanes, sink, gate),
+        Command::Run { .. } => answer(rt, alloc, command, source, sink, gate),
+        Command::Live { .. } => answer(rt, alloc, command, source, sink, gate),
+        Command::Rehearse { .. } => answer(rt, alloc, command, source, sink, gate),
+        Command::Check { .. } => answer(rt, alloc, command, source, sink, gate),
+        Command::CheckLive { .. } => answer(rt, alloc, command, source, sink, gate),
+        Command::Capsules { .. } => answer(rt, alloc, command, source, sink, gate),
+    }
+}
 
 /// Does what the words ask for: reads an input from `source` and writes the text that comes of it to
 /// `sink`, and tells how the run ended. `words` doesn't hold the program's name.
@@ -109,7 +198,7 @@ pub fn serve_words<R: Threads + Wait + Sync, S: Source, K: Sink, G: Gate + Sync>
         → ((text : List ℕ) × MayEnd command input result text) ⊎ (result ≡ Outcome.OutOfMemory) }
 {
     match read_words(alloc, words) {
-        Ok(Some(command)) => obey(&ByThreads::new(rt, gate), alloc, &command, source, sink),
+        Ok(Some(command)) => obey(rt, alloc, &command, source, sink, gate),
         Ok(None) => Outcome::Usage,
         Err(_) => Outcome::OutOfMemory,
     }

@@ -24,12 +24,7 @@ use Rattle.batch_serving.specs.declared.outcomes.Outcome.{Outcome}
 use Rattle.batch_serving.specs.declared.outcomes.Outcome.TheVariants as outcomes
 use Rattle.batch_serving.specs.Input.{IsInput}
 use Rattle.batch_serving.proofs.Endings.{IsNoBadLine, IsOfBroken, OfInput, broken_by, no_bad_verdict, on_verdict, told_bad}
-use Rattle.batch_serving.specs.Text.{AnswersBy, IsBadFor, IsBroken, IsBrokenFor, IsJudged, IsReadBy, IsRehearsal, IsTold, Judges, MayEnd, front_by}
-
--- a command that reads its input
-abbrev ReadsInput : Command → Type 0
-ReadsInput (commands.Demo seed messages lanes) = ⊥
-ReadsInput _ = Unit {0}
+use Rattle.batch_serving.specs.Text.{AnswersBy, IsBadFor, IsBroken, IsBrokenFor, IsJudged, IsReadBy, IsRehearsal, IsTold, Judges, MayEnd, ReadsInput, front_by}
 
 -- ---- an input that is too large
 
@@ -99,42 +94,22 @@ ends_as_read command xs input (Some rest) outcome text reads (consumed, within, 
     let larger : most_input < length xs = omega (arith, full, ap length consumed, length-append input rest) in
     ends_when_large xs larger outcome text command reads (told_when_large input large outcome text command reads end)
 
-module _ (xs input : List ℕ) (old new : Option (List ℕ)) (outcome : Outcome) (text : List ℕ) where
-  ends_as_input : (command : Command) → ReadsInput command → old ≡ Some xs → IsInput old new input
-      → MayEnd command input outcome text → MayEnd command xs outcome text
-  ends_as_input command reads told read end =
-      ends_as_read command xs input new outcome text reads (subst (λ o. IsInput o new input) told read) end
-
-  -- what comes of `demo` is the same whatever the input
-  pub ends_as_told : (command : Command) → IsReadBy command old new input → old ≡ Some xs
-      → MayEnd command input outcome text → MayEnd command xs outcome text
-  ends_as_told (commands.Run workers mult) read told end =
-      ends_as_input (commands.Run workers mult) tt told read end
-  ends_as_told (commands.Live workers mult) read told end =
-      ends_as_input (commands.Live workers mult) tt told read end
-  ends_as_told (commands.Rehearse schedule) read told end =
-      ends_as_input (commands.Rehearse schedule) tt told read end
-  ends_as_told (commands.Demo seed messages lanes) read told end = end
-  ends_as_told (commands.Check mult) read told end =
-      ends_as_input (commands.Check mult) tt told read end
-  ends_as_told (commands.CheckLive mult) read told end =
-      ends_as_input (commands.CheckLive mult) tt told read end
-  ends_as_told (commands.Capsules mult) read told end =
-      ends_as_input (commands.Capsules mult) tt told read end
+pub ends_as_told : (command : Command) (xs input : List ℕ) (old new : Option (List ℕ)) (outcome : Outcome) (text : List ℕ)
+    → ReadsInput command → old ≡ Some xs → IsInput old new input → MayEnd command input outcome text → MayEnd command xs outcome text
+ends_as_told command xs input old new outcome text reads told read end =
+    ends_as_read command xs input new outcome text reads (subst (λ o. IsInput o new input) told read) end
 
 -- ---- who reads the input
 
 module _ (old new : Option (List ℕ)) (input : List ℕ) where
-  pub read_by : (command : Command)
-      → ((seed messages lanes : ℕ) → command ≢ commands.Demo seed messages lanes)
-      → IsInput old new input → IsReadBy command old new input
-  read_by (commands.Run workers mult) no_demo is = is
-  read_by (commands.Live workers mult) no_demo is = is
-  read_by (commands.Rehearse schedule) no_demo is = is
-  read_by (commands.Demo seed messages lanes) no_demo is = absurd (no_demo seed messages lanes refl)
-  read_by (commands.Check mult) no_demo is = is
-  read_by (commands.CheckLive mult) no_demo is = is
-  read_by (commands.Capsules mult) no_demo is = is
+  pub read_by : (command : Command) → ReadsInput command → IsInput old new input → IsReadBy command old new input
+  read_by (commands.Run workers mult) reads is = is
+  read_by (commands.Live workers mult) reads is = is
+  read_by (commands.Rehearse schedule) reads is = is
+  read_by (commands.Demo seed messages lanes) reads is = absurd reads
+  read_by (commands.Check mult) reads is = is
+  read_by (commands.CheckLive mult) reads is = is
+  read_by (commands.Capsules mult) reads is = is
 
   -- a bad line is one of an input
   pub input_of_bad : (command : Command) (line : ℕ) (reason : Reason) → IsBadFor command input line reason

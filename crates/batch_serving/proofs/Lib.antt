@@ -3,7 +3,5 @@ pub mod Ends
 pub mod Fronts
 pub mod Rehearsed
 pub mod Rooms
-pub mod Serves
-pub mod Told
 pub mod Replied
 pub mod Writing

@@ -111,6 +111,11 @@ Judges is_live (Err bad) input outcome text = IsTold bad outcome text
 
 -- ---- all commands
 
+-- a command that reads its input
+abbrev pub ReadsInput : Command → Type 0
+ReadsInput (commands.Demo seed messages lanes) = ⊥
+ReadsInput _ = Unit {0}
+
 -- the command's input: what was left, up to its end or to the most that is taken. `demo` takes nothing,
 -- and nothing is said of its input
 abbrev pub IsReadBy : Command → Option (List ℕ) → Option (List ℕ) → List ℕ → Type 0

@@ -1,10 +1,9 @@
 //! What may come of an input by a command, and the steps that all ways of serving it share.
 //!
 //! `MayEnd` of `specs/Text.antt` says how a command may end for an input, and with which text. Here
-//! are the definitions of that, and all commands over whoever serves their plans, a [`Server`]:
-//! [`obey`] reads a command's input, and [`answer`] does with it what the command says. Two crates
-//! above are servers: batch_runner by threads, with the program's top call, and batch_alone on the
-//! calling thread.
+//! are the definitions of that, and the steps that need no lanes: reading the input, setting up,
+//! judging, writing. Two crates above serve lanes: batch_runner by threads, with the program's top
+//! call, and batch_alone on the calling thread.
 //!
 //! `run` and `rehearse` work in this order: read the batch by its grammar; set up the keys and
 //! contexts (RFC 9180, 5.1); take all memory for the replies and the journals; do the calls (RFC 9180,
@@ -13,31 +12,25 @@
 //! its context's journal.
 //!
 //! A contract sees a source and a sink as the bytes that they report and as their counts of faults.
-//! Each [`Outcome`] but `OutOfMemory` has its cause there. Only a server may start threads or wait.
+//! Each [`Outcome`] but `OutOfMemory` has its cause there. Nothing here starts a thread or waits.
 //!
 //! Tests: `serving_tests`.
 #![tactic(auto)]
 
-mod answering;
-mod commands;
-mod demonstrating;
 mod judging;
 mod laws;
 mod multipliers;
 mod outcomes;
 mod reading;
 mod replying;
-mod servers;
 mod setting_up;
 mod telling;
 
-pub use commands::{answer, obey};
 pub use judging::{judge, judge_live};
 pub use laws::written_replies_are_legal;
 pub use multipliers::Named;
 pub use outcomes::{Outcome, status};
 pub use reading::{ReadStop, read_input};
 pub use replying::{tell_answered, tell_exchange, tell_live_run};
-pub use servers::Server;
 pub use setting_up::{Begun, begin};
 pub use telling::{tell_fault, tell_report};

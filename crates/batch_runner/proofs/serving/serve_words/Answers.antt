@@ -3,7 +3,7 @@ use Rattle.std.specs.Io.KnownBytes.{Appends}
 use Rattle.batch_serving.specs.Text.{MayEnd}
 use Rattle.batch_serving.proofs.Ends.{bad_line, broken_result, input_of_bad, input_of_broken}
 use Rattle.batch_serving.proofs.Endings.{OfInput}
-use Rattle.batch_serving.proofs.Serves.{whole_text}
+use Rattle.batch_runner.proofs.Serves.{whole_text}
 use Rattle.batch_runner.proofs.serving.serve_words.Goals as goal
 
 pub returns-in-Ok-Some-clause-done : goal.returns-in-Ok-Some-clause-done

@@ -1,0 +1,72 @@
+//! A batch, answered in the order of a schedule: `rehearse`.
+
+ghost use Rattle.std.specs.Prelude.{IfOk};
+ghost use Rattle.batch_plans.specs.Limits.{IsPlain, IsWithinLimits};
+ghost use Rattle.batch_plans.specs.ReplyText.{answers_text, IsAnswered};
+ghost use Rattle.request_frames.specs.Batch.{batch};
+ghost use Rattle.batch_serving.specs.Effects.{Writes};
+ghost use Rattle.batch_serving.specs.Text.{AnswersBy, IsRehearsal};
+
+use batch_io::Sink;
+use batch_plans::{Answers, Plan};
+use batch_serving::{Begun, Outcome, begin, tell_answered, tell_fault};
+use batch_words::Mult;
+use context_core::rehearse_by;
+use request_frames::read_batch;
+use speculative_open::Crew;
+use std::alloc::{AllocError, Global};
+
+/// The answers to a plan whose lanes take their steps by a schedule. All memory is taken before the
+/// first step.
+pub(crate) fn rehearsed_by<C: Crew>(
+    crew: &C,
+    alloc: Global,
+    plan: &Plan,
+    mult: Mult,
+    schedule: &[u8],
+) -> Result<Answers, AllocError>
+    requires ready { C.ready crew.now }
+    requires within { IsWithinLimits plan.now }
+    requires plain { IsPlain plan.now }
+    ensures text { IfOk result (λ answers.
+        IsRehearsal schedule.now plan.now (answers_text plan.now answers)) }
+    ensures answered { IfOk result (IsAnswered plan.now) }
+{
+    let Begun {
+        standing,
+        mut answers,
+    } = begin(alloc, plan, mult)?;
+    rehearse_by(
+        crew,
+        alloc,
+        plan,
+        standing.as_slice(),
+        schedule,
+        &mut answers,
+    )?;
+    Ok(answers)
+}
+
+/// Answers a batch whose lanes take their steps by a schedule, or tells its first bad line. The crew
+/// tests the tags.
+pub(crate) fn rehearse_batch<C: Crew, K: Sink>(
+    crew: &C,
+    alloc: Global,
+    input: &[u8],
+    schedule: &[u8],
+    sink: &mut K,
+) -> Outcome
+    requires { C.ready crew.now }
+    ensures { Writes K.written K.faults sink.old sink.new
+        (AnswersBy (IsRehearsal schedule.now) (batch input.now)) result }
+{
+    match read_batch(alloc, input) {
+        Ok(plan) => {
+            let answered = rehearsed_by(crew, alloc, &plan, Mult::Lanes, schedule);
+            let outcome = tell_answered(&plan, answered, sink);
+            drop(plan);
+            outcome
+        }
+        Err(fault) => tell_fault(&fault, sink),
+    }
+}
