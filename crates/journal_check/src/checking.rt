@@ -31,7 +31,9 @@ use ring_core::Multiplier;
 use std::alloc::{AllocError, Global};
 use std::thread::Threads;
 
-// A reply that isn't the one that is due, or a guess that isn't right.
+// A reply that isn't the one that is due, or a guess that isn't right. It prints lines: kept by itself, so
+// that no caller's frame has room for a printer while the journals are run.
+#[inline(never)]
 fn wrong_line(alloc: Global, told: &Told, checked: &CheckedRun) -> Result<Verdict, AllocError>
     requires { IsRun checked.now }
     ensures { IfOk result (λ verdict. verdict
