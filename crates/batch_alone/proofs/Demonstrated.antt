@@ -4,7 +4,8 @@ use Rattle.hpke_context.specs.Contexts.{ContextView}
 use Rattle.call_places.specs.declared.entries.Mark.{Mark}
 use Rattle.batch_plans.specs.declared.plan.Plan.{Plan}
 use Rattle.batch_plans.specs.declared.replies.Answers.{Answers}
-use Rattle.batch_plans.specs.ReplyText.{lanes_lines, numbered}
+use Rattle.batch_plans.specs.ReplyText.{numbered}
+use Rattle.batch_plans.specs.AnswersText.{lanes_lines}
 use Rattle.context_books.specs.Runs.{IsAllowed, lane_call_lines, run_along}
 use Rattle.context_core.specs.Rehearsals.{rehearsed, AreAnswersOf}
 use Rattle.demo_runs.specs.Batches.{AnswersARun}

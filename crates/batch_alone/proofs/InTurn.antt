@@ -11,7 +11,8 @@ use Rattle.call_places.specs.declared.entries.Step.TheVariants.{Note}
 use Rattle.call_places.specs.Notes.{note_entry, live_at, AreLive}
 use Rattle.call_places.proofs.Live.{AreLive-push}
 use Rattle.hpke_context.specs.Contexts.{ContextView}
-use Rattle.context_books.specs.Batches.{Ask, Spot, spots, block, place, items_in, context_in, asked, all_asked}
+use Rattle.context_books.specs.Batches.{Ask, Spot, spots, block, place, items_in, context_in, asked}
+use Rattle.context_books.specs.Merging.{all_asked}
 use Rattle.context_books.specs.Histories.{stamped_on}
 use Rattle.context_books.specs.Legal.{is_same_place}
 use Rattle.context_books.specs.Lists.{In}

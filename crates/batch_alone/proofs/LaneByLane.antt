@@ -2,7 +2,8 @@
 use Rattle.std.proofs.Common.{◌≡◌, ◌≢◌, ℕ, suc, ◌+◌, List, [], ◌∷◌, ◌++◌, length, sym, refl, ap, ◌∙◌, subst, arith, append_assoc, Some}
 use Rattle.std.specs.Prelude.{slice_get, replicate, map}
 use Rattle.hpke_context.specs.Answers.{Cipher}
-use Rattle.context_books.specs.Batches.{Batch, Ask, Nothing, ToSeal, ToOpen, ToOpenAll, Spot, asked, all_asked, context_in}
+use Rattle.context_books.specs.Batches.{Batch, Ask, Nothing, ToSeal, ToOpen, ToOpenAll, Spot, asked, context_in}
+use Rattle.context_books.specs.Merging.{all_asked}
 use Rattle.context_books.proofs.Lists.{append-nil}
 use Rattle.context_core.specs.Core as core
 use Rattle.context_core.specs.Core.{Phase, Draw, Guess, Check, Commit, Finish, Task, phases, tasks, all_tasks, Lane, Core, Moved, moved, step, due_in, with_moved, happens_at, happens, all_happen, at_first, start, to_the_ends}

@@ -8,7 +8,8 @@ use Rattle.batch_plans.specs.declared.replies.KeyReply.{KeyReply}
 use Rattle.batch_plans.specs.declared.replies.ContextReply.{ContextReply}
 use Rattle.batch_plans.specs.declared.replies.Answers.{Answers}
 use Rattle.batch_plans.specs.Names.{line_count}
-use Rattle.batch_plans.specs.LiveText.{live_lines, live_text}
+use Rattle.batch_plans.specs.LiveText.{live_lines}
+use Rattle.batch_plans.specs.AnswersText.{live_text}
 use Rattle.context_table.specs.SetUp.{IsSetUp}
 use Rattle.context_table.specs.ReplyTo.{IsLiveReply}
 use Rattle.batch_alone.specs.LiveRuns.{IsALiveRun}

@@ -14,7 +14,7 @@ use Rattle.batch_plans.specs.declared.plan.Plan.{Plan}
 use Rattle.batch_plans.specs.declared.plan.CallLine.{CallLine}
 use Rattle.batch_plans.specs.declared.plan.CallLine.TheVariants as calls
 use Rattle.batch_plans.specs.declared.replies.CallRefusal.{CallRefusal}
-use Rattle.batch_plans.specs.Limits.{IsCallWithin}
+use Rattle.batch_plans.specs.Within.{IsCallWithin}
 use Rattle.context_books.specs.Asks.{asked_by, ask_unless, ask_of}
 use Rattle.context_books.specs.Standing.{call_refusal}
 use Rattle.context_books.proofs.Done.{length-messages}

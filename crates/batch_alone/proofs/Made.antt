@@ -18,11 +18,11 @@ use Rattle.batch_plans.specs.declared.replies.ContextReply.TheVariants as contex
 use Rattle.batch_plans.specs.declared.replies.ContextRefusal.TheVariants.{NoKey, NeedSecret, NoEnc, EncSize, PskPair, PskExtra, PskMissing}
 use Rattle.batch_plans.specs.declared.replies.LaneAnswers.{LaneAnswers}
 use Rattle.batch_plans.specs.declared.replies.Reply.{Reply}
-use Rattle.batch_plans.specs.Limits.{IsWithinLimits}
+use Rattle.batch_plans.specs.Within.{IsWithinLimits}
 use Rattle.batch_plans.specs.Names.{line_count}
 use Rattle.batch_plans.specs.Replies.{IsInRange, IsPrintable}
-use Rattle.batch_plans.specs.ReplyText.{reply_count, IsAnswered, UsesUp}
-use Rattle.context_books.specs.Standing.{AreOfLines}
+use Rattle.batch_plans.specs.AnswersText.{reply_count, IsAnswered, UsesUp}
+use Rattle.context_books.specs.ContextLines.{AreOfLines}
 use Rattle.context_books.proofs.LookedUp.{calls_looked}
 use Rattle.batch_alone.specs.Own.{add_reply, retire_reply, own_reply, put_first, with_own, with_own_replies}
 use Rattle.batch_alone.specs.Tables.{table_of, restamped}

@@ -21,13 +21,14 @@ use Rattle.batch_plans.specs.declared.replies.ContextRefusal.TheVariants.{NoKey,
 use Rattle.batch_plans.specs.declared.replies.Reply.{Reply}
 use Rattle.batch_plans.specs.declared.replies.Reply.TheVariants.{Blank, Sealed, Opened, Failed, Limit, Exported, Refused, Added, Retired}
 use Rattle.batch_plans.specs.Calls.{context_of, items_of}
-use Rattle.batch_plans.specs.Limits.{first_name, IsWithinLimits}
+use Rattle.batch_plans.specs.Limits.{first_name}
+use Rattle.batch_plans.specs.Within.{IsWithinLimits}
 use Rattle.batch_plans.specs.Names.{line_count, at_position}
 use Rattle.batch_plans.specs.Room.{served_or}
-use Rattle.batch_plans.specs.Lines.{reply_line, refused_line}
-use Rattle.batch_plans.specs.LiveText.{is_given}
-use Rattle.batch_plans.specs.ReplyText.{is_refused, reply_count, guess_line, calls_lines, numbered, all_lines, HasReplies, UsesUp}
-use Rattle.batch_plans.specs.ReplyText.UsesUp.{none, call_and_more}
+use Rattle.batch_plans.specs.Lines.{refused_line}
+use Rattle.batch_plans.specs.AnswersText.{reply_line, is_given, is_refused, reply_count, guess_line, calls_lines, HasReplies, UsesUp}
+use Rattle.batch_plans.specs.ReplyText.{numbered, all_lines}
+use Rattle.batch_plans.specs.AnswersText.UsesUp.{none, call_and_more}
 use Rattle.batch_plans.proofs.CallLines.{HasReplies-one, calls_lines-append, calls_lines-one}
 use Rattle.context_books.specs.Asks.{cipher_at}
 use Rattle.context_books.specs.Live.{LiveRun, run_of, was_live, looked_up, live_call_lines, add_line, retire_line}

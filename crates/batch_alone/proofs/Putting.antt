@@ -8,7 +8,7 @@ use Rattle.std.proofs.Math.Seq.{take-append_seam, drop-append_seam, set-append_s
 use Rattle.batch_plans.specs.declared.plan.CallLine.{CallLine}
 use Rattle.batch_plans.specs.declared.replies.Batch.{Batch}
 use Rattle.batch_plans.specs.declared.replies.Reply.{Reply}
-use Rattle.batch_plans.specs.ReplyText.{reply_count, UsesUp}
+use Rattle.batch_plans.specs.AnswersText.{reply_count, UsesUp}
 use Rattle.batch_alone.specs.Own.{put_first, put_at, with_own}
 use Rattle.batch_alone.specs.Tables.{SoFar, next_stamp, with_places}
 use Rattle.batch_alone.proofs.OwnLines.{uses_first, with_own-first, first_of}

@@ -14,10 +14,12 @@ use Rattle.batch_plans.specs.declared.replies.ContextReply.{ContextReply}
 use Rattle.batch_plans.specs.declared.replies.CallRefusal.TheVariants.{NoContext}
 use Rattle.batch_plans.specs.declared.replies.Reply.TheVariants.{Blank}
 use Rattle.batch_plans.specs.Calls.{context_of, items_of, refusal}
-use Rattle.batch_plans.specs.Limits.{first_name, IsWithinLimits}
+use Rattle.batch_plans.specs.Limits.{first_name}
+use Rattle.batch_plans.specs.Within.{IsWithinLimits}
 use Rattle.batch_plans.specs.Names.{line_count, position, at_position, all_live}
 use Rattle.batch_plans.specs.Room.{if_served, items_at, items_on, served_room, served_batches, served_or, call_room, call_replies, call_batches, blank_batch, blank_mark, lane_room, journal_room, room_for}
-use Rattle.context_books.specs.Standing.{refusal_on, export_limits, AreOfLines}
+use Rattle.context_books.specs.Standing.{refusal_on}
+use Rattle.context_books.specs.ContextLines.{export_limits, AreOfLines}
 use Rattle.context_books.proofs.Refusals.{refusal_agrees}
 
 module _ (plan : Plan) (contexts : List (Option ContextView)) (within : IsWithinLimits plan)

@@ -2,7 +2,7 @@
 use Rattle.std.proofs.Common.{◌≡◌, ◌⊎◌, ℕ, List, Option, subst, inl, inr}
 use Rattle.std.specs.Prelude.{◌≢◌}
 use Rattle.std.specs.Io.KnownBytes.{Appends}
-use Rattle.batch_io.specs.Outside.{Rose}
+use Rattle.batch_io.specs.Faults.{Rose}
 use Rattle.field_text.specs.declared.reasons.Reason.{Reason}
 use Rattle.batch_plans.specs.ReplyText.{bad_text}
 use Rattle.result_lines.specs.declared.verdicts.Verdict.{Verdict}

@@ -15,7 +15,8 @@ use Rattle.hpke_context.specs.Answers.{Item}
 use Rattle.hpke_context.specs.Contexts.{ContextView}
 use Rattle.context_books.specs.Batches.{Ask, Spot, place, block, items_in, context_in, item_in, item_in_call, with_context, lane_of}
 use Rattle.context_books.specs.Guesses.{AllGuessed, guess_at, missed_in}
-use Rattle.context_books.specs.Histories.{IsHistory, journals_of, marks_at, places, stamped_on}
+use Rattle.context_books.specs.Histories.{journals_of, marks_at, places, stamped_on}
+use Rattle.context_books.specs.Merging.{IsHistory}
 use Rattle.context_books.specs.Legal.{Legal, reply_of}
 use Rattle.context_books.specs.Lists.{In}
 use Rattle.context_books.proofs.HistoryJournals.{from}
@@ -31,15 +32,16 @@ use Rattle.batch_plans.specs.declared.replies.Answers.{Answers}
 use Rattle.batch_plans.specs.declared.replies.CallRefusal.{CallRefusal}
 use Rattle.batch_plans.specs.declared.replies.ContextReply.{ContextReply}
 use Rattle.batch_plans.specs.declared.replies.LaneAnswers.{LaneAnswers}
-use Rattle.batch_plans.specs.Limits.{IsWithinLimits}
+use Rattle.batch_plans.specs.Within.{IsWithinLimits}
 use Rattle.batch_plans.specs.Lines.{batch_line}
-use Rattle.batch_plans.specs.LiveText.{given_lines, lanes_given}
-use Rattle.batch_plans.specs.ReplyText.{numbered, all_lines, answered_lines, lanes_lines, UsesUp}
+use Rattle.batch_plans.specs.AnswersText.{given_lines, lanes_given, answered_lines, lanes_lines, UsesUp}
+use Rattle.batch_plans.specs.ReplyText.{numbered, all_lines}
 use Rattle.context_books.specs.Asks.{ask_unless, asked_by, ask_of, batch_of, cipher_at}
 use Rattle.context_books.specs.Live.{Noting, noting, LiveRun, run_of, looked_up, looked_up_plan, live_lane_lines, LegalTable, LiveHistory, IsAllowedLive}
 use Rattle.context_books.specs.LiveChecks.{note_ask, pairs, note_mark, call_mark, asks_with_notes, with_table, TellActs}
 use Rattle.context_books.specs.Runs.{Run, asks_of, journal_of, guesses_of, answer_line_of, call_lines, lane_call_lines, lines_unless, served_lines}
-use Rattle.context_books.specs.Standing.{call_refusal, AreOfLines}
+use Rattle.context_books.specs.Standing.{call_refusal}
+use Rattle.context_books.specs.ContextLines.{AreOfLines}
 use Rattle.context_books.proofs.LiveChecked.{live_history_is_one_list}
 use Rattle.context_books.proofs.LookedUp.{calls_looked}
 use Rattle.result_lines.proofs.LiveTexts.{each_legal}

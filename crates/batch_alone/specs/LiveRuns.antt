@@ -4,7 +4,7 @@ use Rattle.hpke_context.specs.Contexts.{ContextView}
 use Rattle.batch_plans.specs.declared.plan.Plan.{Plan}
 use Rattle.batch_plans.specs.declared.replies.Answers.{Answers}
 use Rattle.batch_plans.specs.ReplyText.{numbered}
-use Rattle.batch_plans.specs.LiveText.{lanes_given}
+use Rattle.batch_plans.specs.AnswersText.{lanes_given}
 use Rattle.context_books.specs.Live.{LiveRun, live_run_along, IsAllowedLive, live_lane_lines}
 
 -- the run of these answers, with these guesses

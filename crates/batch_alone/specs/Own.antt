@@ -13,7 +13,7 @@ use Rattle.batch_plans.specs.declared.replies.Reply.{Reply}
 use Rattle.batch_plans.specs.declared.replies.Reply.TheVariants as replies
 use Rattle.batch_plans.specs.declared.replies.LaneAnswers.{LaneAnswers}
 use Rattle.batch_plans.specs.Names.{line_count}
-use Rattle.batch_plans.specs.ReplyText.{reply_count}
+use Rattle.batch_plans.specs.AnswersText.{reply_count}
 use Rattle.context_books.specs.Live.{was_live}
 
 -- a context is added, or its psk inputs are at fault (RFC 9180, 5.1, VerifyPSKInputs)

@@ -1,10 +1,9 @@
 //! The words and an input, served by the calling thread.
 
-ghost use Rattle.std.specs.Prelude.{◌≡◌, ◌↔◌, ◌⊎◌, ◌≢◌, ℕ, List};
-ghost use Rattle.std.specs.Prelude.{map, Some, None};
+ghost use Rattle.std.specs.Prelude.{◌≡◌, ◌↔◌, ◌⊎◌, ◌≢◌, ℕ, List, map, Some, None};
 ghost use Rattle.std.specs.String.{string_bytes};
 ghost use Rattle.std.specs.Io.KnownBytes.{Appends};
-ghost use Rattle.batch_io.specs.Outside.{Rose};
+ghost use Rattle.batch_io.specs.Faults.{Rose};
 ghost use Rattle.field_text.specs.declared.reasons.Reason.{Reason};
 ghost use Rattle.field_text.specs.Printing.{AppendsPrefix};
 ghost use Rattle.batch_plans.specs.ReplyText.{bad_text};

@@ -3,8 +3,8 @@
 ghost use Rattle.std.specs.Prelude.{ℕ, ◌≡◌, ◌<◌, ◌≤◌, ◌+◌, [], false, drop, length, get_or, slice_get, slice_index_or, OnOk, List};
 ghost use Rattle.batch_plans.specs.declared.replies.Batch.{Batch};
 ghost use Rattle.batch_plans.specs.declared.replies.LaneAnswers.{LaneAnswers as LaneAnswers_};
-ghost use Rattle.batch_plans.specs.Limits.{IsWithinLimits};
-ghost use Rattle.batch_plans.specs.ReplyText.{reply_count as reply_count_of, UsesUp};
+ghost use Rattle.batch_plans.specs.Within.{IsWithinLimits};
+ghost use Rattle.batch_plans.specs.AnswersText.{reply_count as reply_count_of, UsesUp};
 ghost use Rattle.batch_alone.specs.Own.{add_reply, retire_reply, own_reply, put_at, with_own, with_own_replies};
 
 use batch_plans::{CallLine, CallRefusal, ContextRefusal, ContextReply, LaneAnswers, Plan, Reply};

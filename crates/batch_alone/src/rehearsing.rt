@@ -1,8 +1,8 @@
 //! A batch, answered in the order of a schedule: `rehearse`.
 
 ghost use Rattle.std.specs.Prelude.{IfOk};
-ghost use Rattle.batch_plans.specs.Limits.{IsPlain, IsWithinLimits};
-ghost use Rattle.batch_plans.specs.ReplyText.{answers_text, IsAnswered};
+ghost use Rattle.batch_plans.specs.Within.{IsPlain, IsWithinLimits};
+ghost use Rattle.batch_plans.specs.AnswersText.{answers_text, IsAnswered};
 ghost use Rattle.request_frames.specs.Batch.{batch};
 ghost use Rattle.batch_serving.specs.Effects.{Writes};
 ghost use Rattle.batch_serving.specs.Text.{AnswersBy, IsRehearsal};

@@ -1,9 +1,9 @@
 //! The run of a plan whose lanes add and retire contexts, one lane after another.
 
 ghost use Rattle.std.specs.Prelude.{◌≡◌, [], length, IfOk};
-ghost use Rattle.batch_plans.specs.Limits.{IsWithinLimits};
-ghost use Rattle.batch_plans.specs.ReplyText.{IsAnswered};
-ghost use Rattle.context_books.specs.Standing.{AreOfLines, export_limits};
+ghost use Rattle.batch_plans.specs.Within.{IsWithinLimits};
+ghost use Rattle.batch_plans.specs.AnswersText.{IsAnswered};
+ghost use Rattle.context_books.specs.ContextLines.{AreOfLines, export_limits};
 ghost use Rattle.context_core.specs.Rehearsals.{rehearsed, AreAnswersOf};
 ghost use Rattle.batch_alone.specs.LiveRuns.{IsALiveRun};
 

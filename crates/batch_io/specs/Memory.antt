@@ -1,6 +1,6 @@
 -- What contracts see of the two ends that lie in memory. Sizes are in bytes.
 use Rattle.std.specs.Prelude.{◌≡◌, ℕ, ◌-◌, ◌<◌, min, List, length, Contains}
-use Rattle.batch_io.specs.Outside.{raised}
+use Rattle.batch_io.specs.Faults.{raised}
 
 -- a source in memory
 pub record SourceView : Type 0 where

@@ -1,19 +1,12 @@
 -- What a read and a write do to the bytes that are told, and when they may fail.
 -- A byte string is a list of numbers below 256. What a source or a sink tells is Some of one, or None.
-use Rattle.std.specs.Prelude.{◌≡◌, ℕ, ◌+◌, ◌-◌, ◌^◌, ◌<◌, ◌≤◌, min, List, length, take, Option}
+use Rattle.std.specs.Prelude.{◌≡◌, ℕ, ◌<◌, ◌≤◌, List, length, take, Option}
 use Rattle.std.specs.Io.KnownBytes.{Consumes, Keeps, Appends, IsAtEnd}
 use Rattle.batch_io.specs.declared.outside.Got.{Got}
 use Rattle.batch_io.specs.declared.outside.Got.TheVariants as got
 use Rattle.batch_io.specs.declared.outside.Took.{Took}
 use Rattle.batch_io.specs.declared.outside.Took.TheVariants as took
-
--- a count of 64 bits, one higher or at its greatest value
-abbrev pub raised : ℕ → ℕ
-raised count = min (count + 1) (2 ^ 64 - 1)
-
--- a count of faults rose, or stands at its greatest value
-abbrev pub Rose : ℕ → ℕ → Type 0
-Rose before now = raised before ≤ now
+use Rattle.batch_io.specs.Faults.{raised}
 
 -- a read gave the next bytes, and none only at the end or for no room; or it failed, and took nothing
 abbrev pub Gives : Got → Option (List ℕ) → Option (List ℕ) → List ℕ → Type 0

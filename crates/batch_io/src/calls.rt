@@ -1,7 +1,7 @@
 //! The calls of an end in memory, which are to fail by their numbers.
 
 ghost use Rattle.std.specs.Prelude.{◌≡◌, ◌↔◌, IsTrue};
-ghost use Rattle.batch_io.specs.Outside.{raised};
+ghost use Rattle.batch_io.specs.Faults.{raised};
 ghost use Rattle.batch_io.specs.Memory.{NextFails};
 
 /// Which calls fail, by numbers from 1, and how many calls there were.

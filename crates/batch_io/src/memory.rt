@@ -1,7 +1,8 @@
 //! A source and a sink in memory, which move bytes in small steps and fail on demand.
 
 ghost use Rattle.std.specs.Prelude.{◌≡◌, ◌↔◌, ◌⊎◌, ◌<◌, ◌≤◌, ◌≢◌, ◌+◌, ◌++◌, length, Some, [], vec_len};
-ghost use Rattle.batch_io.specs.Outside.{Gives, Takes, raised, faults_after_read, faults_after_write};
+ghost use Rattle.batch_io.specs.Outside.{Gives, Takes, faults_after_read, faults_after_write};
+ghost use Rattle.batch_io.specs.Faults.{raised};
 ghost use Rattle.batch_io.specs.Memory.{NextFails, LacksRoom, most_given, most_taken};
 
 use crate::calls::Calls;

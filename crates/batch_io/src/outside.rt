@@ -24,7 +24,8 @@ pub enum Took {
 /// which rises with each `Failed`, up to the greatest `u64`, and with nothing else.
 pub trait Source {
     ghost use Rattle.std.specs.Prelude.{ℕ, List, Option, ◌≡◌, ◌≤◌};
-    ghost use Rattle.batch_io.specs.Outside.{Rose, Gives};
+    ghost use Rattle.batch_io.specs.Outside.{Gives};
+    ghost use Rattle.batch_io.specs.Faults.{Rose};
 
     // The bytes that are left, where the source tells them.
     ghost left: { Self → Option (List ℕ) };
@@ -49,7 +50,8 @@ pub trait Source {
 /// which rises with each `Failed`, up to the greatest `u64`, and with nothing else.
 pub trait Sink {
     ghost use Rattle.std.specs.Prelude.{ℕ, List, Option, ◌≡◌, ◌≤◌};
-    ghost use Rattle.batch_io.specs.Outside.{Rose, Takes};
+    ghost use Rattle.batch_io.specs.Outside.{Takes};
+    ghost use Rattle.batch_io.specs.Faults.{Rose};
 
     // The bytes that were written, where the sink tells them.
     ghost written: { Self → Option (List ℕ) };

@@ -10,9 +10,8 @@ use Rattle.batch_plans.specs.declared.replies.Reply.TheVariants.{Refused}
 use Rattle.batch_plans.specs.declared.replies.Batch.{Batch}
 use Rattle.batch_plans.specs.Calls.{items_of}
 use Rattle.batch_plans.specs.Room.{served_batches}
-use Rattle.batch_plans.specs.Lines.{reply_line}
-use Rattle.batch_plans.specs.ReplyText.{is_refused, reply_count, batch_count, guess_line, calls_lines, HasReplies, UsesUp}
-use Rattle.batch_plans.specs.ReplyText.UsesUp.{none, call_and_more}
+use Rattle.batch_plans.specs.AnswersText.{reply_line, is_refused, reply_count, batch_count, guess_line, calls_lines, HasReplies, UsesUp}
+use Rattle.batch_plans.specs.AnswersText.UsesUp.{none, call_and_more}
 
 -- ---- what one call has
 

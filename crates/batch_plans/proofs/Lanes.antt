@@ -2,7 +2,8 @@
 use Rattle.std.proofs.Common.{◌≡◌, ◌<◌, ◌+◌, ℕ, suc, List, [], ◌∷◌, length, get_or, refl, ap, ◌∙◌, add-zero, arith}
 use Rattle.batch_plans.specs.declared.plan.CallLine.{CallLine}
 use Rattle.batch_plans.specs.declared.replies.LaneAnswers.{LaneAnswers}
-use Rattle.batch_plans.specs.ReplyText.{answered_lines, lanes_lines, numbered}
+use Rattle.batch_plans.specs.ReplyText.{numbered}
+use Rattle.batch_plans.specs.AnswersText.{answered_lines, lanes_lines}
 
 -- the calls and the answers of the lane of this number
 pub record IsLane (lanes : List (List CallLine)) (answers : List LaneAnswers) (i : ℕ)

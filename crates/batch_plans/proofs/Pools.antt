@@ -11,8 +11,8 @@ use Rattle.batch_plans.specs.declared.replies.Reply.{Reply}
 use Rattle.batch_plans.specs.declared.replies.Reply.TheVariants.{Blank, Sealed, Opened, Failed, Limit, Exported, Refused, Added, Retired}
 use Rattle.batch_plans.specs.declared.replies.Batch.{Batch}
 use Rattle.batch_plans.specs.Replies.{IsInRange}
-use Rattle.batch_plans.specs.Lines.{reply_line, served_line, exported_line}
-use Rattle.batch_plans.specs.ReplyText.{reply_count, batch_count, guess_line, calls_lines}
+use Rattle.batch_plans.specs.Lines.{served_line, exported_line}
+use Rattle.batch_plans.specs.AnswersText.{reply_line, reply_count, batch_count, guess_line, calls_lines}
 
 -- a span's bytes, among the first bytes of the pool
 front_bytes : (size : ℕ) (pool : List ℕ) (span : Span) → IsInPool size span

@@ -10,7 +10,8 @@ use Rattle.call_places.specs.declared.spans.Item.{Item}
 use Rattle.batch_plans.specs.declared.plan.Plan.{Plan}
 use Rattle.batch_plans.specs.declared.plan.CallLine.{CallLine}
 use Rattle.batch_plans.specs.declared.plan.CallLine.TheVariants as calls
-use Rattle.batch_plans.specs.Limits.{first_name, items_of, all_items, size_of, text_size, IsNumber, IsCallWithin, IsWithinLimits, IsPlainCall, IsPlain}
+use Rattle.batch_plans.specs.Limits.{first_name, items_of, all_items, size_of}
+use Rattle.batch_plans.specs.Within.{text_size, IsNumber, IsCallWithin, IsWithinLimits, IsPlainCall, IsPlain}
 use Rattle.batch_plans.specs.Names.{position, at_position, all_live}
 use Rattle.batch_plans.specs.Room.{most_room, IsLaneWithin}
 use Rattle.batch_plans.proofs.Rooms.{lane_within}

@@ -8,7 +8,8 @@ use Rattle.batch_plans.specs.declared.plan.Plan.{Plan}
 use Rattle.batch_plans.specs.declared.plan.CallLine.{CallLine}
 use Rattle.batch_plans.specs.declared.plan.CallLine.TheVariants as calls
 use Rattle.batch_plans.specs.declared.replies.CallRefusal.{CallRefusal}
-use Rattle.batch_plans.specs.Limits.{items_of, items_from, size_of, text_size, all_items, all_sizes, all_texts, IsCallWithin, IsWithinLimits}
+use Rattle.batch_plans.specs.Limits.{items_of, items_from, size_of, all_items, all_sizes}
+use Rattle.batch_plans.specs.Within.{text_size, all_texts, IsCallWithin, IsWithinLimits}
 use Rattle.batch_plans.specs.Calls.{refusal}
 use Rattle.batch_plans.specs.Room.{opened_room, served_room, served_batches, served_or, call_room, call_replies, call_batches, most_room, all_most_room, IsLaneWithin}
 

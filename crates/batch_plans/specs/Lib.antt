@@ -11,3 +11,5 @@ pub mod Words
 pub mod Lines
 pub mod ReplyText
 pub mod LiveText
+pub mod Within
+pub mod AnswersText

@@ -1,16 +1,14 @@
 -- The lines of keys, contexts and replies, a format of this program's own. Each line ends with a
 -- line feed. Numbers are decimal without leading zeros, bytes are lower-case hex digits, and `-`
 -- stands for no bytes.
-use Rattle.std.specs.Prelude.{ℕ, List, [], ◌++◌, codes, decimal}
-use Rattle.call_places.specs.Spans.{span_bytes}
+use Rattle.std.specs.Prelude.{ℕ, List, ◌++◌, codes, decimal}
 use Rattle.field_text.specs.Printing.{hex_text}
 use Rattle.batch_plans.specs.declared.replies.KeyReply.{KeyReply}
 use Rattle.batch_plans.specs.declared.replies.KeyReply.TheVariants as keys
 use Rattle.batch_plans.specs.declared.replies.ContextReply.{ContextReply}
 use Rattle.batch_plans.specs.declared.replies.ContextReply.TheVariants as contexts
 use Rattle.batch_plans.specs.declared.replies.CallRefusal.{CallRefusal}
-use Rattle.batch_plans.specs.declared.replies.Reply.{Reply}
-use Rattle.batch_plans.specs.declared.replies.Reply.TheVariants.{Blank, Sealed, Opened, Failed, Limit, Exported, Refused, Added, Retired}
+use Rattle.batch_plans.specs.declared.replies.Reply.TheVariants.{Refused}
 use Rattle.batch_plans.specs.Words.{key_refusal_word, context_refusal_word, call_refusal_word}
 
 -- ---- keys and contexts
@@ -68,18 +66,6 @@ added_line = codes "added\n"
 
 abbrev pub retired_line : List ℕ
 retired_line = codes "retired\n"
-
--- the line of a reply, whose spans name bytes of the pool; a reply that was not given has none
-abbrev pub reply_line : List ℕ → Reply → List ℕ
-reply_line pool Blank = []
-reply_line pool (Sealed number text) = served_line (codes "sealed ") number (span_bytes pool text)
-reply_line pool (Opened number text) = served_line (codes "opened ") number (span_bytes pool text)
-reply_line pool (Failed number) = failed_line number
-reply_line pool Limit = limit_line
-reply_line pool (Exported text) = exported_line (span_bytes pool text)
-reply_line pool (Refused refusal) = refused_line refusal
-reply_line pool Added = added_line
-reply_line pool Retired = retired_line
 
 -- `batch G M`: what an opening of several messages guessed, and how many of them it missed
 abbrev pub batch_line : ℕ → ℕ → List ℕ

@@ -1,39 +1,13 @@
 -- The text that a batch is answered with whose lanes add and retire contexts while they are served,
 -- a format of this program's own. Numbers are decimal without leading zeros.
-use Rattle.std.specs.Prelude.{ℕ, Bool, true, false, List, [], ◌∷◌, ◌++◌, map, filter, take, drop, codes, decimal}
-use Rattle.std.specs.List.{concat}
+use Rattle.std.specs.Prelude.{ℕ, Bool, true, false, List, [], ◌∷◌, ◌++◌, map, take, drop, codes, decimal}
 use Rattle.call_places.specs.declared.entries.Entry.{Entry}
 use Rattle.call_places.specs.declared.entries.Mark.{Mark}
 use Rattle.call_places.specs.declared.entries.Step.{Step}
 use Rattle.call_places.specs.declared.entries.Step.TheVariants.{Note}
-use Rattle.batch_plans.specs.declared.plan.Plan.{Plan}
-use Rattle.batch_plans.specs.declared.plan.CallLine.{CallLine}
 use Rattle.batch_plans.specs.declared.replies.KeyReply.{KeyReply}
 use Rattle.batch_plans.specs.declared.replies.ContextReply.{ContextReply}
-use Rattle.batch_plans.specs.declared.replies.Reply.{Reply}
-use Rattle.batch_plans.specs.declared.replies.Reply.TheVariants.{Blank}
-use Rattle.batch_plans.specs.declared.replies.LaneAnswers.{LaneAnswers}
-use Rattle.batch_plans.specs.declared.replies.Answers.{Answers}
-use Rattle.batch_plans.specs.Names.{line_count}
-use Rattle.batch_plans.specs.ReplyText.{answered_lines, numbered, all_lines, setup_lines, lane_lines, mark_line, journal_lines, version_line}
-
--- ---- lanes
-
-abbrev pub is_given : Reply → Bool
-is_given Blank = false
-is_given reply = true
-
--- The lines of a lane's calls, by the replies that were given. Where an opening of several messages
--- is refused, so many replies are left over, and a guess at the end of all.
-abbrev pub given_lines : List CallLine → LaneAnswers → List (List ℕ)
-given_lines calls lane =
-    answered_lines calls (record lane { replies = filter is_given lane.replies })
-
--- those of each lane
-abbrev pub lanes_given : List (List CallLine) → List LaneAnswers → List (List (List ℕ))
-lanes_given [] answers = []
-lanes_given (calls ∷ lanes) [] = []
-lanes_given (calls ∷ lanes) (lane ∷ answers) = given_lines calls lane ∷ lanes_given lanes answers
+use Rattle.batch_plans.specs.ReplyText.{numbered, all_lines, setup_lines, lane_lines, mark_line, journal_lines, version_line}
 
 -- ---- journals
 
@@ -78,9 +52,3 @@ live_lines lines keys contexts lanes journals notes =
     ++ all_lines (numbered added_journal_lines 0 (drop lines journals))
     ++ table_lines notes
     ++ codes "end\n" ∷ []
-
--- the reply that these answers to a plan make up, whose notes are the table
-abbrev pub live_text : Plan → Answers → List ℕ
-live_text plan answers =
-    concat (live_lines (line_count plan) answers.keys answers.contexts
-    (lanes_given plan.lanes answers.lanes) answers.journals answers.notes)

@@ -16,7 +16,8 @@ use Rattle.batch_plans.specs.declared.replies.Reply.TheVariants.{Blank}
 use Rattle.batch_plans.specs.declared.replies.Batch.{Batch}
 use Rattle.batch_plans.specs.declared.replies.LaneAnswers.{LaneAnswers}
 use Rattle.batch_plans.specs.declared.replies.Answers.{Answers}
-use Rattle.batch_plans.specs.Limits.{items_of, items_from, size_of, text_size, IsCallWithin}
+use Rattle.batch_plans.specs.Limits.{items_of, items_from, size_of}
+use Rattle.batch_plans.specs.Within.{text_size, IsCallWithin}
 use Rattle.batch_plans.specs.Calls.{kind_of, context_of, keeps_guess, refusal}
 
 -- Nt of both AES-GCM suites (RFC 9180, 7.3)

@@ -1,11 +1,9 @@
 //! Room for the journals of a plan.
 
-ghost use Rattle.std.specs.Prelude.{◌≡◌, ◌+◌, ◌<◌, ◌^◌, ℕ, length, map};
-ghost use Rattle.std.specs.Prelude.{replicate, sum_by, slice_index, IfOk};
+ghost use Rattle.std.specs.Prelude.{◌≡◌, ◌+◌, ◌<◌, ◌^◌, ℕ, length, map, replicate, sum_by, slice_index, IfOk};
 ghost use Rattle.std.specs.List.{range_with_len};
 ghost use Rattle.batch_plans.specs.Limits.{items_of, all_items};
-ghost use Rattle.batch_plans.specs.Room.{items_on, all_items_on};
-ghost use Rattle.batch_plans.specs.Room.{blank_mark, journal_room};
+ghost use Rattle.batch_plans.specs.Room.{items_on, all_items_on, blank_mark, journal_room};
 
 use crate::calls::{items_of, served_on};
 use crate::plan::{CallLine, ContextLine, LaneLines};

@@ -24,9 +24,9 @@ use Rattle.batch_plans.specs.declared.plan.ContextLine.{ContextLine}
 use Rattle.batch_plans.specs.declared.replies.KeyReply.{KeyReply}
 use Rattle.batch_plans.specs.declared.replies.ContextReply.{ContextReply}
 use Rattle.batch_plans.specs.declared.replies.ContextReply.TheVariants.{Shared}
-use Rattle.batch_plans.specs.Limits.{IsWithinLimits}
+use Rattle.batch_plans.specs.Within.{IsWithinLimits}
 use Rattle.batch_plans.specs.Names.{line_count}
-use Rattle.request_frames.specs.Added.{IsLive, IsShare, name_added, names_added}
+use Rattle.request_frames.specs.LivePlans.{IsLive, IsShare, name_added, names_added}
 use Rattle.context_books.specs.Live.{add_line}
 use Rattle.context_books.specs.Standing.{standing_at}
 use Rattle.context_table.specs.Contexts.{exchange, outcome, reply_of, slot_of, scheduled_after, standing_by, suite_of}

@@ -2,7 +2,7 @@
 use Rattle.std.proofs.Common.{◌≡◌, ◌≤◌, ℕ, List, [], Option, Some, None, length, ◌∙◌, inl, inr, refl, subst, sym, arith}
 use Rattle.std.specs.Prelude.{◌≢◌}
 use Rattle.std.specs.Io.KnownBytes.{Appends, Consumes}
-use Rattle.batch_io.specs.Outside.{Rose}
+use Rattle.batch_io.specs.Faults.{Rose}
 use Rattle.batch_words.specs.declared.commands.Command.{Command}
 use Rattle.batch_words.specs.declared.commands.Command.TheVariants.{Demo}
 use Rattle.batch_serving.specs.declared.outcomes.Outcome.{Outcome}

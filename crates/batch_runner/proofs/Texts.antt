@@ -7,8 +7,9 @@ use Rattle.batch_plans.specs.declared.replies.KeyReply.{KeyReply}
 use Rattle.batch_plans.specs.declared.replies.ContextReply.{ContextReply}
 use Rattle.batch_plans.specs.declared.replies.Answers.{Answers}
 use Rattle.batch_plans.specs.Names.{line_count}
-use Rattle.batch_plans.specs.LiveText.{live_lines, live_text}
-use Rattle.batch_plans.specs.ReplyText.{reply_lines, answers_text}
+use Rattle.batch_plans.specs.LiveText.{live_lines}
+use Rattle.batch_plans.specs.AnswersText.{live_text, answers_text}
+use Rattle.batch_plans.specs.ReplyText.{reply_lines}
 use Rattle.context_table.specs.SetUp.{IsSetUp}
 use Rattle.lane_workers.specs.Gathered.{AreOfARun}
 use Rattle.lane_workers.specs.LiveGathered.{AreOfALiveRun}

@@ -1,10 +1,9 @@
 //! A batch whose lanes add and retire contexts, answered: `live`.
 
 ghost use Rattle.std.specs.Prelude.{◌<◌, ◌≤◌, IfOk};
-ghost use Rattle.batch_plans.specs.Limits.{IsWithinLimits};
-ghost use Rattle.batch_plans.specs.ReplyText.{IsAnswered};
-ghost use Rattle.batch_plans.specs.LiveText.{live_text};
-ghost use Rattle.request_frames.specs.Added.{IsLive};
+ghost use Rattle.batch_plans.specs.Within.{IsWithinLimits};
+ghost use Rattle.batch_plans.specs.AnswersText.{IsAnswered, live_text};
+ghost use Rattle.request_frames.specs.LivePlans.{IsLive};
 ghost use Rattle.request_frames.specs.Live.{live};
 ghost use Rattle.context_table.specs.ReplyTo.{IsLiveReply};
 ghost use Rattle.batch_serving.specs.Effects.{Writes};

@@ -5,12 +5,11 @@ use Rattle.std.specs.List.{join_with_byte}
 use Rattle.std.proofs.lemmas.Bool.{leb-true, leb-false}
 use Rattle.std.proofs.lemmas.List.{length-drop}
 use Rattle.field_text.specs.Cuts.{line_feed}
-use Rattle.field_text.specs.Lines.{FrontText, front}
+use Rattle.field_text.specs.Lines.{FrontText, front, bad}
 use Rattle.field_text.specs.declared.faults.BadBatch.{BadBatch}
 use Rattle.batch_plans.specs.Limits.{most_input}
 use Rattle.batch_plans.specs.declared.plan.Plan.{Plan}
 use Rattle.field_text.specs.declared.reasons.Reason.TheVariants.{Size}
-use Rattle.field_text.specs.Lines.{bad}
 use Rattle.request_frames.specs.Batch.{batch_lines, ended, front_batch}
 use Rattle.request_frames.specs.Live.{front_live, live_lines}
 use Rattle.batch_serving.specs.Text.{front_by}

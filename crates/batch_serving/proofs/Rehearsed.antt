@@ -6,8 +6,9 @@ use Rattle.batch_plans.specs.declared.plan.Plan.{Plan}
 use Rattle.batch_plans.specs.declared.replies.KeyReply.{KeyReply}
 use Rattle.batch_plans.specs.declared.replies.ContextReply.{ContextReply}
 use Rattle.batch_plans.specs.declared.replies.Answers.{Answers}
-use Rattle.batch_plans.specs.ReplyText.{reply_lines, answers_text}
-use Rattle.context_books.specs.Standing.{AreOfLines}
+use Rattle.batch_plans.specs.ReplyText.{reply_lines}
+use Rattle.batch_plans.specs.AnswersText.{answers_text}
+use Rattle.context_books.specs.ContextLines.{AreOfLines}
 use Rattle.context_books.specs.Runs.{run_text}
 use Rattle.context_table.specs.SetUp.{IsSetUp}
 use Rattle.context_core.specs.Rehearsals.{rehearsed, AreAnswersOf}

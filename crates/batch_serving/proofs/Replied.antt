@@ -1,7 +1,7 @@
 -- What a rehearsal writes, a run may write.
 use Rattle.std.proofs.Common.{◌≡◌, ◌⊎◌, true, false, inl, inr, ℕ, List}
 use Rattle.batch_plans.specs.declared.plan.Plan.{Plan}
-use Rattle.batch_plans.specs.Limits.{IsWithinLimits}
+use Rattle.batch_plans.specs.Within.{IsWithinLimits}
 use Rattle.context_core.specs.Rehearsals.{rehearsed}
 use Rattle.context_core.proofs.Allowed.{allowed}
 use Rattle.context_table.specs.ReplyTo.{IsReply, IsLiveReply}

@@ -2,7 +2,7 @@
 use Rattle.std.proofs.Common.{◌≡◌, ℕ, List, Option, Result, Ok, Err, refl, subst, sym}
 use Rattle.std.specs.Prelude.{◌≢◌, IfOk}
 use Rattle.std.specs.Io.KnownBytes.{Appends}
-use Rattle.batch_io.specs.Outside.{Rose}
+use Rattle.batch_io.specs.Faults.{Rose}
 use Rattle.field_text.specs.Lines.{bad}
 use Rattle.field_text.specs.Printing.{AppendsPrefix}
 use Rattle.field_text.specs.declared.reasons.Reason.{Reason}

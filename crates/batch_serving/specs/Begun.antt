@@ -1,10 +1,10 @@
 -- A plan whose keys and contexts were set up, before the first call is answered.
 use Rattle.std.specs.Prelude.{◌≡◌, length}
 use Rattle.batch_plans.specs.declared.plan.Plan.{Plan}
-use Rattle.batch_plans.specs.Limits.{IsPlain}
+use Rattle.batch_plans.specs.Within.{IsPlain}
 use Rattle.batch_plans.specs.Names.{all_live}
 use Rattle.batch_plans.specs.Room.{room_for}
-use Rattle.context_books.specs.Standing.{AreOfLines, export_limits}
+use Rattle.context_books.specs.ContextLines.{AreOfLines, export_limits}
 use Rattle.context_table.specs.SetUp.{IsSetUp}
 use Rattle.batch_serving.specs.declared.setting_up.Begun.{Begun}
 

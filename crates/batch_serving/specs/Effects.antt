@@ -3,7 +3,7 @@
 -- bytes, where they tell them, and how often they have failed.
 use Rattle.std.specs.Prelude.{◌≡◌, ◌≢◌, ◌⊎◌, ◌≤◌, ℕ, List, length, Option, Some, Result, Ok, Err}
 use Rattle.std.specs.Io.KnownBytes.{Consumes, Appends}
-use Rattle.batch_io.specs.Outside.{Rose}
+use Rattle.batch_io.specs.Faults.{Rose}
 use Rattle.field_text.specs.Printing.{AppendsPrefix}
 use Rattle.field_text.specs.declared.printing.Printed.{Printed}
 use Rattle.field_text.specs.declared.printing.Printed.TheVariants.{Whole, Failed}

@@ -11,15 +11,13 @@ use Rattle.request_frames.specs.Batch.{batch, front_batch, BadAt, FrontBadAt}
 use Rattle.context_books.specs.Runs.{run_text}
 use Rattle.context_table.specs.SetUp.{IsSetUp}
 use Rattle.context_table.specs.ReplyTo.{IsReply, IsLiveReply}
-use Rattle.request_frames.specs.Live.{live, front_live}
-use Rattle.request_frames.specs.Live.{BadAt as BadLiveAt, FrontBadAt as FrontBadLiveAt}
+use Rattle.request_frames.specs.Live.{live, front_live, BadAt as BadLiveAt, FrontBadAt as FrontBadLiveAt}
 use Rattle.context_core.specs.Rehearsals.{rehearsed}
 use Rattle.result_lines.specs.declared.verdicts.Verdict.{Verdict}
 use Rattle.result_lines.specs.declared.verdicts.Verdict.TheVariants.{Legal}
 use Rattle.result_lines.specs.VerdictText.{verdict_text}
 use Rattle.journal_check.specs.Verdicts.{IsVerdict, IsLiveVerdict}
-use Rattle.capsule_frames.specs.Capsules.{capsules}
-use Rattle.capsule_frames.specs.Capsules.{BadAt as BadCapsulesAt}
+use Rattle.capsule_frames.specs.Capsules.{capsules, BadAt as BadCapsulesAt}
 use Rattle.capsule_frames.specs.Replies.{IsCapsuleReply}
 use Rattle.demo_runs.specs.declared.report_lines.DemoReport.{DemoReport}
 use Rattle.demo_runs.specs.Demo.{IsDemo, report_text}

@@ -1,7 +1,8 @@
 //! A result, judged: `check` and `check --live`.
 
 ghost use Rattle.std.specs.Prelude.{◌≡◌, ◌≤◌, length, drop, true, false};
-ghost use Rattle.batch_plans.specs.Limits.{IsWithinLimits, most_input};
+ghost use Rattle.batch_plans.specs.Limits.{most_input};
+ghost use Rattle.batch_plans.specs.Within.{IsWithinLimits};
 ghost use Rattle.request_frames.specs.Batch.{front_batch};
 ghost use Rattle.batch_serving.specs.Effects.{Writes};
 ghost use Rattle.request_frames.specs.Live.{front_live};

@@ -2,7 +2,7 @@
 
 ghost use Rattle.std.specs.Prelude.{◌≡◌, ◌⊎◌, ℕ, List, true, false};
 ghost use Rattle.batch_plans.specs.declared.plan.Plan.{Plan};
-ghost use Rattle.batch_plans.specs.Limits.{IsWithinLimits};
+ghost use Rattle.batch_plans.specs.Within.{IsWithinLimits};
 ghost use Rattle.context_table.specs.ReplyTo.{IsReply, IsLiveReply};
 ghost use Rattle.result_lines.specs.declared.verdicts.Verdict.{Verdict};
 ghost use Rattle.batch_serving.specs.Text.{IsJudged, IsRehearsal};

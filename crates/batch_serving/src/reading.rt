@@ -2,7 +2,8 @@
 
 ghost use Rattle.std.specs.Prelude.{◌≡◌, ◌≢◌, ◌<◌, ◌≤◌, ℕ, List, length, take, drop, vec_len, IfOk, OnOk};
 ghost use Rattle.std.specs.Io.KnownBytes.{Consumes};
-ghost use Rattle.batch_io.specs.Outside.{Rose, Gives};
+ghost use Rattle.batch_io.specs.Outside.{Gives};
+ghost use Rattle.batch_io.specs.Faults.{Rose};
 ghost use Rattle.batch_serving.specs.Input.{IsInput, input_limit};
 
 use batch_io::{Got, Source};

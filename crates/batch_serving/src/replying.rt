@@ -1,8 +1,7 @@
 //! What was answered, written as a reply if there was memory for it.
 
 ghost use Rattle.std.specs.Prelude.{IfOk, Ok};
-ghost use Rattle.batch_plans.specs.ReplyText.{answers_text, IsAnswered};
-ghost use Rattle.batch_plans.specs.LiveText.{live_text};
+ghost use Rattle.batch_plans.specs.AnswersText.{answers_text, IsAnswered, live_text};
 ghost use Rattle.context_table.specs.ReplyTo.{IsLiveReply};
 ghost use Rattle.capsule_frames.specs.Replies.{AreReplies, IsCapsuleReply};
 ghost use Rattle.batch_serving.specs.Effects.{SaysReply, Writes};

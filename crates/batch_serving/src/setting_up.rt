@@ -1,7 +1,7 @@
 //! What stands before the first call of a plan is answered.
 
 ghost use Rattle.std.specs.Prelude.{IfOk};
-ghost use Rattle.batch_plans.specs.Limits.{IsWithinLimits};
+ghost use Rattle.batch_plans.specs.Within.{IsWithinLimits};
 ghost use Rattle.batch_serving.specs.Begun.{IsBegun};
 
 use crate::multipliers::Named;

@@ -4,8 +4,7 @@
 //! stands there while a batch is answered.
 
 ghost use Rattle.std.specs.Prelude.{◌≡◌, ◌≤◌};
-ghost use Rattle.batch_plans.specs.ReplyText.{IsAnswered, answers_text};
-ghost use Rattle.batch_plans.specs.LiveText.{live_text};
+ghost use Rattle.batch_plans.specs.AnswersText.{IsAnswered, answers_text, live_text};
 ghost use Rattle.result_lines.specs.VerdictText.{verdict_text};
 ghost use Rattle.capsule_frames.specs.Text.{capsules_text};
 ghost use Rattle.demo_runs.specs.Demo.{report_text};

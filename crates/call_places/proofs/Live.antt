@@ -7,7 +7,7 @@ use Rattle.call_places.specs.declared.entries.Act.{Act}
 use Rattle.call_places.specs.declared.entries.Act.TheVariants.{Add, Retire, Look}
 use Rattle.call_places.specs.declared.entries.Step.{Step}
 use Rattle.call_places.specs.declared.entries.Entry.{Entry}
-use Rattle.call_places.specs.Entries.{last_of}
+use Rattle.call_places.specs.Orders.{last_of}
 use Rattle.call_places.specs.Notes.{note_entry, adds, retires, is_added, live_at, TellsLive, AreLive}
 
 -- whether the name is live after a step, where it was before or not

@@ -7,7 +7,7 @@ use Rattle.call_places.specs.declared.entries.Act.TheVariants.{Add, Retire}
 use Rattle.call_places.specs.declared.entries.Step.{Step}
 use Rattle.call_places.specs.declared.entries.Step.TheVariants.{Note}
 use Rattle.call_places.specs.declared.entries.Entry.{Entry}
-use Rattle.call_places.specs.Entries.{last_of}
+use Rattle.call_places.specs.Orders.{last_of}
 
 -- the entry of a note
 abbrev pub note_entry : Place → ℕ → ℕ → Act → Bool → Entry

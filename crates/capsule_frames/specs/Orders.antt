@@ -1,7 +1,8 @@
 -- ---- for the proofs: the lines in the order in which they are done, all asks, then all answers,
 -- then all takes
 use Rattle.std.specs.Prelude.{◌≡◌, ℕ, ◌+◌, List, [], ◌∷◌, take, Option, Some, None, Result, IfOk, slice_get}
-use Rattle.batch_plans.specs.Limits.{most_field, IsField}
+use Rattle.batch_plans.specs.Limits.{most_field}
+use Rattle.batch_plans.specs.Within.{IsField}
 use Rattle.batch_plans.specs.declared.plan.Plan.{Plan}
 use Rattle.batch_plans.specs.declared.replies.KeyReply.{KeyReply}
 use Rattle.capsule_frames.specs.Forms.{most_text, most_request}

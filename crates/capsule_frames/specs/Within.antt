@@ -1,7 +1,8 @@
 -- What every plan of capsules that is read keeps.
 use Rattle.std.specs.Prelude.{◌≢◌, ℕ, ◌≤◌, List, length, All, Option, IsSome}
 use Rattle.hkdf_labelled.specs.declared.suites.Aead.TheVariants.{ExportOnly}
-use Rattle.batch_plans.specs.Limits.{most_field, IsField, IsWithinLimits}
+use Rattle.batch_plans.specs.Limits.{most_field}
+use Rattle.batch_plans.specs.Within.{IsField, IsWithinLimits}
 pub use Rattle.request_frames.specs.KeyForms.{IsMessageWithin}
 use Rattle.capsule_frames.specs.declared.words.CapsuleWord.{CapsuleWord}
 use Rattle.capsule_frames.specs.declared.lines.CapsuleLine.{CapsuleLine}

@@ -2,7 +2,7 @@
 
 ghost use Rattle.std.specs.Prelude.{◌≡◌, ◌≢◌, ◌^◌, ◌<◌, ◌≤◌, length, IfOk, IsSome};
 ghost use Rattle.hkdf_labelled.specs.declared.suites.Aead.TheVariants.{ExportOnly};
-ghost use Rattle.batch_plans.specs.Limits.{IsField};
+ghost use Rattle.batch_plans.specs.Within.{IsField};
 ghost use Rattle.context_table.specs.Slots.{view_of, HoldKeys};
 ghost use Rattle.capsule_frames.specs.Forms.{most_text};
 ghost use Rattle.capsule_frames.specs.Within.{IsWithin};

@@ -2,7 +2,7 @@
 
 ghost use Rattle.std.specs.Prelude.{◌≡◌, ℕ, ◌⊎◌, IfOk, List};
 ghost use Rattle.field_text.specs.declared.reasons.Reason.{Reason};
-ghost use Rattle.field_text.specs.Lines.{Finds};
+ghost use Rattle.field_text.specs.Readings.{Finds};
 ghost use Rattle.request_frames.specs.Batch.{refusal, no_memory};
 ghost use Rattle.capsule_frames.specs.declared.lines.CapsulePlan.{CapsulePlan};
 ghost use Rattle.capsule_frames.specs.Capsules.{Spells, BadAt, capsules};

@@ -20,7 +20,7 @@ pub(crate) struct Sent<'p> {
 
 impl<'p> Model for Sent<'p> {
     ghost use Rattle.std.specs.Prelude.{◌≤◌, length};
-    ghost use Rattle.hpke_context.specs.Contexts.{HasCipher};
+    ghost use Rattle.hpke_context.specs.Calls.{HasCipher};
     ghost use Rattle.capsule_frames.specs.Results.{SentView};
 
     ghost Value = { SentView };
@@ -33,7 +33,7 @@ impl<'p> Model for Sent<'p> {
 
 impl<'p> Sent<'p> {
     ghost use Rattle.std.specs.Prelude.{◌≡◌, ◌≤◌, length};
-    ghost use Rattle.hpke_context.specs.Contexts.{HasCipher};
+    ghost use Rattle.hpke_context.specs.Calls.{HasCipher};
 
     pub(crate) fn new(asked: Asked, request: ByteList, text: &'p [u8]) -> Sent<'p>
         requires cipher { HasCipher asked.context }

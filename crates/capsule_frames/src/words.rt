@@ -2,7 +2,8 @@
 
 ghost use Rattle.std.specs.Prelude.{◌≡◌, ◌≤◌, length, sum_by, OnOk};
 ghost use Rattle.std.specs.Str.{bytes_eq};
-ghost use Rattle.field_text.specs.Fields.{Reads, next};
+ghost use Rattle.field_text.specs.Fields.{next};
+ghost use Rattle.field_text.specs.Readings.{Reads};
 ghost use Rattle.capsule_frames.specs.Words.{line_word as line_word_of, draws};
 ghost use Rattle.capsule_frames.specs.Forms.{cipher as cipher_field};
 

@@ -5,7 +5,8 @@ use Rattle.std.proofs.lemmas.List.{get_or_default}
 use Rattle.call_places.specs.declared.entries.Entry.{Entry}
 use Rattle.call_places.specs.declared.entries.Step.{Step}
 use Rattle.call_places.specs.declared.entries.Step.TheVariants.{Sealed, SealLimit, Opened, Failed, OpenLimit, Note}
-use Rattle.call_places.specs.Entries.{own, seq_of, StampsBelow, StampsRise}
+use Rattle.call_places.specs.Entries.{own, seq_of, StampsBelow}
+use Rattle.call_places.specs.Orders.{StampsRise}
 use Rattle.context_books.specs.Entries.{number_after, AtNumbers}
 use Rattle.context_books.proofs.EntryNumbers.{to_each, from_each, last_number, last_is, seq_of-push}
 use Rattle.context_books.specs.Lists.{EachFrom}

@@ -14,9 +14,9 @@ use Rattle.batch_plans.specs.declared.replies.Batch.{Batch}
 use Rattle.batch_plans.specs.Replies.{IsInRange}
 use Rattle.batch_plans.specs.Progress.{Progress, begun, with_reply, with_batch}
 use Rattle.batch_plans.specs.Room.{served_batches}
-use Rattle.batch_plans.specs.Lines.{reply_line, refused_line}
-use Rattle.batch_plans.specs.ReplyText.{is_refused, guess_line, calls_lines, HasReplies, UsesUp}
-use Rattle.batch_plans.specs.ReplyText.UsesUp.{none}
+use Rattle.batch_plans.specs.Lines.{refused_line}
+use Rattle.batch_plans.specs.AnswersText.{reply_line, is_refused, guess_line, calls_lines, HasReplies, UsesUp}
+use Rattle.batch_plans.specs.AnswersText.UsesUp.{none}
 use Rattle.batch_plans.proofs.CallLines.{HasReplies-one, HasReplies-refused, HasReplies-opening, UsesUp-push, UsesUp-push_replies, calls_lines-push, calls_lines-push_replies}
 use Rattle.batch_plans.proofs.Pools.{calls_lines-same}
 use Rattle.context_books.specs.Writing.{PutsReplies}

@@ -11,7 +11,8 @@ use Rattle.call_places.specs.Spans.{span_bytes}
 use Rattle.hpke_context.specs.Answers as hpke
 use Rattle.hpke_context.specs.Answers.{Seal, Unseal, Cipher, answer}
 use Rattle.hpke_context.specs.Contexts.{ContextView, exported_by}
-use Rattle.context_books.specs.Batches.{Ask, unseal, items_in, context_in, block, place, own_places, lane_of, lane_places}
+use Rattle.context_books.specs.Batches.{Ask, unseal, items_in, context_in, block, place, own_places, lane_of}
+use Rattle.context_books.specs.Merging.{lane_places}
 use Rattle.context_books.specs.Legal.{reply_of, number_of, due_after}
 use Rattle.context_books.specs.Guesses.{guess_at, missed, missed_in}
 use Rattle.context_books.specs.Entries.{numbers_from}
@@ -21,15 +22,15 @@ use Rattle.context_books.proofs.Legals.{all_asked_item}
 use Rattle.batch_plans.specs.declared.plan.CallLine.{CallLine}
 use Rattle.batch_plans.specs.declared.plan.CallLine.TheVariants as calls
 use Rattle.batch_plans.specs.declared.replies.CallRefusal.{CallRefusal}
-use Rattle.batch_plans.specs.Limits.{items_from, IsCallWithin}
+use Rattle.batch_plans.specs.Limits.{items_from}
+use Rattle.batch_plans.specs.Within.{IsCallWithin}
 use Rattle.batch_plans.specs.Lines.{batch_line, exported_line, refused_line}
 use Rattle.context_books.specs.Standing.{call_refusal, standing_at}
 use Rattle.context_books.specs.Asks.{asked_by, cipher_at}
 use Rattle.context_books.specs.Runs.{Run, asks_of, journal_of, guesses_of, answer_line, answer_line_of, place_line, served_lines, export_line, lines_unless, call_lines}
-use Rattle.context_books.specs.Lanes.{calls_of}
+use Rattle.context_books.specs.Lanes.{calls_of, StandsBehind}
 use Rattle.context_books.proofs.Placed.{call_replies_are, call_numbers_are}
 use Rattle.context_books.proofs.Done.{ask_served, length-messages, within_taken}
-use Rattle.context_books.specs.Lanes.{StandsBehind}
 
 -- where a front has of a lane's places those of the calls before, the next call's are not there
 pub not_yet : (run : Run) (lane number context : ℕ) (front : List Place)

@@ -7,7 +7,8 @@ use Rattle.std.proofs.lemmas.Bool.{cases_lt}
 use Rattle.call_places.specs.declared.entries.Place.{Place}
 use Rattle.hpke_context.specs.Answers.{Item, Cipher}
 use Rattle.call_places.specs.Messages.{SealedMessage}
-use Rattle.context_books.specs.Batches.{Batch, Ask, Nothing, ToSeal, ToOpen, ToOpenAll, unseal, with_context, item_in_call, item_of, block, place, all_asked, on, own_places, lane_of, lane_places}
+use Rattle.context_books.specs.Batches.{Batch, Ask, Nothing, ToSeal, ToOpen, ToOpenAll, unseal, with_context, item_in_call, item_of, block, place, on, own_places, lane_of}
+use Rattle.context_books.specs.Merging.{all_asked, lane_places}
 use Rattle.context_books.specs.Legal.{OpensOn, StandTogether, Legal, is_same_place}
 use Rattle.context_books.specs.Guesses.{Guessed, least_guess, greatest_guess}
 use Rattle.context_books.specs.Checks.{are_same, has_lanes, goes_on, goes_on_in, is_unbroken, is_legal, is_guessed}

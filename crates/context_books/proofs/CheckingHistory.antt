@@ -6,10 +6,11 @@ use Rattle.std.proofs.lemmas.Bool.{cases_lt}
 use Rattle.std.proofs.lemmas.List.{get_or_past, length-map, map-append}
 use Rattle.call_places.specs.declared.entries.Place.{Place}
 use Rattle.call_places.specs.declared.entries.Mark.{Mark}
-use Rattle.call_places.specs.Entries.{IsBefore}
-use Rattle.context_books.specs.Batches.{Batch, Ask, Nothing, ToSeal, ToOpen, ToOpenAll, unseal, with_context, item_in_call, Spot, spots, block, place, on, all_asked, lane_of}
+use Rattle.call_places.specs.Orders.{IsBefore}
+use Rattle.context_books.specs.Batches.{Batch, Ask, Nothing, ToSeal, ToOpen, ToOpenAll, unseal, with_context, item_in_call, Spot, spots, block, place, on, lane_of}
+use Rattle.context_books.specs.Merging.{all_asked, own_spots, IsHistory}
 use Rattle.context_books.specs.Legal.{IsInLaneOrder, OpensOn, StandTogether, is_same_place}
-use Rattle.context_books.specs.Histories.{mark, places, marks_at, HasLowerStamp, LegalHistory, journals_of, own_spots, IsHistory}
+use Rattle.context_books.specs.Histories.{mark, places, marks_at, HasLowerStamp, LegalHistory, journals_of}
 use Rattle.context_books.specs.Checks.{are_same, goes_on_in, is_unbroken, is_same_spot, is_same_mark, spots_stamped, by_stamps, has_lane_spots, is_history, is_legal_history}
 use Rattle.context_books.proofs.Members.{In-left, In-right, in_contains, contains_in, got, in_map, filter_in, in_range, none_in, RisesBy, rises_pairs}
 use Rattle.context_books.specs.Lists.{In}

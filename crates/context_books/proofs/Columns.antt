@@ -11,7 +11,8 @@ use Rattle.batch_plans.specs.declared.plan.ContextLine.{ContextLine}
 use Rattle.batch_plans.specs.declared.plan.CallLine.{CallLine}
 use Rattle.batch_plans.specs.Calls.{context_of}
 use Rattle.batch_plans.specs.Room.{items_on}
-use Rattle.context_books.specs.Standing.{AreOfLines, export_limits, refusal_on}
+use Rattle.context_books.specs.Standing.{refusal_on}
+use Rattle.context_books.specs.ContextLines.{AreOfLines, export_limits}
 use Rattle.context_books.specs.Quotas.{counts_of}
 use Rattle.context_books.proofs.Counts.{refused_call, other_context}
 

@@ -10,11 +10,13 @@ use Rattle.batch_plans.specs.declared.plan.ContextLine.{ContextLine}
 use Rattle.batch_plans.specs.declared.plan.Plan.{Plan}
 use Rattle.batch_plans.specs.declared.plan.CallLine.{CallLine}
 use Rattle.batch_plans.specs.declared.replies.CallRefusal.{CallRefusal}
-use Rattle.batch_plans.specs.Limits.{items_of, IsWithinLimits}
+use Rattle.batch_plans.specs.Limits.{items_of}
+use Rattle.batch_plans.specs.Within.{IsWithinLimits}
 use Rattle.batch_plans.specs.Calls.{kind_of, context_of}
 use Rattle.batch_plans.specs.Room.{takes_numbers, if_served, items_at, items_on, served_on}
 use Rattle.batch_plans.proofs.Counts.{items_on-le}
-use Rattle.context_books.specs.Standing.{call_refusal, export_limits, AreOfLines}
+use Rattle.context_books.specs.Standing.{call_refusal}
+use Rattle.context_books.specs.ContextLines.{export_limits, AreOfLines}
 use Rattle.context_books.proofs.Refusals.{refusal_agrees}
 use Rattle.context_books.specs.Quotas.{lane_quota, quotas_on, all_quotas}
 use Rattle.context_books.proofs.Sums.{sum_none, sum_swapped-le}

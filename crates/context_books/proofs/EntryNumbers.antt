@@ -10,7 +10,8 @@ use Rattle.hpke_context.specs.Answers.{Item, Seal, Unseal, Cipher, Answer, Seale
 use Rattle.hpke_context.specs.Answers as hpke
 use Rattle.context_books.specs.Batches.{Batch, block, place, items_of, item_or_none}
 use Rattle.context_books.specs.Legal.{due_after}
-use Rattle.context_books.specs.Entries.{step_for, steps_from, number_after, entries_from, entry_places, AtNumbers, FitsAt, Fits, LaneFits}
+use Rattle.context_books.specs.Entries.{step_for, steps_from, number_after, entries_from, AtNumbers, FitsAt, Fits, LaneFits}
+use Rattle.context_books.specs.Histories.{entry_places}
 use Rattle.context_books.specs.Lists.{EachFrom}
 
 -- ---- the number passed along

@@ -20,7 +20,8 @@ use Rattle.batch_plans.specs.declared.plan.Plan.{Plan}
 use Rattle.batch_plans.specs.declared.plan.CallLine.{CallLine}
 use Rattle.batch_plans.specs.declared.plan.CallLine.TheVariants as calls
 use Rattle.batch_plans.specs.declared.replies.CallRefusal.{CallRefusal}
-use Rattle.batch_plans.specs.Limits.{first_name, IsWithinLimits}
+use Rattle.batch_plans.specs.Limits.{first_name}
+use Rattle.batch_plans.specs.Within.{IsWithinLimits}
 use Rattle.batch_plans.specs.Names.{line_count, position, at_position}
 use Rattle.batch_plans.specs.LiveText.{tells_live}
 use Rattle.context_books.specs.Asks.{ask_unless, ask_of, asked_by}

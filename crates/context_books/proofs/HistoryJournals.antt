@@ -8,10 +8,11 @@ use Rattle.std.proofs.lemmas.List.FromFn.{get_or-map-range_with_len, length-map-
 use Rattle.std.proofs.lemmas.List.Sorted.{IsPermutation-refl, IsPermutation-cons, IsPermutation-trans, IsPermutation-append_right, IsPermutation-middle, length_permutation}
 use Rattle.call_places.specs.declared.entries.Place.{Place}
 use Rattle.call_places.specs.declared.entries.Mark.{Mark}
-use Rattle.call_places.specs.Entries.{IsBefore}
-use Rattle.context_books.specs.Batches.{Batch, Spot, spots, block, place, on, all_asked, lane_of, IsServed}
+use Rattle.call_places.specs.Orders.{IsBefore}
+use Rattle.context_books.specs.Batches.{Batch, Spot, spots, block, place, on, lane_of, IsServed}
+use Rattle.context_books.specs.Merging.{all_asked, own_spots, IsHistory}
 use Rattle.context_books.specs.Legal.{OpensOn, Legal}
-use Rattle.context_books.specs.Histories.{mark, places, stamps, marks_at, all_stamps, HasLowerStamp, HaveConsecutiveStamps, LegalMarks, LegalHistory, stamped_on, journals_of, own_spots, IsHistory}
+use Rattle.context_books.specs.Histories.{mark, places, stamps, marks_at, all_stamps, HasLowerStamp, HaveConsecutiveStamps, LegalMarks, LegalHistory, stamped_on, journals_of}
 use Rattle.context_books.proofs.Lists.{own_places-on, on-append, on-spots_same}
 use Rattle.context_books.proofs.Members.{contains_in, in_contains, contains_at, none_in, RisesBy, pairs_rise}
 use Rattle.context_books.specs.Lists.{In}

@@ -7,7 +7,8 @@ use Rattle.std.proofs.lemmas.List.Sums.{sum_by-cons}
 use Rattle.std.proofs.lemmas.List.Elements.{All-head, All-tail}
 use Rattle.call_places.specs.declared.entries.Place.{Place}
 use Rattle.hpke_context.specs.Contexts.{ContextView}
-use Rattle.context_books.specs.Batches.{spots, block, asked, all_asked, items_in, lane_of, lane_places, on, own_places}
+use Rattle.context_books.specs.Batches.{spots, block, asked, items_in, lane_of, on, own_places}
+use Rattle.context_books.specs.Merging.{all_asked, lane_places}
 use Rattle.context_books.proofs.Lists.{on-append, on-spots}
 use Rattle.context_books.specs.Lists.{In}
 use Rattle.context_books.proofs.Places.{in_own}
@@ -16,10 +17,11 @@ use Rattle.batch_plans.specs.declared.plan.Plan.{Plan}
 use Rattle.batch_plans.specs.declared.plan.CallLine.{CallLine}
 use Rattle.batch_plans.specs.declared.plan.CallLine.TheVariants as calls
 use Rattle.batch_plans.specs.declared.replies.CallRefusal.{CallRefusal}
-use Rattle.batch_plans.specs.Limits.{IsCallWithin, IsWithinLimits}
+use Rattle.batch_plans.specs.Within.{IsCallWithin, IsWithinLimits}
 use Rattle.batch_plans.specs.Room.{items_at, items_on, if_served, all_items_on}
 use Rattle.batch_plans.proofs.Rooms.{lane_within}
-use Rattle.context_books.specs.Standing.{call_refusal, export_limits, AreOfLines}
+use Rattle.context_books.specs.Standing.{call_refusal}
+use Rattle.context_books.specs.ContextLines.{export_limits, AreOfLines}
 use Rattle.context_books.specs.Asks.{asked_by, ask_unless, ask_of, batch_of}
 use Rattle.context_books.specs.Runs.{Run}
 use Rattle.context_books.proofs.Done.{lane_asks, length-messages}

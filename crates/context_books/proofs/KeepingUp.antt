@@ -13,8 +13,9 @@ use Rattle.batch_plans.specs.Calls.{refusal}
 use Rattle.batch_plans.specs.Room.{served_room, served_batches, lane_room, IsLaneWithin}
 use Rattle.batch_plans.specs.Progress.{Progress, begun, with_reply, with_batch}
 use Rattle.batch_plans.specs.Lines.{refused_line}
-use Rattle.batch_plans.specs.ReplyText.{guess_line, calls_lines}
-use Rattle.context_books.specs.Standing.{call_refusal, export_limits, AreOfLines}
+use Rattle.batch_plans.specs.AnswersText.{guess_line, calls_lines}
+use Rattle.context_books.specs.Standing.{call_refusal}
+use Rattle.context_books.specs.ContextLines.{export_limits, AreOfLines}
 use Rattle.context_books.specs.Runs.{Run, call_lines, lane_call_lines}
 use Rattle.context_books.specs.Lanes.{calls_of, done_lines}
 use Rattle.context_books.proofs.Refusals.{refusal_agrees}

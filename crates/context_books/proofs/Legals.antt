@@ -5,9 +5,10 @@ use Rattle.std.specs.List.{AllPairs}
 use Rattle.std.proofs.lemmas.Option.{slice_get_within}
 use Rattle.call_places.specs.declared.entries.Place.{Place}
 use Rattle.hpke_context.specs.Answers.{Item}
-use Rattle.call_places.specs.Entries.{IsBefore}
-use Rattle.context_books.specs.Batches.{Batch, Ask, items_in, context_in, with_context, block, place, asked, all_asked, on, own_places, lane_of, lane_places, item_in, item_in_call, IsServed}
-use Rattle.context_books.specs.Legal.{IsInLaneOrder, MergesLanes, Legal}
+use Rattle.call_places.specs.Orders.{IsBefore}
+use Rattle.context_books.specs.Batches.{Batch, Ask, items_in, context_in, with_context, block, place, asked, on, own_places, lane_of, item_in, item_in_call, IsServed}
+use Rattle.context_books.specs.Merging.{all_asked, lane_places, MergesLanes}
+use Rattle.context_books.specs.Legal.{IsInLaneOrder, Legal}
 use Rattle.context_books.proofs.Lists.{on-append, on-spots, is_cases}
 use Rattle.context_books.proofs.Members.{In-left, In-right, In-append, contains_in, in_contains, got, RisesBy, rises-append, rises-filter, pairs_rise, pairs_at, one_list}
 use Rattle.context_books.specs.Lists.{In}

@@ -3,8 +3,8 @@ use Rattle.std.proofs.Common.{◌≡◌, ◌≢◌, ℕ, zero, suc, ◌+◌, ◌
 use Rattle.std.specs.Prelude.{filter, slice_get, slice_set}
 use Rattle.std.proofs.lemmas.List.Elements.{filter-append}
 use Rattle.call_places.specs.declared.entries.Place.{Place}
-use Rattle.context_books.specs.Batches.{Ask, items_in, context_in, Spot, spots, block, place, asked, all_asked, on, own_places}
-use Rattle.context_books.specs.Histories.{own_spots}
+use Rattle.context_books.specs.Batches.{Ask, items_in, context_in, Spot, spots, block, place, asked, on, own_places}
+use Rattle.context_books.specs.Merging.{all_asked, own_spots}
 
 pub own_places-append : (l : ℕ) (xs ys : List Place) → own_places l (xs ++ ys) ≡ own_places l xs ++ own_places l ys
 own_places-append l xs ys = filter-append (λ p. p.lane == l) xs ys

@@ -14,8 +14,8 @@ use Rattle.call_places.specs.declared.entries.Step.TheVariants.{Sealed, SealLimi
 use Rattle.call_places.specs.Notes.{live_at, TellsLive, AreLive}
 use Rattle.context_books.specs.Batches.{Ask, Spot, lane_of, IsServed}
 use Rattle.context_books.specs.Checks.{is_legal_history}
-use Rattle.context_books.specs.Histories.{HasLowerStamp, LegalHistory, IsHistory, places, journals_of}
-use Rattle.context_books.specs.Entries.{entry_places}
+use Rattle.context_books.specs.Histories.{HasLowerStamp, LegalHistory, places, journals_of, entry_places}
+use Rattle.context_books.specs.Merging.{IsHistory}
 use Rattle.context_books.specs.Legal.{IsInLaneOrder, Legal}
 use Rattle.context_books.proofs.CheckingHistory.{legal_history_iff}
 use Rattle.context_books.proofs.Members.{contains_in, in_contains, in_range, in_map}

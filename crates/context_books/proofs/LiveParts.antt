@@ -5,11 +5,11 @@ use Rattle.std.specs.Prelude.{flat_map, Contains}
 use Rattle.std.proofs.lemmas.List.{map-append}
 use Rattle.call_places.specs.declared.entries.Entry.{Entry}
 use Rattle.call_places.specs.declared.entries.Mark.{Mark}
-use Rattle.call_places.specs.Entries.{IsBefore, stamps_of}
+use Rattle.call_places.specs.Entries.{stamps_of}
+use Rattle.call_places.specs.Orders.{IsBefore}
 use Rattle.hpke_context.specs.Contexts.{ContextView}
 use Rattle.context_books.specs.Batches.{Batch}
-use Rattle.context_books.specs.Entries.{entry_places}
-use Rattle.context_books.specs.Histories.{stamps, marks_at, all_stamps, HasLowerStamp, AreAllFrom0, LegalMarks}
+use Rattle.context_books.specs.Histories.{entry_places, stamps, marks_at, all_stamps, HasLowerStamp, AreAllFrom0, LegalMarks}
 use Rattle.context_books.specs.Lists.{In}
 use Rattle.context_books.proofs.Members.{contains_in, in_contains, in_map, map_in, In-left, In-right, In-append}
 use Rattle.batch_plans.specs.declared.plan.Plan.{Plan}

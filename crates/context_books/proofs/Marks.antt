@@ -4,7 +4,7 @@ use Rattle.std.specs.Prelude.{slice_get, slice_index_or}
 use Rattle.std.proofs.lemmas.List.{length-map}
 use Rattle.call_places.specs.declared.entries.Place.{Place}
 use Rattle.call_places.specs.declared.entries.Mark.{Mark}
-use Rattle.call_places.specs.Entries.{IsBefore}
+use Rattle.call_places.specs.Orders.{IsBefore}
 use Rattle.context_books.specs.Batches.{Batch, block, place}
 use Rattle.context_books.specs.Legal.{StandTogether, Legal}
 use Rattle.context_books.specs.Histories.{mark, places, marks_at, HasLowerStamp, LegalHistory}

@@ -10,7 +10,7 @@ use Rattle.call_places.specs.declared.entries.Step.TheVariants.{Note}
 use Rattle.call_places.specs.Notes.{adds, live_at, TellsLive}
 use Rattle.call_places.proofs.Live.{never_added}
 use Rattle.hpke_context.specs.Contexts.{ContextView}
-use Rattle.context_books.specs.Entries.{entry_places}
+use Rattle.context_books.specs.Histories.{entry_places}
 use Rattle.context_books.proofs.Members.{got, value_at, contains_at, at_contained, contains_in, in_contains, in_map}
 use Rattle.batch_plans.specs.declared.plan.Plan.{Plan}
 use Rattle.batch_plans.specs.declared.plan.CallLine.{CallLine}

@@ -5,7 +5,8 @@ use Rattle.std.specs.List.{range_with_len}
 use Rattle.call_places.specs.declared.entries.Place.{Place}
 use Rattle.hpke_context.specs.Answers.{Cipher, Item, Answer, Seal, Unseal, Sealed_at, Opened_at, Failed_at, At_limit, next, run}
 use Rattle.context_books.specs.Batches.{Batch, items_of}
-use Rattle.context_books.specs.Legal.{numbers_used, replies}
+use Rattle.context_books.specs.Legal.{replies}
+use Rattle.context_books.specs.Entries.{numbers_used}
 
 -- so many numbers, from this one on
 abbrev IsRun : ℕ → List ℕ → Type 0

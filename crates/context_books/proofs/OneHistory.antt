@@ -7,11 +7,12 @@ use Rattle.std.proofs.lemmas.List.FromFn.{fill_by_all}
 use Rattle.std.proofs.lemmas.List.Sorted.{IsPermutation-sym, Contains-permutation}
 use Rattle.call_places.specs.declared.entries.Place.{Place}
 use Rattle.call_places.specs.declared.entries.Mark.{Mark}
-use Rattle.call_places.specs.Entries.{IsBefore}
+use Rattle.call_places.specs.Orders.{IsBefore}
 use Rattle.hpke_context.specs.Answers.{Item}
-use Rattle.context_books.specs.Batches.{Batch, Spot, spots, block, place, all_asked, lane_of, lane_places, IsServed}
+use Rattle.context_books.specs.Batches.{Batch, Spot, spots, block, place, lane_of, IsServed}
+use Rattle.context_books.specs.Merging.{all_asked, lane_places, own_spots, IsHistory}
 use Rattle.context_books.specs.Legal.{OpensOn}
-use Rattle.context_books.specs.Histories.{mark, places, marks_at, all_stamps, HasLowerStamp, LegalHistory, stamped_on, journals_of, own_spots, IsHistory}
+use Rattle.context_books.specs.Histories.{mark, places, marks_at, all_stamps, HasLowerStamp, LegalHistory, stamped_on, journals_of}
 use Rattle.context_books.proofs.Members.{contains_in, in_contains, contains_at, at_contained, at_in, got, in_map, map_in, in_range, range_below, RisesBy, rises-filter, rises_pairs, pairs_at, one_list}
 use Rattle.context_books.specs.Lists.{In}
 use Rattle.context_books.proofs.Places.{not_both, either_before}

@@ -5,7 +5,8 @@ use Rattle.std.proofs.lemmas.List.{length-map}
 use Rattle.call_places.specs.declared.entries.Place.{Place}
 use Rattle.hpke_context.specs.Answers.{Cipher, Item, Seal, Unseal, answer, due, next}
 use Rattle.hpke_context.proofs.Runs.{due-append}
-use Rattle.context_books.specs.Batches.{Ask, ToSeal, ToOpen, ToOpenAll, unseal, block, place, asked, all_asked, on, own_places, lane_of, lane_places, item_of, items_of, item_in_call, item_or_none}
+use Rattle.context_books.specs.Batches.{Ask, ToSeal, ToOpen, ToOpenAll, unseal, block, place, asked, on, own_places, lane_of, item_of, items_of, item_in_call, item_or_none}
+use Rattle.context_books.specs.Merging.{all_asked, lane_places}
 use Rattle.context_books.specs.Legal.{OpensOn, StandTogether, Legal, reply_of, due_after}
 use Rattle.context_books.proofs.Lists.{on-append, on-spots_same, own_places-on, own_spots-all_asked, own_spots-all_asked_other, all_asked-append, append-nil}
 use Rattle.context_books.proofs.Members.{In-left, contains_in, none_in}

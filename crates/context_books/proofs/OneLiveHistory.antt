@@ -8,12 +8,11 @@ use Rattle.std.proofs.lemmas.List.{append-nil, map-append, get_or_past, length-m
 use Rattle.call_places.specs.declared.entries.Entry.{Entry}
 use Rattle.call_places.specs.declared.entries.Mark.{Mark}
 use Rattle.call_places.specs.declared.entries.Place.{Place}
-use Rattle.call_places.specs.Entries.{StampsRise}
+use Rattle.call_places.specs.Orders.{StampsRise}
 use Rattle.hpke_context.specs.Answers.{Item, Seal}
 use Rattle.hpke_context.specs.Contexts.{ContextView}
 use Rattle.context_books.specs.Batches.{Batch, Ask, Nothing, ToSeal, ToOpenAll, unseal, with_context, item_in_call, block, place, lane_of, IsServed}
-use Rattle.context_books.specs.Entries.{entry_places}
-use Rattle.context_books.specs.Histories.{mark, places, stamps, marks_at, all_stamps, HasLowerStamp, AreAllFrom0, LegalMarks, LegalHistory}
+use Rattle.context_books.specs.Histories.{entry_places, mark, places, stamps, marks_at, all_stamps, HasLowerStamp, AreAllFrom0, LegalMarks, LegalHistory}
 use Rattle.context_books.specs.Legal.{OpensOn, IsInLaneOrder, Legal}
 use Rattle.context_books.proofs.Members.{contains_in, in_contains, in_map, map_in, In-left, In-right, In-append, RisesBy, pairs_rise, rises_pairs, got}
 use Rattle.context_books.specs.Lists.{In}

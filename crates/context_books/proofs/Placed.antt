@@ -7,14 +7,14 @@ use Rattle.call_places.specs.declared.entries.Entry.{Entry}
 use Rattle.hpke_context.specs.Answers.{Item, Cipher, answer, next, run, due}
 use Rattle.context_books.specs.Batches.{Batch, Ask, items_in, context_in, block, place, lane_of, item_or_none, IsServed}
 use Rattle.context_books.specs.Legal.{reply_of, due_after, before, number_of}
-use Rattle.context_books.specs.Entries.{numbers_from, number_after, entry_places, FitsAt, Fits}
+use Rattle.context_books.specs.Entries.{numbers_from, number_after, FitsAt, Fits}
+use Rattle.context_books.specs.Histories.{entry_places}
 use Rattle.context_books.proofs.Members.{In-append}
-use Rattle.context_books.specs.Lists.{In}
+use Rattle.context_books.specs.Lists.{In, EachFrom}
 use Rattle.context_books.proofs.Places.{before_split}
 use Rattle.context_books.proofs.Runs.{due_after-append, drop_step, item_here}
 use Rattle.context_books.proofs.Replies.{reply_at}
 use Rattle.context_books.proofs.EntryNumbers.{to_each}
-use Rattle.context_books.specs.Lists.{EachFrom}
 use Rattle.context_books.specs.Lanes.{AllServed}
 
 -- a place, and behind it those of the next items

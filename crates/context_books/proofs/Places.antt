@@ -4,7 +4,7 @@ use Rattle.std.specs.List.{AllPairs}
 use Rattle.std.proofs.lemmas.Bool.{cases_lt, cases_eq}
 use Rattle.std.proofs.lemmas.List.{get_or_at}
 use Rattle.call_places.specs.declared.entries.Place.{Place}
-use Rattle.call_places.specs.Entries.{IsBefore}
+use Rattle.call_places.specs.Orders.{IsBefore}
 use Rattle.context_books.specs.Batches.{own_places}
 use Rattle.context_books.specs.Legal.{is_same_place, before}
 use Rattle.context_books.proofs.Members.{in_filter, filter_in, pairs_tail}

@@ -10,7 +10,8 @@ use Rattle.batch_plans.specs.declared.plan.ContextLine.{ContextLine}
 use Rattle.batch_plans.specs.declared.plan.CallLine.{CallLine}
 use Rattle.batch_plans.specs.declared.plan.CallLine.TheVariants.{Add, Retire}
 use Rattle.batch_plans.specs.declared.replies.CallRefusal.TheVariants.{NoContext}
-use Rattle.context_books.specs.Standing.{standing_at, refusal_on, call_refusal, limit_of, export_limits, IsOfLine, AreOfLines}
+use Rattle.context_books.specs.Standing.{standing_at, refusal_on, call_refusal}
+use Rattle.context_books.specs.ContextLines.{limit_of, export_limits, IsOfLine, AreOfLines}
 
 -- each hash has bytes
 exports : (kdf : Kdf) → (255 * hash_size kdf == 0) ≡ false

@@ -3,7 +3,7 @@ use Rattle.std.proofs.Common.{◌≡◌, ◌≢◌, ℕ, zero, suc, ◌+◌, ◌
 use Rattle.std.specs.Prelude.{Contains}
 use Rattle.std.specs.List.{AllPairs}
 use Rattle.call_places.specs.declared.entries.Place.{Place}
-use Rattle.call_places.specs.Entries.{IsBefore}
+use Rattle.call_places.specs.Orders.{IsBefore}
 use Rattle.context_books.specs.Batches.{Batch, place, block, IsServed}
 use Rattle.context_books.specs.Legal.{IsInLaneOrder, OpensOn, StandTogether, Legal}
 use Rattle.context_books.proofs.Members.{In-right, rises_pairs, pairs_back}

@@ -4,10 +4,10 @@ use Rattle.std.specs.Prelude.{slice_get}
 use Rattle.std.specs.List.{AllPairs}
 use Rattle.std.proofs.lemmas.List.{map-append}
 use Rattle.call_places.specs.declared.entries.Place.{Place}
-use Rattle.call_places.specs.Entries.{IsBefore}
-use Rattle.context_books.specs.Batches.{Ask, items_in, context_in, Spot, spots, block, asked, all_asked, own_places}
+use Rattle.call_places.specs.Orders.{IsBefore}
+use Rattle.context_books.specs.Batches.{Ask, items_in, context_in, Spot, spots, block, asked, own_places}
+use Rattle.context_books.specs.Merging.{all_asked, own_spots}
 use Rattle.context_books.specs.Legal.{IsInLaneOrder}
-use Rattle.context_books.specs.Histories.{own_spots}
 use Rattle.context_books.proofs.Members.{In-append, in_filter, filter_in, rises-append, pairs_at}
 use Rattle.context_books.specs.Lists.{In}
 use Rattle.context_books.proofs.Legals.{in_block, Rises, Rises-block, lane_ordered}

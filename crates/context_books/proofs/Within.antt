@@ -14,7 +14,8 @@ use Rattle.context_books.specs.Openings.{unseals}
 use Rattle.batch_plans.specs.declared.plan.Plan.{Plan}
 use Rattle.batch_plans.specs.declared.plan.CallLine.{CallLine}
 use Rattle.batch_plans.specs.declared.plan.CallLine.TheVariants as calls
-use Rattle.batch_plans.specs.Limits.{items_of, IsItemWithin, most_ciphertext, IsCallWithin, IsWithinLimits}
+use Rattle.batch_plans.specs.Limits.{items_of, most_ciphertext}
+use Rattle.batch_plans.specs.Within.{IsItemWithin, IsCallWithin, IsWithinLimits}
 use Rattle.batch_plans.specs.Calls.{context_of}
 use Rattle.batch_plans.specs.Room.{served_room, opened_room}
 use Rattle.batch_plans.proofs.Rooms.{has_item, lane_within}

@@ -7,8 +7,7 @@ use Rattle.batch_plans.specs.declared.replies.Reply.{Reply}
 use Rattle.batch_plans.specs.declared.replies.Reply.TheVariants.{Blank, Sealed, Opened, Failed, Limit, Exported, Refused, Added, Retired}
 use Rattle.batch_plans.specs.Replies.{IsInRange}
 use Rattle.batch_plans.specs.Progress.{Progress, with_room, with_pool, with_reply}
-use Rattle.batch_plans.specs.Lines.{reply_line}
-use Rattle.batch_plans.specs.ReplyText.{is_refused}
+use Rattle.batch_plans.specs.AnswersText.{reply_line, is_refused}
 use Rattle.batch_plans.proofs.Pools.{reply_lines-same}
 use Rattle.context_books.specs.Writing.{PutsReplies, WritesReply}
 

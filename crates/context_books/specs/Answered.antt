@@ -7,8 +7,8 @@ use Rattle.batch_plans.specs.declared.plan.CallLine.{CallLine}
 use Rattle.batch_plans.specs.Replies.{IsInRange}
 use Rattle.batch_plans.specs.Room.{call_room, call_replies, call_batches}
 use Rattle.batch_plans.specs.Progress.{Progress}
-use Rattle.batch_plans.specs.ReplyText.{calls_lines, UsesUp}
-use Rattle.context_books.specs.Standing.{export_limits}
+use Rattle.batch_plans.specs.AnswersText.{calls_lines, UsesUp}
+use Rattle.context_books.specs.ContextLines.{export_limits}
 use Rattle.context_books.specs.Runs.{Run}
 use Rattle.context_books.specs.Lanes.{calls_of, done_lines}
 

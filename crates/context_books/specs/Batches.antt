@@ -1,6 +1,6 @@
 -- A batch as its lanes of calls, each reduced to what it asks of a context, and the places of what
 -- is asked.
-use Rattle.std.specs.Prelude.{ℕ, zero, suc, ◌≡◌, ◌+◌, ◌==◌, cond, List, [], ◌∷◌, ◌++◌, length, map, filter, slice_get, slice_index_or, Option, Some, None}
+use Rattle.std.specs.Prelude.{ℕ, zero, suc, ◌≡◌, ◌+◌, ◌==◌, cond, List, [], ◌∷◌, length, map, filter, slice_get, slice_index_or, Option, Some, None}
 use Rattle.call_places.specs.declared.entries.Place.{Place}
 use Rattle.call_places.specs.Messages.{SealedMessage}
 use Rattle.hpke_context.specs.Answers.{Item, Seal, Unseal}
@@ -92,19 +92,10 @@ spots context (p ∷ ps) = record { context = context; place = p } ∷ spots con
 abbrev pub asked : ℕ → ℕ → Ask → List Spot
 asked lane call ask = spots (context_in ask) (block lane call 0 (length (items_in ask)))
 
--- those of all calls of a lane, from this call on, in order
-abbrev pub all_asked : ℕ → ℕ → List Ask → List Spot
-all_asked lane call [] = []
-all_asked lane call (ask ∷ asks) = asked lane call ask ++ all_asked lane (call + 1) asks
-
 -- the places on one context
 abbrev pub on : ℕ → List Spot → List Place
 on context [] = []
 on context (s ∷ ss) = cond (s.context == context) (s.place ∷ on context ss) (on context ss)
-
--- the places that a lane asks for on one context, in order
-abbrev pub lane_places : ℕ → ℕ → List Ask → List Place
-lane_places context lane asks = on context (all_asked lane 0 asks)
 
 -- the places of one lane, in their order
 abbrev pub own_places : ℕ → List Place → List Place

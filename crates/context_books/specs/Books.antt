@@ -3,7 +3,8 @@ use Rattle.std.specs.Prelude.{ℕ, ◌≡◌, ◌<◌, ◌≤◌, nat_lt, Bool, 
 use Rattle.call_places.specs.declared.entries.Entry.{Entry}
 use Rattle.call_places.specs.declared.entries.Step.{Step}
 use Rattle.call_places.specs.declared.entries.Step.TheVariants.{Sealed, SealLimit, Opened, Failed, OpenLimit, Note}
-use Rattle.call_places.specs.Entries.{own, seq_of, StampsRise}
+use Rattle.call_places.specs.Entries.{own, seq_of}
+use Rattle.call_places.specs.Orders.{StampsRise}
 use Rattle.call_places.specs.Quotas.{AreLeft}
 use Rattle.context_books.specs.Entries.{AtNumbers}
 use Rattle.context_books.specs.declared.book.Draw.{Draw}

@@ -5,10 +5,11 @@ use Rattle.std.specs.List.{list_all, range_with_len}
 use Rattle.call_places.specs.declared.entries.Place.{Place}
 use Rattle.call_places.specs.declared.entries.Mark.{Mark}
 use Rattle.hpke_context.specs.Answers.{Cipher}
-use Rattle.context_books.specs.Batches.{Batch, Ask, Nothing, ToSeal, ToOpen, ToOpenAll, Spot, spots, place, lane_of, lane_places, own_places, all_asked}
+use Rattle.context_books.specs.Batches.{Batch, Ask, Nothing, ToSeal, ToOpen, ToOpenAll, Spot, spots, place, lane_of, own_places}
+use Rattle.context_books.specs.Merging.{lane_places, all_asked, own_spots}
 use Rattle.context_books.specs.Legal.{is_same_place}
 use Rattle.context_books.specs.Guesses.{least_guess, greatest_guess}
-use Rattle.context_books.specs.Histories.{places, all_stamps, own_spots, journals_of}
+use Rattle.context_books.specs.Histories.{places, all_stamps, journals_of}
 
 -- ---- a journal
 

@@ -1,7 +1,7 @@
 -- Entries of a context, each a place with the step that was taken there, and the steps that the
 -- sequential context takes (RFC 9180, 5.2). The number of an entry is the sequence number that is
 -- due after the entries before it.
-use Rattle.std.specs.Prelude.{ℕ, ◌≡◌, ◌+◌, cond, List, [], ◌∷◌, map, slice_get, Some}
+use Rattle.std.specs.Prelude.{ℕ, ◌≡◌, ◌+◌, cond, List, [], ◌∷◌, slice_get, Some}
 use Rattle.call_places.specs.declared.entries.Place.{Place}
 use Rattle.call_places.specs.declared.entries.Step.{Step}
 use Rattle.call_places.specs.declared.entries.Step.TheVariants.{Sealed, SealLimit, Opened, Failed, OpenLimit}
@@ -45,9 +45,6 @@ entries_from lane call item stamp [] = []
 entries_from lane call item stamp (step ∷ steps) =
     entry (place lane call item) stamp step ∷ entries_from lane call (item + 1) (stamp + 1) steps
 
-abbrev pub entry_places : List Entry → List Place
-entry_places entries = map (λ e. e.place) entries
-
 -- ---- entry by entry
 
 -- of each entry by itself: P holds of its number and it
@@ -68,3 +65,13 @@ Fits batch context c entries = AtNumbers (FitsAt batch context c) entries
 abbrev pub LaneFits : Batch → ℕ → Cipher → ℕ → List Entry → Type 0
 LaneFits batch context c lane entries =
     AtNumbers (λ n e. e.place.lane ≡ lane → FitsAt batch context c n e) entries
+
+-- ---- numbers of answers
+
+-- the sequence numbers at which a list of answers sealed or opened, in its order
+abbrev pub numbers_used : List Answer → List ℕ
+numbers_used [] = []
+numbers_used (Sealed_at number ct ∷ answers) = number ∷ numbers_used answers
+numbers_used (Opened_at number text ∷ answers) = number ∷ numbers_used answers
+numbers_used (Failed_at number ∷ answers) = numbers_used answers
+numbers_used (At_limit ∷ answers) = numbers_used answers

@@ -1,18 +1,22 @@
 -- The journals of all contexts of a batch as one history. Each place carries a stamp, a number that
 -- says where it stands among the places of all journals.
-use Rattle.std.specs.Prelude.{ℕ, ◌≡◌, ◌≢◌, ◌==◌, ◌+◌, ◌<◌, ◌↔◌, cond, List, [], ◌∷◌, ◌++◌, length, map, filter, flat_map, Contains, slice_index_or, IsPermutation}
+use Rattle.std.specs.Prelude.{ℕ, ◌≡◌, ◌≢◌, ◌==◌, ◌+◌, ◌<◌, ◌↔◌, cond, List, [], ◌∷◌, length, map, flat_map, Contains, slice_index_or, IsPermutation}
 use Rattle.std.specs.List.{AllPairs, range_with_len}
 use Rattle.call_places.specs.declared.entries.Place.{Place}
 use Rattle.call_places.specs.declared.entries.Mark.{Mark}
-use Rattle.call_places.specs.Entries.{IsBefore}
-use Rattle.context_books.specs.Batches.{Batch, Spot, spots, block, place, lane_of, all_asked, IsServed}
+use Rattle.call_places.specs.Orders.{IsBefore}
+use Rattle.context_books.specs.Batches.{Batch, Spot, place, IsServed}
 use Rattle.context_books.specs.Legal.{OpensOn}
+use Rattle.call_places.specs.declared.entries.Entry.{Entry}
 
 abbrev pub mark : Place → ℕ → Mark
 mark p stamp = record { place = p; stamp = stamp }
 
 abbrev pub places : List Mark → List Place
 places marks = map (λ m. m.place) marks
+
+abbrev pub entry_places : List Entry → List Place
+entry_places entries = map (λ e. e.place) entries
 
 abbrev pub stamps : List Mark → List ℕ
 stamps marks = map (λ m. m.stamp) marks
@@ -78,17 +82,3 @@ journals_of contexts history =
     map (λ context. stamped_on context 0 history) (range_with_len 0 contexts)
 
 -- ---- one list of all places
-
--- the places of one lane in a history, in their order
-abbrev pub own_spots : ℕ → List Spot → List Spot
-own_spots lane ss = filter (λ s. s.place.lane == lane) ss
-
--- a list of places of so many contexts is a history of the batch
-pub record IsHistory (batch : Batch) (contexts : ℕ) (history : List Spot) : Type 0 where
-  pub within : (s : Spot) → Contains history s → s.context < contexts
-  -- each lane's places are those that it asks for, in order
-  pub lanes : (lane : ℕ) → own_spots lane history ≡ all_asked lane 0 (lane_of batch lane)
-  -- those of one opening of several messages stand next to one another
-  pub together : (context lane call n : ℕ) → OpensOn batch context lane call n
-      → (front after : List Spot)
-      × (history ≡ front ++ (spots context (block lane call 0 n) ++ after))

@@ -3,10 +3,10 @@
 use Rattle.std.specs.Prelude.{ℕ, ◌≡◌, ◌≢◌, ◌==◌, ◌&&◌, ◌↔◌, cond, Bool, List, [], ◌∷◌, ◌++◌, length, Contains, slice_get, Option, Some, None}
 use Rattle.std.specs.List.{AllPairs}
 use Rattle.call_places.specs.declared.entries.Place.{Place}
-use Rattle.call_places.specs.Entries.{IsBefore}
-use Rattle.hpke_context.specs.Answers.{Cipher, Answer, Sealed_at, Opened_at, Failed_at, At_limit, run, due}
+use Rattle.call_places.specs.Orders.{IsBefore}
+use Rattle.hpke_context.specs.Answers.{Cipher, Answer, run, due}
 use Rattle.call_places.specs.Messages.{SealedMessage}
-use Rattle.context_books.specs.Batches.{Batch, ToOpenAll, block, lane_of, lane_places, own_places, items_of, IsServed}
+use Rattle.context_books.specs.Batches.{Batch, ToOpenAll, block, lane_of, items_of, IsServed}
 
 -- ---- the order of a journal
 
@@ -35,13 +35,6 @@ pub record Legal (batch : Batch) (context : ℕ) (journal : List Place) : Type 0
   -- with the lower item
   pub in_order : AllPairs IsInLaneOrder journal
   -- the places of one opening of several messages stand next to one another
-  pub together : (lane call n : ℕ) → OpensOn batch context lane call n
-      → StandTogether journal (block lane call 0 n)
-
--- The same, lane by lane: the places of each lane are those that it asks for, in order, and
--- openings of several messages stand together.
-pub record MergesLanes (batch : Batch) (context : ℕ) (journal : List Place) : Type 0 where
-  pub lanes : (lane : ℕ) → own_places lane journal ≡ lane_places context lane (lane_of batch lane)
   pub together : (lane call n : ℕ) → OpensOn batch context lane call n
       → StandTogether journal (block lane call 0 n)
 
@@ -75,11 +68,3 @@ before p (q ∷ qs) = cond (is_same_place q p) [] (q ∷ before p qs)
 -- the number that is due at a place: the one after those that stand before it
 abbrev pub number_of : Batch → Cipher → List Place → Place → ℕ
 number_of batch c journal p = due_after batch c (before p journal)
-
--- the sequence numbers at which a list of answers sealed or opened, in its order
-abbrev pub numbers_used : List Answer → List ℕ
-numbers_used [] = []
-numbers_used (Sealed_at number ct ∷ answers) = number ∷ numbers_used answers
-numbers_used (Opened_at number text ∷ answers) = number ∷ numbers_used answers
-numbers_used (Failed_at number ∷ answers) = numbers_used answers
-numbers_used (At_limit ∷ answers) = numbers_used answers

@@ -20,3 +20,5 @@ pub mod Writing
 pub mod Answered
 pub mod Quotas
 pub mod Journals
+pub mod Merging
+pub mod ContextLines

@@ -10,15 +10,13 @@ use Rattle.call_places.specs.declared.entries.Step.TheVariants.{Note}
 use Rattle.call_places.specs.declared.entries.Entry.{Entry}
 use Rattle.call_places.specs.declared.entries.Mark.{Mark}
 use Rattle.call_places.specs.declared.entries.Place.{Place}
-use Rattle.call_places.specs.Entries.{StampsRise}
+use Rattle.call_places.specs.Orders.{StampsRise, IsBefore}
 use Rattle.call_places.specs.Notes.{AreLive}
 use Rattle.hpke_context.specs.Contexts.{ContextView}
 use Rattle.context_books.specs.Batches.{Batch, place}
 use Rattle.context_books.specs.Legal.{is_same_place}
-use Rattle.context_books.specs.Entries.{entry_places}
+use Rattle.context_books.specs.Histories.{entry_places, LegalMarks, AreAllFrom0, HasLowerStamp, mark, stamps, marks_at}
 use Rattle.context_books.specs.Guesses.{AllGuessed}
-use Rattle.context_books.specs.Histories.{LegalMarks, AreAllFrom0, HasLowerStamp, mark, stamps, marks_at}
-use Rattle.call_places.specs.Entries.{IsBefore}
 use Rattle.batch_plans.specs.declared.plan.Plan.{Plan}
 use Rattle.batch_plans.specs.declared.plan.CallLine.{CallLine}
 use Rattle.batch_plans.specs.declared.plan.CallLine.TheVariants.{Add, Retire}

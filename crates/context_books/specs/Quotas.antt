@@ -6,7 +6,7 @@ use Rattle.batch_plans.specs.declared.plan.Plan.{Plan}
 use Rattle.batch_plans.specs.declared.plan.ContextLine.{ContextLine}
 use Rattle.batch_plans.specs.declared.plan.CallLine.{CallLine}
 use Rattle.batch_plans.specs.Room.{items_on}
-use Rattle.context_books.specs.Standing.{export_limits}
+use Rattle.context_books.specs.ContextLines.{export_limits}
 
 -- how many items these calls of a lane ask of the context of this number
 abbrev pub lane_quota : Plan → List (Option ContextView) → ℕ → List CallLine → ℕ

@@ -7,8 +7,7 @@ use Rattle.context_books.specs.declared.book.Draw.TheVariants.{Number, Limit}
 use Rattle.batch_plans.specs.declared.replies.Reply.{Reply}
 use Rattle.batch_plans.specs.Replies.{IsInRange}
 use Rattle.batch_plans.specs.Progress.{Progress}
-use Rattle.batch_plans.specs.Lines.{reply_line}
-use Rattle.batch_plans.specs.ReplyText.{is_refused}
+use Rattle.batch_plans.specs.AnswersText.{reply_line, is_refused}
 
 -- the number that was due at a draw: where all numbers below LIMIT are used it is LIMIT
 abbrev pub due_at : ℕ → Draw → ℕ

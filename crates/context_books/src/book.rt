@@ -1,7 +1,8 @@
 //! A book, and the drawing of a number from it.
 
 ghost use Rattle.std.specs.Prelude.{ℕ, ◌≡◌, ◌↔◌, ◌+◌, ◌<◌, ◌≤◌, ◌++◌, ◌∷◌, [], length, slice_index, sum, IfOk};
-ghost use Rattle.call_places.specs.Entries.{own, seq_of, last_of, StampsBelow, StampsRise};
+ghost use Rattle.call_places.specs.Entries.{own, seq_of, StampsBelow};
+ghost use Rattle.call_places.specs.Orders.{last_of, StampsRise};
 ghost use Rattle.context_books.specs.Entries.{entry};
 ghost use Rattle.context_books.specs.Books.{SameTerms, drawn_step, opened_at, MayStand, KeepsLimit, KeepsQuotas};
 

@@ -5,7 +5,7 @@ ghost use Rattle.batch_plans.specs.declared.plan.ContextLine.{ContextLine};
 ghost use Rattle.batch_plans.specs.declared.plan.Plan.{Plan};
 ghost use Rattle.batch_plans.specs.Limits.{items_of};
 ghost use Rattle.batch_plans.specs.Room.{items_on};
-ghost use Rattle.context_books.specs.Standing.{AreOfLines, export_limits};
+ghost use Rattle.context_books.specs.ContextLines.{AreOfLines, export_limits};
 ghost use Rattle.context_books.specs.Quotas.{all_quotas, counts_of};
 
 use crate::contexts::refusal_of;

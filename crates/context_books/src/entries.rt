@@ -6,8 +6,8 @@ ghost use Rattle.call_places.specs.Entries.{advances, seq_of};
 ghost use Rattle.hpke_context.specs.Answers.{Cipher, Item, Answer, next, advances as rises_after};
 ghost use Rattle.context_books.specs.Batches.{Batch, items_of};
 ghost use Rattle.context_books.specs.Legal.{due_after};
-ghost use Rattle.context_books.specs.Entries.{step_for, number_after, steps_from};
-ghost use Rattle.context_books.specs.Entries.{entry_places, Fits, LaneFits};
+ghost use Rattle.context_books.specs.Entries.{step_for, number_after, steps_from, Fits, LaneFits};
+ghost use Rattle.context_books.specs.Histories.{entry_places};
 
 /// A step raises the sequence number exactly where the answer does that it stands for.
 pub fn a_step_advances_as_its_answer()

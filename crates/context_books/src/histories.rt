@@ -4,8 +4,8 @@ ghost use Rattle.std.specs.Prelude.{ℕ, ◌≡◌, ◌↔◌, List, length};
 ghost use Rattle.call_places.specs.declared.entries.Mark.{Mark};
 ghost use Rattle.context_books.specs.Batches.{Batch, Spot};
 ghost use Rattle.context_books.specs.Legal.{Legal};
-ghost use Rattle.context_books.specs.Histories.{LegalHistory, IsHistory, journals_of};
-ghost use Rattle.context_books.specs.Histories.{marks_at, places};
+ghost use Rattle.context_books.specs.Histories.{LegalHistory, journals_of, marks_at, places};
+ghost use Rattle.context_books.specs.Merging.{IsHistory};
 
 /// Each journal of a legal history is legal by itself.
 pub fn a_legal_history_has_legal_journals()

@@ -10,11 +10,12 @@ ghost use Rattle.batch_plans.specs.declared.plan.ContextLine.{ContextLine};
 ghost use Rattle.batch_plans.specs.declared.plan.Plan.{Plan};
 ghost use Rattle.batch_plans.specs.declared.plan.CallLine.{CallLine};
 ghost use Rattle.batch_plans.specs.Calls.{refusal};
-ghost use Rattle.batch_plans.specs.Limits.{IsWithinLimits};
+ghost use Rattle.batch_plans.specs.Within.{IsWithinLimits};
 ghost use Rattle.batch_plans.specs.Names.{line_count};
 ghost use Rattle.context_books.specs.Live.{LegalTable, LiveRun, run_of, FoundLive, IsAllowedLive};
 ghost use Rattle.context_books.specs.Runs.{journal_of};
-ghost use Rattle.context_books.specs.Standing.{standing_at, call_refusal, export_limits, AreOfLines};
+ghost use Rattle.context_books.specs.Standing.{standing_at, call_refusal};
+ghost use Rattle.context_books.specs.ContextLines.{export_limits, AreOfLines};
 
 /// The contexts that stand refuse a call exactly as their lines do with their export limits, for
 /// the same cause: so what a plan tells ahead of its service holds when it is served.

@@ -1,7 +1,7 @@
 //! What an opening names.
 
 ghost use Rattle.std.specs.Prelude.{◌≡◌, length};
-ghost use Rattle.batch_plans.specs.Limits.{IsCallWithin};
+ghost use Rattle.batch_plans.specs.Within.{IsCallWithin};
 ghost use Rattle.context_books.specs.LaneCalls.{opening_items};
 
 use batch_plans::{CallLine, Plan, items_from};

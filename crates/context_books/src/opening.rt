@@ -4,7 +4,8 @@ ghost use Rattle.std.specs.Prelude.{◌≡◌, ◌∷◌, [], ◌+◌, ◌<◌, 
 ghost use Rattle.std.specs.List.{All};
 ghost use Rattle.call_places.specs.Spans.{IsInPool, ItemIsInPool, span_bytes};
 ghost use Rattle.hpke_context.specs.Answers.{Unseal, answer, run};
-ghost use Rattle.hpke_context.specs.Contexts.{HasCipher, cipher_of};
+ghost use Rattle.hpke_context.specs.Contexts.{cipher_of};
+ghost use Rattle.hpke_context.specs.Calls.{HasCipher};
 ghost use Rattle.context_books.specs.Entries.{step_for, steps_from};
 ghost use Rattle.context_books.specs.Openings.{unseals};
 ghost use Rattle.batch_plans.specs.Room.{opened_room};

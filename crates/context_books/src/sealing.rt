@@ -3,7 +3,8 @@
 ghost use Rattle.std.specs.Prelude.{◌≡◌, ◌∷◌, [], ◌+◌, ◌-◌, ◌<◌, ◌≤◌, ◌^◌, ℕ, length, take};
 ghost use Rattle.call_places.specs.Spans.{IsInPool, span_bytes};
 ghost use Rattle.hpke_context.specs.Answers.{Seal, answer};
-ghost use Rattle.hpke_context.specs.Contexts.{HasCipher, cipher_of};
+ghost use Rattle.hpke_context.specs.Contexts.{cipher_of};
+ghost use Rattle.hpke_context.specs.Calls.{HasCipher};
 ghost use Rattle.context_books.specs.Runs.{answer_line};
 ghost use Rattle.context_books.specs.Writing.{due_at, PutsReplies, WritesReply};
 

@@ -2,7 +2,7 @@
 
 ghost use Rattle.std.specs.Prelude.{◌≡◌, ◌↔◌, ◌+◌, ◌-◌, ◌<◌, ◌≤◌, ◌^◌, ◌++◌, All, IfSome, IsTrue, cond, is_some, length, slice_index};
 ghost use Rattle.call_places.specs.Entries.{own, seq_of, StampsBelow};
-ghost use Rattle.hpke_context.specs.Contexts.{HasCipher};
+ghost use Rattle.hpke_context.specs.Calls.{HasCipher};
 ghost use Rattle.context_books.specs.Entries.{entries_from};
 ghost use Rattle.call_places.specs.Spans.{ItemIsInPool};
 ghost use Rattle.call_places.specs.Messages.{sealed_message};

@@ -7,8 +7,9 @@ use Rattle.call_places.specs.declared.entries.Place.{Place}
 use Rattle.call_places.specs.declared.entries.Step.{Step}
 use Rattle.call_places.specs.Entries.{own, seq_of, mark_of, StampsBelow}
 use Rattle.hpke_context.specs.Contexts.{ContextView, cipher_of}
-use Rattle.context_books.specs.Batches.{Ask, Spot, spots, block, asked, all_asked, items_in, context_in, lane_of, lane_places, on}
-use Rattle.context_books.specs.Histories.{stamped_on, own_spots}
+use Rattle.context_books.specs.Batches.{Ask, Spot, spots, block, asked, items_in, context_in, lane_of, on}
+use Rattle.context_books.specs.Merging.{all_asked, lane_places, own_spots}
+use Rattle.context_books.specs.Histories.{stamped_on}
 use Rattle.context_books.specs.Entries.{entries_from, steps_from, Fits, FitsAt}
 use Rattle.context_books.proofs.Lists.{on-append, on-spots, on-spots_same, all_asked-append, append-nil}
 use Rattle.context_books.proofs.OneLane.{parted, taken_more, few_taken}

@@ -19,10 +19,11 @@ use Rattle.batch_plans.specs.declared.plan.Plan.{Plan}
 use Rattle.batch_plans.specs.declared.plan.CallLine.{CallLine}
 use Rattle.batch_plans.specs.declared.plan.CallLine.TheVariants as calls
 use Rattle.batch_plans.specs.declared.replies.CallRefusal.{CallRefusal}
-use Rattle.batch_plans.specs.Limits.{IsWithinLimits}
+use Rattle.batch_plans.specs.Within.{IsWithinLimits}
 use Rattle.batch_plans.specs.Calls.{context_of}
 use Rattle.batch_plans.specs.ReplyText.{has_stamps}
-use Rattle.context_books.specs.Standing.{standing_at, refusal_on, call_refusal, AreOfLines}
+use Rattle.context_books.specs.Standing.{standing_at, refusal_on, call_refusal}
+use Rattle.context_books.specs.ContextLines.{AreOfLines}
 use Rattle.context_books.specs.Asks.{asked_by, ask_unless, ask_of, batch_of, cipher_at}
 use Rattle.context_books.specs.Runs.{journal_of, LegalFor, IsAllowed}
 use Rattle.context_core.specs.Rehearsals.{rehearsed}

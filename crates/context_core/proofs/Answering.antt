@@ -22,14 +22,16 @@ use Rattle.batch_plans.specs.declared.plan.CallLine.TheVariants as calls
 use Rattle.batch_plans.specs.declared.replies.CallRefusal.{CallRefusal}
 use Rattle.batch_plans.specs.declared.replies.Reply.TheVariants.{Refused}
 use Rattle.batch_plans.specs.declared.replies.Batch.{Batch as Guess}
-use Rattle.batch_plans.specs.Limits.{items_of, items_from, IsCallWithin, IsWithinLimits}
+use Rattle.batch_plans.specs.Limits.{items_of, items_from}
+use Rattle.batch_plans.specs.Within.{IsCallWithin, IsWithinLimits}
 use Rattle.batch_plans.specs.Calls.{context_of}
 use Rattle.batch_plans.specs.Room.{served_room, served_batches, opened_room}
 use Rattle.batch_plans.specs.Progress.{Progress, with_reply}
 use Rattle.batch_plans.specs.Lines.{exported_line, batch_line}
-use Rattle.batch_plans.specs.ReplyText.{guess_line}
+use Rattle.batch_plans.specs.AnswersText.{guess_line}
 use Rattle.batch_plans.proofs.Rooms.{lane_within}
-use Rattle.context_books.specs.Standing.{standing_at, call_refusal, AreOfLines}
+use Rattle.context_books.specs.Standing.{standing_at, call_refusal}
+use Rattle.context_books.specs.ContextLines.{AreOfLines}
 use Rattle.context_books.specs.Asks.{asked_by, ask_unless, ask_of, batch_of, cipher_at, cipher_in}
 use Rattle.context_books.specs.Runs as runs
 use Rattle.context_books.specs.Runs.{answer_line, call_lines, guesses_of}

@@ -7,20 +7,20 @@ use Rattle.std.proofs.lemmas.List.{length-map, length-replicate, get_or_past, ge
 use Rattle.std.proofs.lemmas.List.FromFn.{get_or-map-range_with_len, length-map-range_with_len}
 use Rattle.std.proofs.lemmas.Option.{slice_get-map, slice_get_within, slice_get-get_or, get_or_from_slice_get}
 use Rattle.hpke_context.specs.Contexts.{ContextView}
-use Rattle.context_books.specs.Batches.{Batch, Ask, all_asked, lane_of}
+use Rattle.context_books.specs.Batches.{Batch, Ask, lane_of}
+use Rattle.context_books.specs.Merging.{all_asked}
 use Rattle.context_core.specs.Core as core
 use Rattle.context_core.specs.Core.{Core, all_tasks, at_first, start}
 use Rattle.context_core.specs.CoreStages as core_steps
-use Rattle.context_core.specs.CoreStages.{tasks_at, placed}
-use Rattle.context_core.specs.CoreStages.{lane_at}
+use Rattle.context_core.specs.CoreStages.{tasks_at, placed, lane_at}
 use Rattle.context_books.specs.Books.{BookView}
 use Rattle.batch_plans.specs.declared.plan.Plan.{Plan}
 use Rattle.batch_plans.specs.declared.replies.LaneAnswers.{LaneAnswers}
-use Rattle.batch_plans.specs.Limits.{IsWithinLimits}
+use Rattle.batch_plans.specs.Within.{IsWithinLimits}
 use Rattle.batch_plans.specs.Room.{lane_room, call_room}
 use Rattle.batch_plans.specs.Progress.{begun}
 use Rattle.batch_plans.proofs.Rooms.{lane_within, lane_is_small}
-use Rattle.context_books.specs.Standing.{export_limits, AreOfLines}
+use Rattle.context_books.specs.ContextLines.{export_limits, AreOfLines}
 use Rattle.context_books.specs.Asks.{ask_of, batch_of}
 use Rattle.context_core.specs.declared.books.Books.{Books}
 use Rattle.context_core.specs.declared.lanes.Lane.{Lane}

@@ -5,7 +5,8 @@ use Rattle.std.proofs.lemmas.List.{length-map, length-take}
 use Rattle.std.proofs.lemmas.List.Sums.{sum_by-cons, sum_by-take-drop}
 use Rattle.hpke_context.specs.Contexts.{ContextView}
 use Rattle.call_places.specs.Messages.{sealed_message, sealed_messages}
-use Rattle.context_books.specs.Batches.{Ask, unseal, asked, all_asked, items_in}
+use Rattle.context_books.specs.Batches.{Ask, unseal, asked, items_in}
+use Rattle.context_books.specs.Merging.{all_asked}
 use Rattle.context_core.specs.CoreStages.{Stage, Fresh, HasGuess, HasTests, HasPlaces, placed}
 use Rattle.batch_plans.specs.declared.plan.Plan.{Plan}
 use Rattle.batch_plans.specs.declared.plan.CallLine.{CallLine}

@@ -24,11 +24,13 @@ use Rattle.context_core.proofs.Schedules.{journals_legal, all_ended}
 use Rattle.context_books.specs.Books.{BookView}
 use Rattle.batch_plans.specs.declared.plan.Plan.{Plan}
 use Rattle.batch_plans.specs.declared.replies.LaneAnswers.{LaneAnswers}
-use Rattle.batch_plans.specs.Limits.{IsWithinLimits}
+use Rattle.batch_plans.specs.Within.{IsWithinLimits}
 use Rattle.batch_plans.specs.Room.{all_items_on, lane_room, journal_room, blank_mark}
-use Rattle.batch_plans.specs.ReplyText.{answered_lines, lanes_lines, numbered, UsesUp}
+use Rattle.batch_plans.specs.ReplyText.{numbered}
+use Rattle.batch_plans.specs.AnswersText.{answered_lines, lanes_lines, UsesUp}
 use Rattle.batch_plans.proofs.Lanes.{lanes_lines-numbered}
-use Rattle.context_books.specs.Standing.{standing_at, export_limits, AreOfLines}
+use Rattle.context_books.specs.Standing.{standing_at}
+use Rattle.context_books.specs.ContextLines.{export_limits, AreOfLines}
 use Rattle.context_books.specs.Asks.{batch_of, cipher_at, ask_of}
 use Rattle.context_books.specs.Runs.{lane_call_lines}
 use Rattle.context_books.proofs.Done.{lane_asks}

@@ -8,7 +8,7 @@ use Rattle.std.proofs.lemmas.Option.{slice_get_within, slice_get-get_or}
 use Rattle.hpke_context.specs.Answers.{Cipher}
 use Rattle.hpke_context.specs.Contexts.{ContextView}
 use Rattle.context_books.specs.Batches.{Batch, Ask, Nothing, ToSeal, ToOpen, ToOpenAll, Spot, lane_of}
-use Rattle.context_books.specs.Histories.{own_spots}
+use Rattle.context_books.specs.Merging.{own_spots}
 use Rattle.context_books.proofs.Members.{got}
 use Rattle.context_books.specs.Lists.{In}
 use Rattle.context_books.proofs.Lists.{own_spots-append, append-nil}
@@ -23,7 +23,8 @@ use Rattle.context_core.proofs.ScheduleEnds.{left_of, left_at, one_less, no_more
 use Rattle.context_core.proofs.Idle.{at_end, not_there}
 use Rattle.batch_plans.specs.declared.plan.Plan.{Plan}
 use Rattle.batch_plans.specs.declared.plan.CallLine.{CallLine}
-use Rattle.batch_plans.specs.Limits.{items_of, IsWithinLimits}
+use Rattle.batch_plans.specs.Limits.{items_of}
+use Rattle.batch_plans.specs.Within.{IsWithinLimits}
 use Rattle.context_books.specs.Asks.{batch_of, cipher_at, ask_of}
 use Rattle.context_books.proofs.Done.{lane_asks}
 use Rattle.context_core.specs.declared.books.Books.{Books}

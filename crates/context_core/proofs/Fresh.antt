@@ -8,7 +8,8 @@ use Rattle.std.proofs.lemmas.List.{get_or_append_left}
 use Rattle.batch_plans.specs.declared.plan.Plan.{Plan}
 use Rattle.batch_plans.specs.declared.plan.CallLine.{CallLine}
 use Rattle.batch_plans.specs.declared.plan.CallLine.TheVariants as calls
-use Rattle.batch_plans.specs.Limits.{items_of, IsWithinLimits}
+use Rattle.batch_plans.specs.Limits.{items_of}
+use Rattle.batch_plans.specs.Within.{IsWithinLimits}
 use Rattle.context_core.specs.declared.lanes.Lane.{Lane}
 use Rattle.context_core.specs.Following.{opened_count}
 use Rattle.context_core.specs.Preparing.{IsFresh}

@@ -7,22 +7,23 @@ use Rattle.std.proofs.lemmas.List.{length-set}
 use Rattle.std.proofs.lemmas.Option.{slice_get_within}
 use Rattle.hpke_context.specs.Answers.{Cipher}
 use Rattle.hpke_context.specs.Contexts.{ContextView, cipher_of}
-use Rattle.context_books.specs.Batches.{Batch, Ask, Spot, asked, all_asked, lane_of, on}
+use Rattle.context_books.specs.Batches.{Batch, Ask, Spot, asked, lane_of, on}
+use Rattle.context_books.specs.Merging.{all_asked, own_spots}
 use Rattle.context_books.specs.Guesses.{guess_of, guess_count}
-use Rattle.context_books.specs.Histories.{own_spots}
 use Rattle.context_books.proofs.Lists.{own_spots-append, append-nil}
 use Rattle.context_core.specs.Core as core
 use Rattle.context_core.specs.Core.{Core, Moved, step, due_in, with_moved, happens_at, happens}
 use Rattle.context_core.proofs.ScheduleLists.{one_value, slice_get-set_same}
 use Rattle.context_core.specs.CoreStages as core_steps
-use Rattle.context_core.specs.CoreStages.{placed}
+use Rattle.context_core.specs.CoreStages.{placed, lane_at}
 use Rattle.context_core.proofs.Matching.{moved_to}
-use Rattle.context_core.specs.CoreStages.{lane_at}
 use Rattle.batch_plans.specs.declared.plan.Plan.{Plan}
 use Rattle.batch_plans.specs.declared.plan.CallLine.{CallLine}
-use Rattle.batch_plans.specs.Limits.{items_of, IsWithinLimits}
+use Rattle.batch_plans.specs.Limits.{items_of}
+use Rattle.batch_plans.specs.Within.{IsWithinLimits}
 use Rattle.speculative_open.specs.Tables.{TableView}
-use Rattle.context_books.specs.Standing.{standing_at, AreOfLines}
+use Rattle.context_books.specs.Standing.{standing_at}
+use Rattle.context_books.specs.ContextLines.{AreOfLines}
 use Rattle.context_books.specs.Asks.{asked_by, ask_of, batch_of, cipher_at}
 use Rattle.context_books.specs.Lanes.{AllServed}
 use Rattle.context_books.proofs.Placed.{fitting_places_are_served}

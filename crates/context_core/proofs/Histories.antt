@@ -11,14 +11,14 @@ use Rattle.call_places.specs.Entries.{own, seq_of, mark_of, StampsBelow}
 use Rattle.hpke_context.specs.Answers.{Item, Cipher, answer, next}
 use Rattle.context_books.specs.Batches.{Batch, Ask, Spot, spots, block, place, items_in, context_in, lane_of, on, own_places}
 use Rattle.context_books.specs.Legal.{due_after}
-use Rattle.context_books.specs.Histories.{mark, places, stamped_on, own_spots}
-use Rattle.context_books.specs.Entries.{entries_from, entry_places, steps_from, step_for, number_after, FitsAt, Fits}
-use Rattle.context_books.specs.Lists.{In}
+use Rattle.context_books.specs.Histories.{mark, places, stamped_on, entry_places}
+use Rattle.context_books.specs.Merging.{own_spots}
+use Rattle.context_books.specs.Entries.{entries_from, steps_from, step_for, number_after, FitsAt, Fits}
+use Rattle.context_books.specs.Lists.{In, EachFrom}
 use Rattle.context_books.proofs.Lists.{own_places-on}
 use Rattle.context_books.proofs.Runs.{drop_step, item_here}
 use Rattle.context_books.proofs.HistoryJournals.{places-stamped_on, from}
 use Rattle.context_books.proofs.EntryNumbers.{to_each, from_each, last_number, last_is, number_next, number_due}
-use Rattle.context_books.specs.Lists.{EachFrom}
 
 -- ---- marks
 

@@ -5,8 +5,7 @@ use Rattle.call_places.specs.Messages.{SealedMessage}
 use Rattle.context_books.specs.Batches.{Ask, Nothing, ToSeal, ToOpen, ToOpenAll, context_in, asked}
 use Rattle.context_books.specs.Guesses.{guess_of}
 use Rattle.context_core.specs.Core.{all_tasks, Lane, Moved, step}
-use Rattle.context_core.specs.CoreStages.{Stage, Fresh, HasGuess, HasTests, HasPlaces, tasks_at}
-use Rattle.context_core.specs.CoreStages.{lane_at}
+use Rattle.context_core.specs.CoreStages.{Stage, Fresh, HasGuess, HasTests, HasPlaces, tasks_at, lane_at}
 
 abbrev pub moved_to : Lane → List Rattle.context_books.specs.Batches.Spot → Moved
 moved_to s given = record { lane = s; given = given }

@@ -4,9 +4,9 @@ use Rattle.std.proofs.lemmas.List.{length-set, length-map}
 use Rattle.std.proofs.lemmas.Option.{slice_get_within}
 use Rattle.std.specs.Prelude.{slice_get, slice_set, map}
 use Rattle.hpke_context.specs.Answers.{Cipher}
-use Rattle.context_books.specs.Batches.{Batch, Ask, Nothing, ToSeal, ToOpen, ToOpenAll, Spot, context_in, asked, all_asked, lane_of}
+use Rattle.context_books.specs.Batches.{Batch, Ask, Nothing, ToSeal, ToOpen, ToOpenAll, Spot, context_in, asked, lane_of}
+use Rattle.context_books.specs.Merging.{all_asked, own_spots}
 use Rattle.context_books.specs.Guesses.{guess_of}
-use Rattle.context_books.specs.Histories.{own_spots}
 use Rattle.context_books.proofs.Lists.{own_spots-append, own_spots-asked, own_spots-asked_other, all_asked-append, append-nil, is_cases}
 use Rattle.context_core.specs.Core as core
 use Rattle.context_core.specs.Core.{Phase, Draw, Guess, Check, Commit, Finish, Task, tasks, all_tasks, Lane, Core, Moved, step, due_in, with_moved, happens_at, happens, all_happen, at_first, start}

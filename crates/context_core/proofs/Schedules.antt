@@ -8,18 +8,20 @@ use Rattle.std.proofs.lemmas.Option.{slice_get_within}
 use Rattle.call_places.specs.declared.entries.Place.{Place}
 use Rattle.hpke_context.specs.Answers.{Cipher, run}
 use Rattle.call_places.specs.Messages.{SealedMessage}
-use Rattle.context_books.specs.Batches.{Batch, Ask, Nothing, ToSeal, ToOpen, ToOpenAll, Spot, spots, block, unseal, asked, all_asked, on, lane_of, items_of, IsServed}
+use Rattle.context_books.specs.Batches.{Batch, Ask, Nothing, ToSeal, ToOpen, ToOpenAll, Spot, spots, block, unseal, asked, on, lane_of, items_of, IsServed}
+use Rattle.context_books.specs.Merging.{all_asked, own_spots, IsHistory}
 use Rattle.context_books.specs.Legal.{OpensOn, Legal, replies, due_after}
 use Rattle.context_books.specs.Guesses as guesses
 use Rattle.context_books.specs.Guesses.{AllGuessed, guess_of, guess_count, guess_at}
-use Rattle.context_books.specs.Histories.{LegalHistory, journals_of, own_spots, IsHistory}
+use Rattle.context_books.specs.Histories.{LegalHistory, journals_of}
 use Rattle.context_books.proofs.Lists.{own_places-on, on-append, on-spots_same, append-nil}
 use Rattle.context_books.proofs.Members.{contains_in, in_contains, got}
 use Rattle.context_books.proofs.OneLane.{no_ask}
 use Rattle.context_books.proofs.Runs.{call_replies}
 use Rattle.context_books.proofs.HistoryJournals.{on_in, parts_legal, legal_history}
 use Rattle.context_core.specs.Core as core
-use Rattle.context_core.specs.Core.{Task, all_tasks, Lane, Core, journal, due_in, start, to_the_ends, OpensInTurn}
+use Rattle.context_core.specs.Core.{Task, all_tasks, Lane, Core, journal, due_in, start, to_the_ends}
+use Rattle.context_core.specs.Openings.{OpensInTurn}
 use Rattle.context_core.proofs.ScheduleSteps.{StandsIn, AllStand, LaneHolds, Holds, all_happen_keeps, start_holds}
 use Rattle.context_core.specs.CoreStages.{Stage, Fresh, HasGuess, HasTests, HasPlaces, tasks_at, placed}
 use Rattle.context_core.proofs.ScheduleEnds.{all_end, left_of}

@@ -9,18 +9,17 @@ use Rattle.call_places.specs.Spans.{span_bytes}
 use Rattle.call_places.specs.Entries.{seq_of}
 use Rattle.hpke_context.specs.Answers.{Cipher}
 use Rattle.hpke_context.specs.Contexts.{ContextView, cipher_of}
-use Rattle.context_books.specs.Batches.{Batch, Ask, Nothing, ToSeal, Spot, asked, all_asked, block, place, items_in, context_in, lane_of, on}
+use Rattle.context_books.specs.Batches.{Batch, Ask, Nothing, ToSeal, Spot, asked, block, place, items_in, context_in, lane_of, on}
+use Rattle.context_books.specs.Merging.{all_asked, own_spots}
 use Rattle.context_books.specs.Legal.{due_after}
 use Rattle.context_books.specs.Guesses.{guess_of, guess_count, missed}
-use Rattle.context_books.specs.Histories.{own_spots}
 use Rattle.context_books.specs.Entries.{steps_from, numbers_from}
 use Rattle.context_books.proofs.Lists.{own_spots-append, own_spots-asked, own_places-on, on-append, on-spots_same, append-nil}
 use Rattle.context_core.specs.Core.{Core, step, due_in, happens}
 use Rattle.context_core.proofs.ScheduleLists.{one_value, slice_get-set_same}
 use Rattle.context_core.specs.CoreStages as core_steps
-use Rattle.context_core.specs.CoreStages.{placed}
+use Rattle.context_core.specs.CoreStages.{placed, lane_at}
 use Rattle.context_core.proofs.Matching.{moved_to, nothing_asked, draws, guesses_one, guesses_all, checks, commits, finishes}
-use Rattle.context_core.specs.CoreStages.{lane_at}
 use Rattle.context_books.specs.declared.book.Draw.{Draw}
 use Rattle.context_books.specs.declared.book.Draw.TheVariants.{Number, Limit}
 use Rattle.context_books.specs.Books.{BookView, drawn_step}
@@ -29,10 +28,12 @@ use Rattle.batch_plans.specs.declared.plan.Plan.{Plan}
 use Rattle.batch_plans.specs.declared.plan.CallLine.{CallLine}
 use Rattle.batch_plans.specs.declared.plan.CallLine.TheVariants as calls
 use Rattle.batch_plans.specs.declared.replies.CallRefusal.{CallRefusal}
-use Rattle.batch_plans.specs.Limits.{items_of, IsWithinLimits}
+use Rattle.batch_plans.specs.Limits.{items_of}
+use Rattle.batch_plans.specs.Within.{IsWithinLimits}
 use Rattle.batch_plans.specs.Calls.{context_of}
 use Rattle.speculative_open.specs.Tables.{TableView}
-use Rattle.context_books.specs.Standing.{standing_at, call_refusal, AreOfLines}
+use Rattle.context_books.specs.Standing.{standing_at, call_refusal}
+use Rattle.context_books.specs.ContextLines.{AreOfLines}
 use Rattle.context_books.specs.Asks.{asked_by, ask_unless, ask_of, batch_of, cipher_at, cipher_in}
 use Rattle.context_books.proofs.CallLines.{not_yet}
 use Rattle.context_books.specs.Lanes.{StandsBehind}

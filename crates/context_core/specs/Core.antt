@@ -1,12 +1,11 @@
 -- The core: lanes that do one step at a time, in whichever order. It holds no key, no verdict on a
 -- tag, no table and no lock; it says which histories of a batch there may be. The answers are those
 -- of the sequential context along them (RFC 9180, 5.2).
-use Rattle.std.specs.Prelude.{ℕ, ◌≡◌, ◌+◌, List, [], ◌∷◌, ◌++◌, length, map, replicate, slice_get, slice_set, Option, Some, None}
+use Rattle.std.specs.Prelude.{ℕ, ◌+◌, List, [], ◌∷◌, ◌++◌, length, map, replicate, slice_get, slice_set, Option, Some, None}
 use Rattle.call_places.specs.declared.entries.Place.{Place}
-use Rattle.hpke_context.specs.Answers.{Cipher, run}
-use Rattle.call_places.specs.Messages.{SealedMessage}
-use Rattle.context_books.specs.Batches.{Batch, Ask, Nothing, ToSeal, ToOpen, ToOpenAll, unseal, Spot, asked, block, on, context_in, items_of}
-use Rattle.context_books.specs.Legal.{due_after, replies}
+use Rattle.hpke_context.specs.Answers.{Cipher}
+use Rattle.context_books.specs.Batches.{Batch, Ask, Nothing, ToSeal, ToOpen, ToOpenAll, Spot, asked, on, context_in}
+use Rattle.context_books.specs.Legal.{due_after}
 use Rattle.context_books.specs.Guesses.{guess_of}
 
 -- ---- the phases of a call
@@ -118,17 +117,3 @@ to_the_ends lane (asks ∷ batch) =
 abbrev pub core : Batch → (ℕ → Cipher) → List ℕ → Core
 core batch ciphers schedule =
     all_happen batch ciphers (start batch) (schedule ++ to_the_ends 0 batch)
-
--- ---- openings of several messages
-
--- in the journal these messages are answered one after another, in one block, from the number on
--- that is due before it
-pub record OpensInTurn (batch : Batch) (c : Cipher) (journal : List Place) (lane call : ℕ)
-    (messages : List SealedMessage) : Type 0 where
-  pub front : List Place
-  pub after : List Place
-  pub stands : journal ≡ front ++ (block lane call 0 (length messages) ++ after)
-  pub answers : replies batch c journal ≡ replies batch c front
-      ++ (run c (due_after batch c front) (map unseal messages)
-      ++ run c (due_after batch c (front ++ block lane call 0 (length messages)))
-      (items_of batch after))

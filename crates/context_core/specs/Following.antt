@@ -6,17 +6,17 @@ use Rattle.call_places.specs.declared.entries.Step.{Step}
 use Rattle.call_places.specs.Entries.{mark_of}
 use Rattle.hpke_context.specs.Answers.{Cipher}
 use Rattle.hpke_context.specs.Contexts.{ContextView, cipher_of}
-use Rattle.context_books.specs.Batches.{Batch, Nothing, Spot, all_asked, lane_of, lane_places, on}
+use Rattle.context_books.specs.Batches.{Batch, Nothing, Spot, lane_of, on}
+use Rattle.context_books.specs.Merging.{all_asked, lane_places, own_spots}
 use Rattle.context_books.specs.Legal.{due_after}
 use Rattle.context_books.specs.Guesses as guesses
 use Rattle.context_books.specs.Guesses.{guess_count, guess_of}
-use Rattle.context_books.specs.Histories.{journals_of, stamped_on, own_spots}
+use Rattle.context_books.specs.Histories.{journals_of, stamped_on}
 use Rattle.context_books.specs.Entries.{steps_from, numbers_from, Fits}
 use Rattle.context_core.specs.Core as core
 use Rattle.context_core.specs.Core.{Core, happens}
 use Rattle.context_core.specs.CoreStages as core_steps
-use Rattle.context_core.specs.CoreStages.{placed}
-use Rattle.context_core.specs.CoreStages.{lane_at}
+use Rattle.context_core.specs.CoreStages.{placed, lane_at}
 use Rattle.context_books.specs.declared.book.Draw.{Draw}
 use Rattle.context_books.specs.declared.book.Draw.TheVariants.{Number}
 use Rattle.context_books.specs.Books.{BookView}
@@ -24,16 +24,17 @@ use Rattle.context_books.specs.Openings.{IsTableFor, unseals}
 use Rattle.batch_plans.specs.declared.plan.Plan.{Plan}
 use Rattle.batch_plans.specs.declared.plan.CallLine.{CallLine}
 use Rattle.batch_plans.specs.declared.plan.CallLine.TheVariants as calls
-use Rattle.batch_plans.specs.Limits.{items_of, IsWithinLimits}
+use Rattle.batch_plans.specs.Limits.{items_of}
+use Rattle.batch_plans.specs.Within.{IsWithinLimits}
 use Rattle.batch_plans.specs.Calls.{context_of}
 use Rattle.batch_plans.specs.declared.replies.Batch.{Batch as Guess}
 use Rattle.batch_plans.specs.Room.{lane_room}
 use Rattle.batch_plans.specs.Progress.{Progress, begun, with_batch}
-use Rattle.context_books.specs.Standing.{standing_at, call_refusal, export_limits, AreOfLines}
+use Rattle.context_books.specs.Standing.{standing_at, call_refusal}
+use Rattle.context_books.specs.ContextLines.{export_limits, AreOfLines}
 use Rattle.context_books.specs.Asks.{asked_by, ask_of, batch_of, cipher_at}
-use Rattle.context_books.specs.Runs.{Run}
+use Rattle.context_books.specs.Runs.{Run, guesses_of}
 use Rattle.context_books.specs.Lanes.{StandsBehind}
-use Rattle.context_books.specs.Runs.{guesses_of}
 use Rattle.context_books.specs.LaneCalls.{lane_calls, opening_items, IsOpening}
 use Rattle.context_books.specs.Writing.{due_at}
 use Rattle.context_books.specs.Answered.{KeepsUp}

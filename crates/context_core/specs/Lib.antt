@@ -5,3 +5,4 @@ pub mod Preparing
 pub mod Core
 pub mod ScheduleRows
 pub mod CoreStages
+pub mod Openings

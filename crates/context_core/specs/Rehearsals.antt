@@ -6,7 +6,8 @@ use Rattle.context_core.specs.Core.{Lane, core}
 use Rattle.batch_plans.specs.declared.plan.Plan.{Plan}
 use Rattle.batch_plans.specs.declared.replies.Answers.{Answers}
 use Rattle.batch_plans.specs.declared.replies.LaneAnswers.{LaneAnswers}
-use Rattle.batch_plans.specs.ReplyText.{lanes_lines, numbered, UsesUp}
+use Rattle.batch_plans.specs.ReplyText.{numbered}
+use Rattle.batch_plans.specs.AnswersText.{lanes_lines, UsesUp}
 use Rattle.context_books.specs.Asks.{batch_of, cipher_at}
 use Rattle.context_books.specs.Runs.{Run, lane_call_lines}
 

@@ -2,8 +2,8 @@
 
 ghost use Rattle.std.specs.Prelude.{ℕ, ◌≡◌, ◌<◌, length};
 ghost use Rattle.std.specs.Thread.{IsSync};
-ghost use Rattle.batch_plans.specs.Limits.{IsWithinLimits};
-ghost use Rattle.context_books.specs.Standing.{AreOfLines};
+ghost use Rattle.batch_plans.specs.Within.{IsWithinLimits};
+ghost use Rattle.context_books.specs.ContextLines.{AreOfLines};
 ghost use Rattle.context_core.specs.Core.{Core};
 ghost use Rattle.context_core.specs.Following.{AllDone, AreAnswered, AreDone, LaneIsAnswered};
 

@@ -5,9 +5,10 @@
 
 ghost use Rattle.std.specs.Prelude.{ℕ, ◌≡◌, ◌<◌, ◌≤◌, List, None, length};
 ghost use Rattle.call_places.specs.declared.entries.Step.{Step};
-ghost use Rattle.batch_plans.specs.Limits.{IsWithinLimits};
+ghost use Rattle.batch_plans.specs.Within.{IsWithinLimits};
 ghost use Rattle.batch_plans.specs.Room.{served_batches};
-ghost use Rattle.context_books.specs.Standing.{AreOfLines, call_refusal};
+ghost use Rattle.context_books.specs.Standing.{call_refusal};
+ghost use Rattle.context_books.specs.ContextLines.{AreOfLines};
 ghost use Rattle.context_core.specs.Core.{Core};
 ghost use Rattle.context_core.specs.Following.{with_guess, AllDone, LaneIsAnswered, MayReply, Replies};
 

@@ -3,7 +3,7 @@
 ghost use Rattle.std.specs.Prelude.{ℕ, ◌≡◌, ◌≤◌, IsSome, All, take, Some, length};
 ghost use Rattle.call_places.specs.Entries.{seq_of};
 ghost use Rattle.call_places.specs.Spans.{ItemIsInPool};
-ghost use Rattle.hpke_context.specs.Contexts.{HasCipher};
+ghost use Rattle.hpke_context.specs.Calls.{HasCipher};
 ghost use Rattle.context_books.specs.Books.{BookView};
 ghost use Rattle.context_books.specs.Openings.{IsTableFor};
 ghost use Rattle.context_core.specs.Books.{book_at, MayAdd, Draws, Settles};

@@ -3,8 +3,8 @@
 ghost use Rattle.std.specs.Prelude.{ℕ, List, Option};
 ghost use Rattle.hpke_context.specs.Contexts.{ContextView};
 ghost use Rattle.batch_plans.specs.declared.plan.Plan.{Plan};
-ghost use Rattle.batch_plans.specs.Limits.{IsWithinLimits};
-ghost use Rattle.context_books.specs.Standing.{AreOfLines};
+ghost use Rattle.batch_plans.specs.Within.{IsWithinLimits};
+ghost use Rattle.context_books.specs.ContextLines.{AreOfLines};
 ghost use Rattle.context_books.specs.Runs.{IsAllowed};
 ghost use Rattle.context_core.specs.Rehearsals.{rehearsed};
 

@@ -2,10 +2,11 @@
 
 ghost use Rattle.std.specs.Prelude.{◌≡◌, ◌≤◌, [], All, IfOk, List, length, map, sum, sum_by};
 ghost use Rattle.std.specs.List.{range_with_len};
-ghost use Rattle.batch_plans.specs.Limits.{IsWithinLimits, items_of};
+ghost use Rattle.batch_plans.specs.Limits.{items_of};
+ghost use Rattle.batch_plans.specs.Within.{IsWithinLimits};
 ghost use Rattle.batch_plans.specs.declared.plan.ContextLine.{ContextLine};
 ghost use Rattle.batch_plans.specs.declared.plan.Plan.{Plan};
-ghost use Rattle.context_books.specs.Standing.{AreOfLines};
+ghost use Rattle.context_books.specs.ContextLines.{AreOfLines};
 ghost use Rattle.context_books.specs.Quotas.{quotas_on};
 ghost use Rattle.context_core.specs.Following.{opened_count};
 ghost use Rattle.context_core.specs.Preparing.{fresh_at, IsFresh, AreFresh};

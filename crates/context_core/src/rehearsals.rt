@@ -1,11 +1,11 @@
 //! The rehearsal: the steps of all lanes by a schedule.
 
 ghost use Rattle.std.specs.Prelude.{ℕ, ◌≡◌, ◌^◌, [], None, All, get_or, ◌≤◌, ◌<◌, ◌*◌, length, map, replicate, OnOk, OnErr, IfOk};
-ghost use Rattle.batch_plans.specs.Limits.{IsWithinLimits};
+ghost use Rattle.batch_plans.specs.Within.{IsWithinLimits};
 ghost use Rattle.batch_plans.specs.Room.{room_for, lane_room};
-ghost use Rattle.batch_plans.specs.ReplyText.{IsAnswered};
+ghost use Rattle.batch_plans.specs.AnswersText.{IsAnswered};
 ghost use Rattle.context_core.specs.Core.{Core, happens, all_happen, start, core};
-ghost use Rattle.context_books.specs.Standing.{AreOfLines, export_limits};
+ghost use Rattle.context_books.specs.ContextLines.{AreOfLines, export_limits};
 ghost use Rattle.context_books.specs.Asks.{batch_of, cipher_at};
 ghost use Rattle.context_core.specs.Rehearsals.{rehearsed, AreAnswersOf};
 ghost use Rattle.batch_plans.specs.Replies.{IsPrintable};

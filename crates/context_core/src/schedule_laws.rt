@@ -7,8 +7,10 @@ ghost use Rattle.call_places.specs.Messages.{SealedMessage};
 ghost use Rattle.context_books.specs.Batches.{Batch, ToOpenAll, lane_of, IsServed};
 ghost use Rattle.context_books.specs.Legal.{Legal};
 ghost use Rattle.context_books.specs.Guesses.{AllGuessed};
-ghost use Rattle.context_books.specs.Histories.{LegalHistory, IsHistory, journals_of};
-ghost use Rattle.context_core.specs.Core.{Core, Lane, core, journal, happens, OpensInTurn};
+ghost use Rattle.context_books.specs.Histories.{LegalHistory, journals_of};
+ghost use Rattle.context_books.specs.Merging.{IsHistory};
+ghost use Rattle.context_core.specs.Core.{Core, Lane, core, journal, happens};
+ghost use Rattle.context_core.specs.Openings.{OpensInTurn};
 
 /// Whatever order the steps come in, each journal of the core is legal, each lane does all of its
 /// steps, and it ends with one guess for each of its openings of several messages, which it may

@@ -13,7 +13,8 @@ use Rattle.key_schedule.specs.declared.modes.Mode.{Mode}
 use Rattle.key_schedule.specs.declared.psks.PskFault.{PskFault}
 use Rattle.key_schedule.specs.declared.schedules.Secrets.{Secrets}
 use Rattle.key_schedule.specs.Schedule.{key_schedule}
-use Rattle.hpke_context.specs.Contexts.{ContextView, encrypts}
+use Rattle.hpke_context.specs.Contexts.{ContextView}
+use Rattle.hpke_context.specs.Calls.{encrypts}
 use Rattle.call_places.specs.Spans.{span_bytes}
 use Rattle.batch_plans.specs.declared.plan.Plan.{Plan}
 use Rattle.batch_plans.specs.declared.plan.KeyLine.{KeyLine}

@@ -22,7 +22,8 @@ use Rattle.aes_block.proofs.Lengths.{length-cipher}
 use Rattle.aes_gcm.specs.Gcm.{seal, clear}
 use Rattle.aes_gcm.proofs.Opening.{IsWhole, seal-holds, seal-clear}
 use Rattle.hpke_context.specs.Answers.{Unseal, Cipher, Sealed_at, Opened_at, Failed_at, At_limit, answer, next, run}
-use Rattle.hpke_context.specs.Contexts.{ContextView, encrypts, key_in, tag_holds, nonce_of, cipher_of}
+use Rattle.hpke_context.specs.Contexts.{ContextView, key_in, tag_holds, nonce_of, cipher_of}
+use Rattle.hpke_context.specs.Calls.{encrypts}
 use Rattle.hpke_context.proofs.Tags.{tag_holds-is}
 use Rattle.context_table.specs.Laws.{Message, to_seal, to_open, sealed_from, OpensInOrder}
 

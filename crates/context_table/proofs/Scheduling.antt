@@ -10,7 +10,7 @@ use Rattle.batch_plans.specs.declared.replies.ContextReply.{ContextReply}
 use Rattle.batch_plans.specs.declared.replies.ContextRefusal.{ContextRefusal}
 use Rattle.context_table.specs.declared.exchanges.Exchange.{Exchange}
 use Rattle.context_table.specs.Contexts.{standing_by, scheduled_after, exchange, slot_of, AreOutcomes}
-use Rattle.context_books.specs.Standing.{IsOfLine, AreOfLines}
+use Rattle.context_books.specs.ContextLines.{IsOfLine, AreOfLines}
 use Rattle.context_table.proofs.Lists.{some_within, same_some}
 
 of_line_by : (line : ContextLine) (exchanged : Exchange) (context : ContextView)

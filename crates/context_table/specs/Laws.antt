@@ -3,7 +3,8 @@
 use Rattle.std.specs.Prelude.{◌≡◌, ℕ, ◌+◌, ◌<◌, ◌≤◌, List, [], ◌∷◌, map, length, Option, Some, slice_get}
 use Rattle.call_places.specs.Spans.{span_bytes}
 use Rattle.hpke_context.specs.Answers.{Item, Seal, Unseal, Answer, Sealed_at, Opened_at, run}
-use Rattle.hpke_context.specs.Contexts.{ContextView, HasCipher, cipher_of}
+use Rattle.hpke_context.specs.Contexts.{ContextView, cipher_of}
+use Rattle.hpke_context.specs.Calls.{HasCipher}
 use Rattle.key_schedule.specs.declared.modes.Role.TheVariants as roles
 use Rattle.batch_plans.specs.declared.plan.Plan.{Plan}
 use Rattle.batch_plans.specs.declared.plan.EncField.{EncField}

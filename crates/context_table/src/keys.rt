@@ -1,7 +1,7 @@
 //! The keys of a plan.
 
 ghost use Rattle.std.specs.Prelude.{◌≡◌, ◌+◌, ◌*◌, ◌^◌, ◌<◌, ◌≤◌, [], ◌∷◌, ◌++◌, length, IfOk, OnOk, option_copied, slice_get};
-ghost use Rattle.batch_plans.specs.Limits.{IsSourceWithin, IsKeyWithin, IsWithinLimits};
+ghost use Rattle.batch_plans.specs.Within.{IsSourceWithin, IsKeyWithin, IsWithinLimits};
 ghost use Rattle.batch_plans.specs.KeyLines.{source_of};
 ghost use Rattle.context_table.specs.Keys.{IsSourceReply, IsKeyReply, kem_of, given_bytes, key_by};
 ghost use Rattle.context_table.specs.Contexts.{sender_exchange, recipient_exchange};

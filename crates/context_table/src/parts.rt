@@ -1,7 +1,7 @@
 //! What a context is made of.
 
 ghost use Rattle.std.specs.Prelude.{◌≡◌, ◌≤◌};
-ghost use Rattle.hpke_context.specs.Contexts.{aead_of};
+ghost use Rattle.hpke_context.specs.Calls.{aead_of};
 
 use hkdf_labelled::Suite;
 use hpke_context::Context;
@@ -22,7 +22,8 @@ pub(crate) struct ContextParts {
 
 impl Model for ContextParts {
     ghost use Rattle.std.specs.Prelude.{◌≡◌, ◌≤◌};
-    ghost use Rattle.hpke_context.specs.Contexts.{ContextView, aead_of};
+    ghost use Rattle.hpke_context.specs.Contexts.{ContextView};
+    ghost use Rattle.hpke_context.specs.Calls.{aead_of};
 
     ghost Value = { ContextView };
 

@@ -1,9 +1,9 @@
 //! The set-up of a plan.
 
 ghost use Rattle.std.specs.Prelude.{◌≡◌, length, IfOk};
-ghost use Rattle.batch_plans.specs.Limits.{IsWithinLimits};
+ghost use Rattle.batch_plans.specs.Within.{IsWithinLimits};
 ghost use Rattle.context_table.specs.SetUp.{IsSetUp};
-ghost use Rattle.context_books.specs.Standing.{AreOfLines, limit_of, export_limits};
+ghost use Rattle.context_books.specs.ContextLines.{AreOfLines, limit_of, export_limits};
 
 use crate::contexts::context_table;
 use crate::keys::key_table;

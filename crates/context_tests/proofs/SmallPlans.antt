@@ -19,7 +19,8 @@ use Rattle.batch_plans.specs.declared.replies.KeyReply.{KeyReply}
 use Rattle.batch_plans.specs.declared.replies.ContextReply.{ContextReply}
 use Rattle.batch_plans.specs.declared.replies.Answers.{Answers}
 use Rattle.batch_plans.specs.Room.{room_for}
-use Rattle.batch_plans.specs.Limits.{most_plaintext, most_ciphertext, IsField, IsItemWithin, IsCallWithin, IsContextWithin, IsKeyWithin, IsPlain, IsPlainCall, IsWithinLimits, all_items, all_sizes, all_texts}
+use Rattle.batch_plans.specs.Limits.{most_plaintext, most_ciphertext, all_items, all_sizes}
+use Rattle.batch_plans.specs.Within.{IsField, IsItemWithin, IsCallWithin, IsContextWithin, IsKeyWithin, IsPlain, IsPlainCall, IsWithinLimits, all_texts}
 use Rattle.context_tests.specs.SmallPlans.{is_small_span, is_small_item, is_small_call, are_small, no_span, line_of, two_lines}
 
 all_of : {X : Type 0} (test : X → Bool) (P : X → Type 0) → ((x : X) → test x ≡ true → P x)

@@ -13,7 +13,8 @@ use Rattle.batch_plans.specs.declared.plan.ContextKind.TheVariants.{Share}
 use Rattle.batch_plans.specs.declared.plan.ContextLine.{ContextLine}
 use Rattle.batch_plans.specs.declared.plan.CallLine.{CallLine}
 use Rattle.batch_plans.specs.declared.plan.CallLine.TheVariants.{Seal, Unseal, UnsealAll, Export}
-use Rattle.batch_plans.specs.Limits.{all_items, all_sizes, all_texts}
+use Rattle.batch_plans.specs.Limits.{all_items, all_sizes}
+use Rattle.batch_plans.specs.Within.{all_texts}
 
 -- the span lies in the first bytes of the pool
 abbrev pub is_small_span : Span → Bool

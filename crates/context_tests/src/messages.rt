@@ -2,7 +2,8 @@
 
 ghost use Rattle.std.specs.Prelude.{◌≡◌, ◌≤◌, All, IfOk, length, sum_by};
 ghost use Rattle.key_schedule.specs.declared.modes.Role.{Role};
-ghost use Rattle.hpke_context.specs.Contexts.{HasCipher, cipher_of};
+ghost use Rattle.hpke_context.specs.Contexts.{cipher_of};
+ghost use Rattle.hpke_context.specs.Calls.{HasCipher};
 ghost use Rattle.context_books.specs.Entries.{steps_from};
 ghost use Rattle.call_places.specs.Spans.{ItemIsInPool};
 ghost use Rattle.context_books.specs.Openings.{IsTableFor, unseals};

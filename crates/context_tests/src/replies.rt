@@ -2,7 +2,7 @@
 
 ghost use Rattle.std.specs.Prelude.{◌≡◌, ◌≤◌, ◌<◌, ◌^◌, All, IfOk, length, sum_by};
 ghost use Rattle.batch_plans.specs.Room.{opened_room};
-ghost use Rattle.hpke_context.specs.Contexts.{HasCipher};
+ghost use Rattle.hpke_context.specs.Calls.{HasCipher};
 ghost use Rattle.call_places.specs.Spans.{ItemIsInPool};
 
 use crate::expected::assert_same;

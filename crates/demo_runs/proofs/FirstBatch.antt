@@ -12,7 +12,8 @@ use Rattle.batch_plans.specs.declared.replies.KeyReply.{KeyReply}
 use Rattle.batch_plans.specs.declared.replies.KeyReply.TheVariants.{Generated}
 use Rattle.batch_plans.specs.declared.replies.ContextReply.{ContextReply}
 use Rattle.batch_plans.specs.declared.replies.Answers.{Answers}
-use Rattle.batch_plans.specs.ReplyText.{IsAnswered, has_stamps}
+use Rattle.batch_plans.specs.ReplyText.{has_stamps}
+use Rattle.batch_plans.specs.AnswersText.{IsAnswered}
 use Rattle.context_books.specs.Runs.{Run, asks_of, journal_of, LegalFor, run_along}
 use Rattle.context_table.specs.SetUp.{IsSetUp}
 use Rattle.demo_runs.specs.Texts.{share_of}

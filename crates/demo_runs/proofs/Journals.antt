@@ -4,7 +4,8 @@ use Rattle.std.specs.Prelude.{slice_get, sum_by}
 use Rattle.std.specs.List.{AllByRecursion, AllPairs}
 use Rattle.call_places.specs.declared.entries.Place.{Place}
 use Rattle.hpke_context.specs.Answers.{Item, Seal, Cipher, Sealed_at, answer, next, due}
-use Rattle.context_books.specs.Batches.{Ask, ToSeal, Batch, lane_of, item_of, item_in_call, item_or_none, items_of, IsServed, place, all_asked, on, own_places}
+use Rattle.context_books.specs.Batches.{Ask, ToSeal, Batch, lane_of, item_of, item_in_call, item_or_none, items_of, IsServed, place, on, own_places}
+use Rattle.context_books.specs.Merging.{all_asked}
 use Rattle.context_books.specs.Legal.{Legal, reply_of, due_after, before}
 use Rattle.context_books.proofs.Members.{In-left, In-right, contains_in, in_contains, split_at, got}
 use Rattle.context_books.specs.Lists.{In}

@@ -5,7 +5,7 @@ use Rattle.std.proofs.lemmas.List.FromFn.{length-range_with_len, get_or-range_wi
 use Rattle.batch_plans.specs.declared.replies.Reply.{Reply}
 use Rattle.batch_plans.specs.declared.replies.Reply.TheVariants.{Blank}
 use Rattle.batch_plans.specs.declared.replies.LaneAnswers.{LaneAnswers}
-use Rattle.batch_plans.specs.Lines.{reply_line}
+use Rattle.batch_plans.specs.AnswersText.{reply_line}
 use Rattle.demo_runs.specs.Steps.{opened_line, IsOpenedLane}
 use Rattle.demo_runs.proofs.Puts.{line_at}
 

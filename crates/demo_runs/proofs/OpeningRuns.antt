@@ -10,7 +10,8 @@ use Rattle.key_schedule.specs.declared.modes.Role.TheVariants as roles
 use Rattle.hkdf_labelled.specs.declared.suites.Aead.TheVariants as aeads
 use Rattle.hpke_context.specs.Answers.{Item, Unseal, Cipher, Opened_at, run as run_items}
 use Rattle.hpke_context.specs.Contexts.{ContextView, cipher_of}
-use Rattle.context_books.specs.Batches.{Ask, ToOpenAll, Batch, lane_of, block, place, all_asked, on, items_of, items_in, spots}
+use Rattle.context_books.specs.Batches.{Ask, ToOpenAll, Batch, lane_of, block, place, on, items_of, items_in, spots}
+use Rattle.context_books.specs.Merging.{all_asked}
 use Rattle.context_books.specs.Legal.{Legal, reply_of}
 use Rattle.context_books.proofs.Places.{not_in_front}
 use Rattle.context_books.proofs.Lists.{on-append, on-spots_same}
@@ -20,8 +21,9 @@ use Rattle.batch_plans.specs.declared.plan.CallLine.{CallLine}
 use Rattle.batch_plans.specs.declared.plan.CallLine.TheVariants.{UnsealAll}
 use Rattle.batch_plans.specs.declared.replies.Reply.{Reply}
 use Rattle.batch_plans.specs.declared.replies.Batch.{Batch as Guess}
-use Rattle.batch_plans.specs.Lines.{reply_line, batch_line}
-use Rattle.batch_plans.specs.ReplyText.{numbered, all_lines, calls_lines}
+use Rattle.batch_plans.specs.Lines.{batch_line}
+use Rattle.batch_plans.specs.AnswersText.{reply_line, calls_lines}
+use Rattle.batch_plans.specs.ReplyText.{numbered, all_lines}
 use Rattle.context_books.specs.Standing.{standing_at, call_refusal}
 use Rattle.context_books.specs.Asks.{ask_of, asked_by, ask_unless, cipher_in, cipher_at}
 use Rattle.context_books.specs.Runs.{Run, asks_of, journal_of, guesses_of, place_line, answer_line_of, call_lines, served_lines, lines_unless}

@@ -12,8 +12,8 @@ use Rattle.batch_plans.specs.declared.plan.CallLine.TheVariants.{UnsealAll}
 use Rattle.batch_plans.specs.declared.replies.Reply.{Reply}
 use Rattle.batch_plans.specs.declared.replies.Reply.TheVariants.{Blank, Sealed, Opened, Failed, Limit, Exported, Refused, Added, Retired}
 use Rattle.batch_plans.specs.declared.replies.Batch.{Batch as Guess}
-use Rattle.batch_plans.specs.Lines.{reply_line, batch_line}
-use Rattle.batch_plans.specs.ReplyText.{calls_lines, guess_line}
+use Rattle.batch_plans.specs.Lines.{batch_line}
+use Rattle.batch_plans.specs.AnswersText.{reply_line, calls_lines, guess_line}
 use Rattle.demo_runs.specs.Steps.{opened_line}
 
 -- ---- replies in their order

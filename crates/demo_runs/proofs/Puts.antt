@@ -16,7 +16,8 @@ use Rattle.batch_plans.specs.declared.plan.CallLine.{CallLine}
 use Rattle.batch_plans.specs.declared.replies.Reply.{Reply}
 use Rattle.batch_plans.specs.declared.replies.Reply.TheVariants.{Blank, Sealed}
 use Rattle.batch_plans.specs.declared.replies.LaneAnswers.{LaneAnswers}
-use Rattle.batch_plans.specs.Lines.{served_line, reply_line}
+use Rattle.batch_plans.specs.Lines.{served_line}
+use Rattle.batch_plans.specs.AnswersText.{reply_line}
 use Rattle.demo_runs.specs.Demo.{sealed_at}
 use Rattle.demo_runs.specs.Batches.{ciphertexts}
 use Rattle.demo_runs.specs.Steps.{sealed_line, IsSealedReply, SealedLane, SealedLanes, AreLow, IsSealedLane, AreSealedLanes, put_all}

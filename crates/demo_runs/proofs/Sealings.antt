@@ -20,8 +20,8 @@ use Rattle.batch_plans.specs.declared.replies.Reply.{Reply}
 use Rattle.batch_plans.specs.declared.replies.Batch.{Batch as Guess}
 use Rattle.batch_plans.specs.declared.replies.LaneAnswers.{LaneAnswers}
 use Rattle.batch_plans.specs.Replies.{IsPrintable}
-use Rattle.batch_plans.specs.Lines.{reply_line}
-use Rattle.batch_plans.specs.ReplyText.{is_refused, guess_line, numbered, all_lines, calls_lines, answered_lines, lanes_lines}
+use Rattle.batch_plans.specs.AnswersText.{reply_line, is_refused, guess_line, calls_lines, answered_lines, lanes_lines}
+use Rattle.batch_plans.specs.ReplyText.{numbered, all_lines}
 use Rattle.context_books.specs.Standing.{standing_at, call_refusal}
 use Rattle.context_books.specs.Asks.{ask_of, asked_by, ask_unless, cipher_in, cipher_at}
 use Rattle.context_books.specs.Runs.{Run, asks_of, journal_of, place_line, answer_line_of, call_lines, lane_call_lines, served_lines, lines_unless}

@@ -14,9 +14,10 @@ use Rattle.batch_plans.specs.declared.replies.KeyReply.TheVariants.{Generated, S
 use Rattle.batch_plans.specs.declared.replies.ContextReply.{ContextReply}
 use Rattle.batch_plans.specs.declared.replies.LaneAnswers.{LaneAnswers}
 use Rattle.batch_plans.specs.declared.replies.Answers.{Answers}
-use Rattle.batch_plans.specs.Lines.{reply_line}
-use Rattle.batch_plans.specs.ReplyText.{IsAnswered, has_stamps, numbered, answered_lines, lanes_lines}
-use Rattle.context_books.specs.Standing.{standing_at, AreOfLines}
+use Rattle.batch_plans.specs.AnswersText.{reply_line, IsAnswered, answered_lines, lanes_lines}
+use Rattle.batch_plans.specs.ReplyText.{has_stamps, numbered}
+use Rattle.context_books.specs.Standing.{standing_at}
+use Rattle.context_books.specs.ContextLines.{AreOfLines}
 use Rattle.context_books.specs.Runs.{Run, asks_of, journal_of, LegalFor, lane_call_lines, run_along}
 use Rattle.context_table.specs.SetUp.{IsSetUp}
 use Rattle.context_table.specs.Laws.{EndsMatch, Message, to_seal, to_open, sealed_from, opened_from, OpensInOrder}

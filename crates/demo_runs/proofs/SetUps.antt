@@ -4,7 +4,8 @@ use Rattle.std.specs.Prelude.{slice_get}
 use Rattle.call_places.specs.Spans.{span_bytes}
 use Rattle.key_schedule.specs.declared.modes.Role.TheVariants as roles
 use Rattle.hkdf_labelled.specs.declared.suites.Aead.TheVariants as aeads
-use Rattle.hpke_context.specs.Contexts.{ContextView, encrypts, key_in, nonce_of}
+use Rattle.hpke_context.specs.Contexts.{ContextView, key_in, nonce_of}
+use Rattle.hpke_context.specs.Calls.{encrypts}
 use Rattle.batch_plans.specs.declared.plan.Plan.{Plan}
 use Rattle.batch_plans.specs.declared.plan.KeyLine.{KeyLine}
 use Rattle.batch_plans.specs.declared.plan.KeyLine.TheVariants.{Generate}
@@ -22,7 +23,8 @@ use Rattle.aes_gcm.specs.Gcm.{seal, gctr, tag_of}
 use Rattle.aes_gcm.proofs.Opening.{IsWhole, length-gctr, length-tag_of}
 use Rattle.context_table.proofs.Messages.{key_is_whole}
 use Rattle.context_books.proofs.Members.{value_at}
-use Rattle.context_books.specs.Standing.{standing_at, AreOfLines}
+use Rattle.context_books.specs.Standing.{standing_at}
+use Rattle.context_books.specs.ContextLines.{AreOfLines}
 use Rattle.demo_runs.specs.Demo.{sealed_at, sealed_text}
 use Rattle.demo_runs.specs.Batches.{is_generated}
 use Rattle.context_table.specs.Streams.{context_words}

@@ -3,9 +3,8 @@ use Rattle.std.proofs.Common.{◌≡◌, ℕ, ◌+◌, ◌*◌, ◌≤◌, List,
 use Rattle.std.specs.Prelude.{sum_by}
 use Rattle.std.specs.List.{flat_map}
 use Rattle.hex.proofs.HexLemmas.{length-encode_with}
-use Rattle.hex.specs.Hex.{lower_digits}
+use Rattle.hex.specs.Hex.{lower_digits, encode_with}
 use Rattle.std.proofs.lemmas.List.Sums.{sum_by-cons}
-use Rattle.hex.specs.Hex.{encode_with}
 use Rattle.field_text.specs.Printing.{hex_text}
 use Rattle.batch_plans.specs.Limits.{most_input}
 use Rattle.demo_runs.specs.Texts.{rand_line, set_up_lines, seal_line, share_of, sealing_lane, item_text, opening_line}

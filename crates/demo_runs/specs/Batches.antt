@@ -7,10 +7,12 @@ use Rattle.batch_plans.specs.declared.replies.KeyReply.{KeyReply}
 use Rattle.batch_plans.specs.declared.replies.KeyReply.TheVariants.{Generated}
 use Rattle.batch_plans.specs.declared.replies.ContextReply.{ContextReply}
 use Rattle.batch_plans.specs.declared.replies.Answers.{Answers}
-use Rattle.batch_plans.specs.Limits.{IsWithinLimits}
+use Rattle.batch_plans.specs.Within.{IsWithinLimits}
 use Rattle.batch_plans.specs.Room.{room_for}
-use Rattle.batch_plans.specs.ReplyText.{lanes_lines, numbered, IsAnswered}
-use Rattle.context_books.specs.Standing.{standing_at, AreOfLines, export_limits}
+use Rattle.batch_plans.specs.ReplyText.{numbered}
+use Rattle.batch_plans.specs.AnswersText.{lanes_lines, IsAnswered}
+use Rattle.context_books.specs.Standing.{standing_at}
+use Rattle.context_books.specs.ContextLines.{AreOfLines, export_limits}
 use Rattle.context_books.specs.Runs.{run_along, IsAllowed, lane_call_lines}
 use Rattle.context_table.specs.SetUp.{IsSetUp}
 use Rattle.demo_runs.specs.Plans.{IsSealingPlan, IsOpeningPlan}

@@ -7,7 +7,8 @@ use Rattle.batch_plans.specs.declared.plan.CallLine.{CallLine}
 use Rattle.batch_plans.specs.declared.replies.Reply.{Reply}
 use Rattle.batch_plans.specs.declared.replies.LaneAnswers.{LaneAnswers}
 use Rattle.batch_plans.specs.Replies.{IsInRange, IsPrintable}
-use Rattle.batch_plans.specs.Lines.{served_line, reply_line}
+use Rattle.batch_plans.specs.Lines.{served_line}
+use Rattle.batch_plans.specs.AnswersText.{reply_line}
 use Rattle.demo_runs.specs.Demo.{sealed_at, sealed_text}
 
 -- ---- the first batch

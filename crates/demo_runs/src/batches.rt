@@ -1,7 +1,7 @@
 //! A batch of a demonstration, before its lanes are served and after.
 
 ghost use Rattle.std.specs.Prelude.{IfOk};
-ghost use Rattle.batch_plans.specs.Limits.{IsWithinLimits, IsPlain};
+ghost use Rattle.batch_plans.specs.Within.{IsWithinLimits, IsPlain};
 ghost use Rattle.demo_runs.specs.Batches.{IsBegun};
 
 use batch_plans::{Answers, PlainList, Plan};

@@ -2,7 +2,7 @@
 
 ghost use Rattle.std.specs.Prelude.{◌≡◌, ◌<◌, ◌≤◌, ◌^◌, ℕ, List, length, IfOk, true};
 ghost use Rattle.batch_plans.specs.Replies.{IsInRange};
-ghost use Rattle.batch_plans.specs.Lines.{reply_line};
+ghost use Rattle.batch_plans.specs.AnswersText.{reply_line};
 ghost use Rattle.demo_runs.specs.Batches.{IsOpening, HasOpened};
 ghost use Rattle.demo_runs.specs.Steps.{opened_line, IsOpenedLane};
 

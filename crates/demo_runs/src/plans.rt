@@ -1,7 +1,7 @@
 //! The plans that the texts spell.
 
 ghost use Rattle.std.specs.Prelude.{◌≡◌, ◌<◌, ◌≤◌, length, IfOk};
-ghost use Rattle.batch_plans.specs.Limits.{IsWithinLimits, IsPlain};
+ghost use Rattle.batch_plans.specs.Within.{IsWithinLimits, IsPlain};
 ghost use Rattle.request_frames.specs.Batch.{Spells};
 ghost use Rattle.demo_runs.specs.Texts.{sealing_text, opening_text};
 ghost use Rattle.demo_runs.specs.Plans.{IsSealingPlan, IsOpeningPlan};

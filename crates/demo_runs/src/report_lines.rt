@@ -2,8 +2,9 @@
 
 ghost use Rattle.std.specs.Prelude.{◌≡◌, ◌≤◌};
 ghost use Rattle.std.specs.Io.KnownBytes.{Appends};
-ghost use Rattle.batch_io.specs.Outside.{Rose};
-ghost use Rattle.field_text.specs.Printing.{Puts, AppendsPrefix};
+ghost use Rattle.batch_io.specs.Faults.{Rose};
+ghost use Rattle.field_text.specs.Printing.{AppendsPrefix};
+ghost use Rattle.field_text.specs.Buffers.{Puts};
 ghost use Rattle.demo_runs.specs.Demo.{report_text};
 
 use batch_io::Sink;

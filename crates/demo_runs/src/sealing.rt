@@ -3,11 +3,10 @@
 ghost use Rattle.std.specs.Prelude.{◌≡◌, ◌<◌, ◌≤◌, ℕ, List, length, IfOk, MatchOption, Some, None, slice_set};
 ghost use Rattle.std.specs.List.{flat_map};
 ghost use Rattle.hpke_context.specs.Contexts.{ContextView};
-ghost use Rattle.batch_plans.specs.Lines.{reply_line};
+ghost use Rattle.batch_plans.specs.AnswersText.{reply_line};
 ghost use Rattle.demo_runs.specs.Demo.{sealed_at};
-ghost use Rattle.demo_runs.specs.Steps.{sealed_line, IsSealedReply, SealedLane, SealedLanes, AreLow};
+ghost use Rattle.demo_runs.specs.Steps.{sealed_line, IsSealedReply, SealedLane, SealedLanes, AreLow, IsSealedLane, AreSealedLanes, put_all};
 ghost use Rattle.demo_runs.specs.Batches.{IsSealed, is_generated, IsSealing, HasSealed};
-ghost use Rattle.demo_runs.specs.Steps.{IsSealedLane, AreSealedLanes, put_all};
 
 use crate::batches::{DemoBatch, ServedBatch, begin};
 use crate::ciphertext_bytes::{CIPHERTEXT_SIZE, see_bytes};

@@ -1,16 +1,11 @@
 -- Hex digits are read by lanes.
-use Rattle.std.proofs.Common.{◌≡◌, ℕ, zero, suc, ◌+◌, ◌-◌, ◌*◌, ◌/◌, ◌%◌, ◌^◌, ◌<◌, ◌≤◌}
-use Rattle.std.proofs.Common.{Bool, true, false, not, cond, ltb, leb, eqb, ◌&&◌}
-use Rattle.std.proofs.Common.{List, [], ◌∷◌, ◌++◌, length, get_or, take, drop, map, replicate, slice_set}
-use Rattle.std.proofs.Common.{refl, sym, ap, ◌∙◌, arith, w8, Fits, Some, Result, Ok, codes}
+use Rattle.std.proofs.Common.{◌≡◌, ℕ, zero, suc, ◌+◌, ◌-◌, ◌*◌, ◌/◌, ◌%◌, ◌^◌, ◌<◌, ◌≤◌, Bool, true, false, not, cond, ltb, leb, eqb, ◌&&◌, List, [], ◌∷◌, ◌++◌, length, get_or, take, drop, map, replicate, slice_set, refl, sym, ap, ◌∙◌, arith, w8, Fits, Some, Result, Ok, codes}
 use Rattle.std.specs.List.{list_all, AllPass}
 use Rattle.std.specs.Str.{bytes_eq}
 use Rattle.std.specs.Result.{result_unwrap_or}
-use Rattle.std.proofs.lemmas.Simd.{tops_compared, zip2_splat_left, mask_l-mod}
-use Rattle.std.proofs.lemmas.Simd.{length-chunk, chunk-drop, take_more_put_chunk}
+use Rattle.std.proofs.lemmas.Simd.{tops_compared, zip2_splat_left, mask_l-mod, length-chunk, chunk-drop, take_more_put_chunk}
 use Rattle.std.proofs.Math.Seq.{take-add}
-use Rattle.std.proofs.lemmas.List.{map-append, drop-drop, append-nil, take_all, take_more_set}
-use Rattle.std.proofs.lemmas.List.{append_assoc, drop_all, length-map}
+use Rattle.std.proofs.lemmas.List.{map-append, drop-drop, append-nil, take_all, take_more_set, append_assoc, drop_all, length-map}
 use Rattle.std.proofs.lemmas.List.Folds.{list_all-append}
 use Rattle.std.proofs.lemmas.List.Sums.{AllPass-from_list_all}
 use Rattle.std.proofs.lemmas.List.Elements.{All-head, All-tail}

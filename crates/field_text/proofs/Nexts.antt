@@ -4,7 +4,8 @@ use Rattle.std.specs.Result.{IsErrAnd}
 use Rattle.field_text.specs.declared.reasons.Reason.{Reason}
 use Rattle.field_text.specs.declared.stop.Stop.{Stop}
 use Rattle.field_text.specs.declared.stop.Stop.TheVariants.{OutOfMemory, Bad}
-use Rattle.field_text.specs.Fields.{◌>>=◌, next, Reads, Stops, Gives}
+use Rattle.field_text.specs.Fields.{◌>>=◌, next}
+use Rattle.field_text.specs.Readings.{Reads, Stops, Gives}
 
 -- the piece is read as the field, and the pieces after it stay
 next_piece : {A : Type 0} (field : List ℕ → Result A Reason) (pieces : List (List ℕ)) (piece : List ℕ) (rest : List (List ℕ)) (read : Result A Reason)

@@ -3,3 +3,5 @@ pub mod Fields
 pub mod Lines
 pub mod Printing
 pub mod HexLanes
+pub mod Buffers
+pub mod Readings

@@ -4,13 +4,11 @@
 -- of text it is. Each further finished line is judged after what the lines before it spell: its
 -- word, its place, its form, its counts. The first line that has a reason decides. The text ends
 -- with the line `end`.
-use Rattle.std.specs.Prelude.{◌≡◌, ℕ, ◌+◌, ◌==◌, nat_lt, Bool, true, false, List, [], ◌∷◌, length, Option, Some, None, codes, Result, Ok, Err, if◌then◌else◌}
+use Rattle.std.specs.Prelude.{ℕ, ◌+◌, ◌==◌, nat_lt, Bool, true, false, List, [], ◌∷◌, length, Option, Some, None, codes, Result, Ok, Err, if◌then◌else◌}
 use Rattle.std.specs.Str.{bytes_eq}
 use Rattle.field_text.specs.declared.reasons.Reason.{Reason}
 use Rattle.field_text.specs.declared.reasons.Reason.TheVariants as reasons
 use Rattle.field_text.specs.declared.faults.BadBatch.{BadBatch}
-use Rattle.field_text.specs.declared.faults.ReadBatchFault.{ReadBatchFault}
-use Rattle.field_text.specs.declared.faults.ReadBatchFault.TheVariants as faults
 use Rattle.field_text.specs.declared.lines.Next.{Next}
 use Rattle.field_text.specs.declared.lines.Next.TheVariants.{More, Last}
 use Rattle.field_text.specs.Cuts.{lines_of, pieces_of}
@@ -118,15 +116,3 @@ abbrev pub whole : {P : Type 0} → Result (FrontText P) BadBatch → Result P B
 whole (Err fault) = Err fault
 whole (Ok front) =
     if is_nothing front.rest then Ok front.plan else bad (front.lines + 1) reasons.Trailing
-
--- ---- how a call answers for a definition
-
--- a call that gave nothing had no memory, or the definition gives its bad line and reason
-abbrev pub IsFault : {P : Type 0} → ReadBatchFault → Result P BadBatch → Type 0
-IsFault (faults.Bad bad) read = read ≡ Err bad
-IsFault faults.OutOfMemory read = Unit {0}
-
--- what the call returned, seen by view, is what the definition gives, unless memory ran out
-abbrev pub Finds : {X P : Type 0} → (X → P) → Result X ReadBatchFault → Result P BadBatch → Type 0
-Finds view (Ok x) read = read ≡ Ok (view x)
-Finds view (Err fault) read = IsFault fault read

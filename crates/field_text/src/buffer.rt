@@ -27,7 +27,8 @@ pub struct Buffer {
 }
 
 impl Buffer {
-    ghost use Rattle.field_text.specs.Printing.{Prints, Puts, IsFresh};
+    ghost use Rattle.field_text.specs.Printing.{Prints};
+    ghost use Rattle.field_text.specs.Buffers.{Puts, IsFresh};
 
     /// A buffer in which nothing waits.
     pub fn new() -> Buffer

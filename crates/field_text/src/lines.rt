@@ -1,10 +1,9 @@
 //! Texts that are judged line by line, up to their line `end`.
 
-ghost use Rattle.std.specs.Prelude.{◌≡◌, ℕ, ◌+◌, ◌<◌, ◌≤◌, ◌^◌, length, sum_by, true};
-ghost use Rattle.std.specs.Prelude.{OnOk, IfOk, Some};
+ghost use Rattle.std.specs.Prelude.{◌≡◌, ℕ, ◌+◌, ◌<◌, ◌≤◌, ◌^◌, length, sum_by, true, OnOk, IfOk, Some};
 ghost use Rattle.field_text.specs.Cuts.{lines_of};
-ghost use Rattle.field_text.specs.Fields.{Reads, Gives};
-ghost use Rattle.field_text.specs.Lines.{Grammar, FrontText, Finds, line_after, with_word, judged, front, whole};
+ghost use Rattle.field_text.specs.Readings.{Reads, Gives, Finds};
+ghost use Rattle.field_text.specs.Lines.{Grammar, FrontText, line_after, with_word, judged, front, whole};
 
 use crate::cuts::cut_at;
 use crate::faults::{BadBatch, ReadBatchFault};

@@ -1,18 +1,15 @@
 -- HPKE's encryption context (RFC 9180, 5.2 and 5.3), as contracts see it.
-use Rattle.std.specs.Prelude.{◌≡◌, ℕ, ◌*◌, ◌&&◌, Bool, true, false, nat_le, bytes_eq, IsTrue, List, [], length, Option, Some, None}
+use Rattle.std.specs.Prelude.{ℕ, ◌*◌, ◌&&◌, Bool, nat_le, bytes_eq, List, [], length}
 use Rattle.hkdf_labelled.specs.Suites.{hash_size}
 use Rattle.hkdf_labelled.specs.declared.suites.Suite.{Suite}
-use Rattle.hkdf_labelled.specs.declared.suites.Aead.{Aead}
-use Rattle.hkdf_labelled.specs.declared.suites.Aead.TheVariants as aead
 use Rattle.key_schedule.specs.declared.modes.Role.{Role}
-use Rattle.key_schedule.specs.declared.modes.Role.TheVariants.{Sender, Recipient}
 use Rattle.key_schedule.specs.declared.schedules.CipherSecrets.{CipherSecrets}
 use Rattle.key_schedule.specs.declared.schedules.CipherSecrets.TheVariants.{NoCipher, Aes128, Aes256}
 use Rattle.key_schedule.specs.declared.schedules.Secrets.{Secrets}
 use Rattle.key_schedule.specs.Nonces.{compute_nonce}
 use Rattle.key_schedule.specs.Exports.{exported}
 use Rattle.aes_gcm.specs.Gcm.{seal, tag_of, body, last_16, clear}
-use Rattle.hpke_context.specs.Answers.{Item, Cipher, Answer, answer}
+use Rattle.hpke_context.specs.Answers.{Cipher}
 
 -- a context: its end, its algorithms, LIMIT, and what KeySchedule gave
 pub record ContextView : Type 0 where
@@ -20,17 +17,6 @@ pub record ContextView : Type 0 where
   pub suite : Suite
   pub limit : ℕ
   pub secrets : Secrets
-
--- a context with the sequence number that is due
-pub record SequentialView : Type 0 where
-  pub context : ContextView
-  pub seq : ℕ
-
--- the AEAD whose secrets these are
-abbrev pub aead_of : CipherSecrets → Aead
-aead_of NoCipher = aead.ExportOnly
-aead_of (Aes128 key base_nonce) = aead.Aes128
-aead_of (Aes256 key base_nonce) = aead.Aes256
 
 -- key. An export-only context has none; the empty byte string stands for it.
 abbrev pub key_in : CipherSecrets → List ℕ
@@ -43,28 +29,6 @@ abbrev pub base_nonce_in : CipherSecrets → List ℕ
 base_nonce_in NoCipher = []
 base_nonce_in (Aes128 key base_nonce) = base_nonce
 base_nonce_in (Aes256 key base_nonce) = base_nonce
-
--- whether an AEAD encrypts (RFC 9180, 7.3)
-abbrev pub encrypts : Aead → Bool
-encrypts aead.Aes128 = true
-encrypts aead.Aes256 = true
-encrypts aead.ExportOnly = false
-
--- it has a key and base_nonce
-abbrev pub HasCipher : ContextView → Type 0
-HasCipher c = IsTrue (encrypts c.suite.aead)
-
--- it has neither, and only exports secrets
-abbrev pub IsExportOnly : ContextView → Type 0
-IsExportOnly c = c.suite.aead ≡ aead.ExportOnly
-
--- a sender with a cipher: what it seals is answered
-abbrev pub CanSeal : ContextView → Type 0
-CanSeal c = (c.role ≡ Sender) × HasCipher c
-
--- a recipient with a cipher: what it opens is answered
-abbrev pub CanOpen : ContextView → Type 0
-CanOpen c = (c.role ≡ Recipient) × HasCipher c
 
 -- the authenticated decryption function doesn't fail (SP 800-38D, 7.2), as a Bool
 abbrev pub tag_holds : List ℕ → List ℕ → List ℕ → List ℕ → Bool
@@ -87,10 +51,6 @@ cipher_of c =
       clear = λ n aad ct. clear key (nonce_of c n) ct;
     }
 
--- the answer to an item at the number that is due
-abbrev pub answer_now : SequentialView → Item → Answer
-answer_now s item = answer (cipher_of s.context) s.seq item
-
 -- how many bytes a context exports at most: 255 Nh (RFC 9180, 5.3)
 abbrev pub export_limit : ContextView → ℕ
 export_limit c = 255 * hash_size c.suite.kdf
@@ -98,10 +58,3 @@ export_limit c = 255 * hash_size c.suite.kdf
 -- Context.Export(exporter_context, L)
 abbrev pub exported_by : ContextView → List ℕ → ℕ → List ℕ
 exported_by c exporter_context len = exported c.suite c.secrets.exporter exporter_context len
-
--- ---- for the proofs
-
--- the AES key that is kept is the one in the secrets
-abbrev pub KeepsKey : CipherSecrets → Option (List ℕ) → Type 0
-KeepsKey secrets (Some key) = (key ≡ key_in secrets) × IsTrue (encrypts (aead_of secrets))
-KeepsKey secrets None = aead_of secrets ≡ aead.ExportOnly

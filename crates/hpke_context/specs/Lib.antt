@@ -1,3 +1,4 @@
 pub mod Answers
 pub mod Contexts
 pub mod Faults
+pub mod Calls

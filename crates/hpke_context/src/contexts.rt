@@ -1,7 +1,8 @@
 //! Contexts, which don't change.
 
 ghost use Rattle.std.specs.Prelude.{◌≡◌, ◌≤◌, ◌<◌, ◌↔◌, length, IsSome, IsNone, IfSome, IsOk, OnOk, OnErr};
-ghost use Rattle.hpke_context.specs.Contexts.{aead_of, key_in, base_nonce_in, HasCipher, IsExportOnly, export_limit, exported_by, KeepsKey};
+ghost use Rattle.hpke_context.specs.Contexts.{key_in, base_nonce_in, export_limit, exported_by};
+ghost use Rattle.hpke_context.specs.Calls.{aead_of, HasCipher, IsExportOnly, KeepsKey};
 
 use crate::faults::CallFault;
 use aes_gcm::GcmKey;
@@ -27,7 +28,8 @@ pub struct Context {
 
 impl Model for Context {
     ghost use Rattle.std.specs.Prelude.{◌≡◌, ◌≤◌};
-    ghost use Rattle.hpke_context.specs.Contexts.{ContextView, aead_of, KeepsKey};
+    ghost use Rattle.hpke_context.specs.Contexts.{ContextView};
+    ghost use Rattle.hpke_context.specs.Calls.{aead_of, KeepsKey};
 
     ghost Value = { ContextView };
 

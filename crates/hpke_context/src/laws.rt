@@ -7,7 +7,8 @@ ghost use Rattle.key_schedule.specs.declared.schedules.Secrets.{Secrets};
 ghost use Rattle.key_schedule.specs.Schedule.{key_schedule};
 ghost use Rattle.aes_gcm.specs.Gcm.{Holds};
 ghost use Rattle.hpke_context.specs.Answers.{Item, Cipher, run, due};
-ghost use Rattle.hpke_context.specs.Contexts.{aead_of, tag_holds};
+ghost use Rattle.hpke_context.specs.Contexts.{tag_holds};
+ghost use Rattle.hpke_context.specs.Calls.{aead_of};
 
 /// A tag is called right exactly where the authenticated decryption function doesn't fail
 /// (SP 800-38D, 7.2).

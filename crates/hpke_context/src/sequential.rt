@@ -2,7 +2,8 @@
 
 ghost use Rattle.std.specs.Prelude.{◌≡◌, ◌≤◌, ◌<◌, ◌+◌, ◌-◌, ◌^◌, ◌↔◌, ◌⊎◌, ℕ, length, IsTrue, IsOk, OnOk, OnErr};
 ghost use Rattle.hpke_context.specs.Answers.{Seal, Unseal, Sealed_at, Opened_at, Failed_at, At_limit, advances, next};
-ghost use Rattle.hpke_context.specs.Contexts.{HasCipher, IsExportOnly, CanSeal, CanOpen, export_limit, exported_by, answer_now};
+ghost use Rattle.hpke_context.specs.Contexts.{export_limit, exported_by};
+ghost use Rattle.hpke_context.specs.Calls.{HasCipher, IsExportOnly, CanSeal, CanOpen, answer_now};
 
 use crate::contexts::Context;
 use crate::faults::CallFault;
@@ -20,7 +21,7 @@ pub struct Sequential {
 
 impl Model for Sequential {
     ghost use Rattle.std.specs.Prelude.{◌≤◌};
-    ghost use Rattle.hpke_context.specs.Contexts.{SequentialView};
+    ghost use Rattle.hpke_context.specs.Calls.{SequentialView};
 
     ghost Value = { SequentialView };
 

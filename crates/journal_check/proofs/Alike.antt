@@ -5,8 +5,9 @@ use Rattle.std.specs.List.{list_all, flat_map, range_with_len}
 use Rattle.std.proofs.lemmas.List.{length-map}
 use Rattle.call_places.specs.declared.entries.Place.{Place}
 use Rattle.call_places.specs.declared.entries.Mark.{Mark}
-use Rattle.context_books.specs.Batches.{Batch, place, on, all_asked, lane_of, own_places}
-use Rattle.context_books.specs.Histories.{places, journals_of, own_spots}
+use Rattle.context_books.specs.Batches.{Batch, place, on, lane_of, own_places}
+use Rattle.context_books.specs.Merging.{all_asked, own_spots}
+use Rattle.context_books.specs.Histories.{places, journals_of}
 use Rattle.context_books.specs.Legal.{is_same_place}
 use Rattle.context_books.specs.Checks.{are_same, goes_on, is_unbroken, is_legal, is_same_mark, is_same_spot, is_legal_history, by_stamps}
 use Rattle.result_lines.specs.Journals.{is_journal, broken_journal, stamps_rise}

@@ -4,7 +4,8 @@ use Rattle.std.specs.Result.{OnOk}
 use Rattle.std.proofs.lemmas.List.{drop_all, take-append-le, take_all}
 use Rattle.call_places.specs.declared.entries.Mark.{Mark}
 use Rattle.hpke_context.specs.Answers.{Item, Cipher, answer, next, run}
-use Rattle.hpke_context.specs.Contexts.{ContextView, SequentialView, cipher_of, answer_now}
+use Rattle.hpke_context.specs.Contexts.{ContextView, cipher_of}
+use Rattle.hpke_context.specs.Calls.{SequentialView, answer_now}
 use Rattle.context_books.specs.Entries.{numbers_from}
 use Rattle.context_books.specs.Histories.{places}
 use Rattle.batch_plans.specs.declared.plan.Plan.{Plan}

@@ -9,7 +9,8 @@ use Rattle.context_books.specs.Lists.{In}
 use Rattle.batch_plans.specs.declared.plan.Plan.{Plan}
 use Rattle.batch_plans.specs.declared.plan.CallLine.{CallLine}
 use Rattle.batch_plans.specs.declared.plan.CallLine.TheVariants as calls
-use Rattle.batch_plans.specs.Limits.{items_from, IsItemWithin, IsWithinLimits, most_plaintext, most_ciphertext}
+use Rattle.batch_plans.specs.Limits.{items_from, most_plaintext, most_ciphertext}
+use Rattle.batch_plans.specs.Within.{IsItemWithin, IsWithinLimits}
 use Rattle.journal_check.specs.declared.items.Asked.{Asked}
 use Rattle.journal_check.specs.declared.items.Asked.TheVariants.{Seal, Open}
 use Rattle.journal_check.specs.Runs.{asks_in, asked_in_call, asked_at, IsAskedIn}

@@ -9,14 +9,15 @@ use Rattle.std.specs.Option.{option_map}
 use Rattle.std.proofs.lemmas.Option.{slice_get-map}
 use Rattle.call_places.specs.declared.entries.Place.{Place}
 use Rattle.hpke_context.specs.Contexts.{ContextView}
-use Rattle.context_books.specs.Batches.{Batch, Ask, Nothing, ToSeal, ToOpen, ToOpenAll, unseal, items_in, context_in, block, Spot, asked, all_asked, on, lane_of}
+use Rattle.context_books.specs.Batches.{Batch, Ask, Nothing, ToSeal, ToOpen, ToOpenAll, unseal, items_in, context_in, block, Spot, asked, on, lane_of}
+use Rattle.context_books.specs.Merging.{all_asked}
 use Rattle.context_books.specs.Checks.{goes_on, goes_on_in}
 use Rattle.context_books.proofs.Lists.{on-append, on-spots}
 use Rattle.batch_plans.specs.declared.plan.Plan.{Plan}
 use Rattle.batch_plans.specs.declared.plan.CallLine.{CallLine}
 use Rattle.batch_plans.specs.declared.plan.CallLine.TheVariants as calls
 use Rattle.batch_plans.specs.declared.replies.CallRefusal.{CallRefusal}
-use Rattle.batch_plans.specs.Limits.{IsCallWithin, IsWithinLimits}
+use Rattle.batch_plans.specs.Within.{IsCallWithin, IsWithinLimits}
 use Rattle.context_books.specs.Standing.{call_refusal}
 use Rattle.context_books.specs.Asks.{asked_by, ask_unless, ask_of, batch_of}
 use Rattle.context_books.proofs.Done.{lane_asks, length-messages}

@@ -7,9 +7,10 @@ use Rattle.std.proofs.lemmas.List.Folds.{flat_map-map}
 use Rattle.std.proofs.lemmas.Bool.{cases_eq}
 use Rattle.call_places.specs.declared.entries.Place.{Place}
 use Rattle.call_places.specs.declared.entries.Mark.{Mark}
-use Rattle.context_books.specs.Batches.{Batch, Spot, spots, on, all_asked, lane_of, lane_places, own_places}
+use Rattle.context_books.specs.Batches.{Batch, Spot, spots, on, lane_of, own_places}
+use Rattle.context_books.specs.Merging.{all_asked, lane_places, own_spots}
 use Rattle.context_books.specs.Legal.{is_same_place}
-use Rattle.context_books.specs.Histories.{mark, marks_at, places, own_spots, stamped_on, journals_of}
+use Rattle.context_books.specs.Histories.{mark, marks_at, places, stamped_on, journals_of}
 use Rattle.context_books.specs.Checks.{are_same, has_lane, has_lanes, is_legal, is_same_spot, has_lane_spots}
 use Rattle.context_books.proofs.Lists.{own_places-append, own_places-on, own_spots-all_asked, own_spots-all_asked_other, on-append, on-spots}
 use Rattle.context_books.proofs.Members.{range_below}

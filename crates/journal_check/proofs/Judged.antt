@@ -4,7 +4,7 @@ use Rattle.std.proofs.lemmas.List.{length-map}
 use Rattle.call_places.specs.declared.entries.Mark.{Mark}
 use Rattle.hpke_context.specs.Contexts.{ContextView}
 use Rattle.batch_plans.specs.declared.plan.Plan.{Plan}
-use Rattle.batch_plans.specs.Limits.{IsWithinLimits}
+use Rattle.batch_plans.specs.Within.{IsWithinLimits}
 use Rattle.batch_plans.specs.Names.{line_count}
 use Rattle.context_books.specs.Asks.{batch_of}
 use Rattle.context_books.specs.Live.{LiveRun, looked_up_plan}

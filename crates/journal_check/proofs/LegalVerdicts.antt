@@ -1,7 +1,7 @@
 -- The verdict is Legal exactly for the replies that a plan may have.
 use Rattle.std.proofs.Common.{◌≡◌, ◌↔◌, ℕ, List, Option, sym, ◌∙◌, subst}
 use Rattle.hpke_context.specs.Contexts.{ContextView}
-use Rattle.batch_plans.specs.Limits.{IsWithinLimits}
+use Rattle.batch_plans.specs.Within.{IsWithinLimits}
 use Rattle.batch_plans.specs.declared.plan.Plan.{Plan}
 use Rattle.context_books.specs.Runs.{IsAllowed, run_text, run_along}
 use Rattle.context_table.specs.ReplyTo.{IsReply}

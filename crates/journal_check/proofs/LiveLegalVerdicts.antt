@@ -2,7 +2,7 @@
 -- contexts.
 use Rattle.std.proofs.Common.{◌≡◌, ◌↔◌, ℕ, List, Option, sym, ◌∙◌, subst}
 use Rattle.hpke_context.specs.Contexts.{ContextView}
-use Rattle.batch_plans.specs.Limits.{IsWithinLimits}
+use Rattle.batch_plans.specs.Within.{IsWithinLimits}
 use Rattle.batch_plans.specs.declared.plan.Plan.{Plan}
 use Rattle.batch_plans.specs.declared.replies.ContextReply.{ContextReply}
 use Rattle.context_books.specs.Live.{IsAllowedLive, live_run_text, live_run_along}

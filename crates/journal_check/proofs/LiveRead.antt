@@ -3,7 +3,7 @@ use Rattle.std.proofs.Common.{◌≡◌, ℕ, List, length, Ok, Option, sym, ap,
 use Rattle.std.proofs.lemmas.List.{length-map}
 use Rattle.call_places.specs.declared.entries.Entry.{Entry}
 use Rattle.hpke_context.specs.Contexts.{ContextView}
-use Rattle.batch_plans.specs.Limits.{IsWithinLimits}
+use Rattle.batch_plans.specs.Within.{IsWithinLimits}
 use Rattle.batch_plans.specs.declared.plan.Plan.{Plan}
 use Rattle.batch_plans.specs.declared.replies.Batch.{Batch}
 use Rattle.batch_plans.specs.declared.replies.KeyReply.{KeyReply}

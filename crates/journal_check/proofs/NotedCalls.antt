@@ -21,7 +21,7 @@ use Rattle.context_books.proofs.Marks.{legal_alone}
 use Rattle.context_books.proofs.Members.{contains_in, in_map, at_in, value_at}
 use Rattle.context_books.specs.Lists.{In}
 use Rattle.context_books.proofs.Truths.{and_left, both_true, true_all, true_lt}
-use Rattle.batch_plans.specs.Limits.{IsWithinLimits}
+use Rattle.batch_plans.specs.Within.{IsWithinLimits}
 use Rattle.batch_plans.specs.declared.plan.Plan.{Plan}
 use Rattle.batch_plans.specs.declared.plan.CallLine.{CallLine}
 use Rattle.batch_plans.specs.ReplyText.{numbered}

@@ -7,14 +7,15 @@ use Rattle.std.proofs.lemmas.List.{get_or_past}
 use Rattle.call_places.specs.declared.entries.Mark.{Mark}
 use Rattle.hpke_context.specs.Answers.{Item, run as run_items}
 use Rattle.hpke_context.specs.Contexts.{ContextView, cipher_of}
-use Rattle.context_books.specs.Batches.{Ask, on, all_asked, items_of}
+use Rattle.context_books.specs.Batches.{Ask, on, items_of}
+use Rattle.context_books.specs.Merging.{all_asked}
 use Rattle.context_books.specs.Entries.{numbers_from}
 use Rattle.context_books.specs.Histories.{marks_at, places}
 use Rattle.context_books.specs.Legal.{Legal}
 use Rattle.context_books.proofs.Legals.{lane_is}
 use Rattle.context_books.specs.Lists.{In}
 use Rattle.batch_plans.specs.declared.plan.Plan.{Plan}
-use Rattle.batch_plans.specs.Limits.{IsWithinLimits}
+use Rattle.batch_plans.specs.Within.{IsWithinLimits}
 use Rattle.context_books.specs.Standing.{standing_at}
 use Rattle.context_books.specs.Asks.{batch_of, cipher_in, cipher_at}
 use Rattle.context_books.specs.Runs.{Run, asks_of, journal_of, answer_line, run_along}

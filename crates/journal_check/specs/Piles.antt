@@ -3,8 +3,9 @@ use Rattle.std.specs.Prelude.{ℕ, ◌≡◌, ◌≤◌, ◌<◌, ◌+◌, Bool,
 use Rattle.std.specs.List.{flat_map, range_with_len}
 use Rattle.call_places.specs.declared.entries.Place.{Place}
 use Rattle.call_places.specs.declared.entries.Mark.{Mark}
-use Rattle.context_books.specs.Batches.{Batch, Spot, spots, all_asked, lane_of, lane_places, own_places}
-use Rattle.context_books.specs.Histories.{marks_at, places, own_spots}
+use Rattle.context_books.specs.Batches.{Batch, Spot, spots, lane_of, own_places}
+use Rattle.context_books.specs.Merging.{all_asked, lane_places, own_spots}
+use Rattle.context_books.specs.Histories.{marks_at, places}
 use Rattle.result_lines.specs.Journals.{broken_journal}
 
 -- an item goes onto the pile of this number, where there is one

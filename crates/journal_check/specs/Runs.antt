@@ -6,14 +6,16 @@ use Rattle.call_places.specs.Spans.{span_bytes}
 use Rattle.call_places.specs.declared.entries.Mark.{Mark}
 use Rattle.hpke_context.specs.Answers as hpke
 use Rattle.hpke_context.specs.Answers.{run}
-use Rattle.hpke_context.specs.Contexts.{ContextView, CanSeal, CanOpen, cipher_of}
+use Rattle.hpke_context.specs.Contexts.{ContextView, cipher_of}
+use Rattle.hpke_context.specs.Calls.{CanSeal, CanOpen}
 use Rattle.context_books.specs.Entries.{numbers_from}
 use Rattle.context_books.specs.Histories.{places, marks_at}
 use Rattle.context_books.specs.Lists.{In}
 use Rattle.batch_plans.specs.declared.plan.Plan.{Plan}
 use Rattle.batch_plans.specs.declared.plan.CallLine.{CallLine}
 use Rattle.batch_plans.specs.declared.plan.CallLine.TheVariants as calls
-use Rattle.batch_plans.specs.Limits.{items_from, IsItemWithin, most_ciphertext}
+use Rattle.batch_plans.specs.Limits.{items_from, most_ciphertext}
+use Rattle.batch_plans.specs.Within.{IsItemWithin}
 use Rattle.context_books.specs.Standing.{standing_at}
 use Rattle.context_books.specs.Runs.{answer_line}
 use Rattle.journal_check.specs.declared.items.Asked.{Asked}

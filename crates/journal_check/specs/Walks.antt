@@ -6,7 +6,7 @@ use Rattle.hpke_context.specs.Contexts.{ContextView}
 use Rattle.context_books.specs.Batches.{own_places}
 use Rattle.context_books.specs.Histories.{marks_at, places}
 use Rattle.batch_plans.specs.declared.plan.CallLine.{CallLine}
-use Rattle.batch_plans.specs.Limits.{IsCallWithin, IsWithinLimits}
+use Rattle.batch_plans.specs.Within.{IsCallWithin, IsWithinLimits}
 use Rattle.context_books.specs.Standing.{standing_at}
 use Rattle.context_books.specs.Runs.{Run, place_line, journal_of}
 use Rattle.result_lines.specs.declared.told.GuessLine.{GuessLine}

@@ -1,7 +1,8 @@
 //! The verdict on a result.
 
 ghost use Rattle.std.specs.Prelude.{◌≡◌, ◌↔◌, ◌≤◌, length, IfOk};
-ghost use Rattle.batch_plans.specs.Limits.{IsWithinLimits, most_contexts, most_input};
+ghost use Rattle.batch_plans.specs.Limits.{most_contexts, most_input};
+ghost use Rattle.batch_plans.specs.Within.{IsWithinLimits};
 ghost use Rattle.context_table.specs.ReplyTo.{IsReply};
 ghost use Rattle.result_lines.specs.declared.verdicts.Verdict.{Verdict};
 ghost use Rattle.result_lines.specs.Replies.{wrong_reply as wrong_reply_of};

@@ -2,12 +2,12 @@
 
 ghost use Rattle.std.specs.Prelude.{◌≡◌, ◌≤◌, ◌<◌, ◌+◌, ◌-◌, ◌^◌, length, map, slice_get, IfOk, OnOk};
 ghost use Rattle.hpke_context.specs.Answers.{Seal, Unseal, next};
-ghost use Rattle.hpke_context.specs.Contexts.{CanSeal, CanOpen, answer_now};
-ghost use Rattle.batch_plans.specs.Limits.{IsWithinLimits, most_ciphertext};
+ghost use Rattle.hpke_context.specs.Calls.{CanSeal, CanOpen, answer_now};
+ghost use Rattle.batch_plans.specs.Limits.{most_ciphertext};
+ghost use Rattle.batch_plans.specs.Within.{IsWithinLimits};
 ghost use Rattle.call_places.specs.Spans.{IsInPool, span_bytes};
 ghost use Rattle.context_books.specs.Runs.{answer_line};
-ghost use Rattle.journal_check.specs.Runs.{asks_in, asked_at as asked_at_of, item_view, CanDo};
-ghost use Rattle.journal_check.specs.Runs.{IsAskedIn, OpensWithin};
+ghost use Rattle.journal_check.specs.Runs.{asks_in, asked_at as asked_at_of, item_view, CanDo, IsAskedIn, OpensWithin};
 
 use aes_gcm::Checks;
 use batch_plans::{CallLine, Plan, Reply, items_from};

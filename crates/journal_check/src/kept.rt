@@ -1,7 +1,7 @@
 //! Journals of which no more is kept than may be legal.
 
 ghost use Rattle.std.specs.Prelude.{◌≡◌, IfOk};
-ghost use Rattle.batch_plans.specs.Limits.{IsWithinLimits};
+ghost use Rattle.batch_plans.specs.Within.{IsWithinLimits};
 ghost use Rattle.context_books.specs.Asks.{batch_of};
 ghost use Rattle.journal_check.specs.Asks.{AreFew, batch_from};
 ghost use Rattle.journal_check.specs.Piles.{kept_from, IsKept};

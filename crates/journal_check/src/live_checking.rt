@@ -2,7 +2,8 @@
 
 ghost use Rattle.std.specs.Prelude.{◌≡◌, ◌↔◌, ◌≤◌, true, length, IfOk};
 ghost use Rattle.std.specs.List.{list_all};
-ghost use Rattle.batch_plans.specs.Limits.{IsWithinLimits, most_input};
+ghost use Rattle.batch_plans.specs.Limits.{most_input};
+ghost use Rattle.batch_plans.specs.Within.{IsWithinLimits};
 ghost use Rattle.context_table.specs.ReplyTo.{IsLiveReply};
 ghost use Rattle.context_books.specs.Live.{looked_up_plan};
 ghost use Rattle.context_books.specs.LiveChecks.{tells_act};

@@ -1,11 +1,10 @@
 //! The replies to calls that add and retire contexts.
 
-ghost use Rattle.std.specs.Prelude.{ℕ, ◌≡◌, ◌+◌, ◌∷◌, [], Some, None, IfSome, IfNone};
-ghost use Rattle.std.specs.Prelude.{slice_get};
-ghost use Rattle.batch_plans.specs.Limits.{IsWithinLimits};
+ghost use Rattle.std.specs.Prelude.{ℕ, ◌≡◌, ◌+◌, ◌∷◌, [], Some, None, IfSome, IfNone, slice_get};
+ghost use Rattle.batch_plans.specs.Within.{IsWithinLimits};
 ghost use Rattle.batch_plans.specs.Names.{line_count};
 ghost use Rattle.batch_plans.specs.Replies.{IsInRange};
-ghost use Rattle.batch_plans.specs.Lines.{reply_line};
+ghost use Rattle.batch_plans.specs.AnswersText.{reply_line};
 ghost use Rattle.context_books.specs.Live.{add_line, retire_line};
 ghost use Rattle.result_lines.specs.Replies.{reply_lines};
 ghost use Rattle.journal_check.specs.Asks.{asked_in};

@@ -1,15 +1,15 @@
 //! The journals of a result, its table and its stamps: the first that is wrong.
 
 ghost use Rattle.std.specs.Prelude.{◌≡◌, ◌≤◌, ◌<◌, ◌^◌, ◌+◌, length, IfOk};
-ghost use Rattle.batch_plans.specs.Limits.{IsWithinLimits, most_contexts};
+ghost use Rattle.batch_plans.specs.Limits.{most_contexts};
+ghost use Rattle.batch_plans.specs.Within.{IsWithinLimits};
 ghost use Rattle.batch_plans.specs.Names.{line_count};
 ghost use Rattle.context_books.specs.Asks.{batch_of};
 ghost use Rattle.context_books.specs.LiveChecks.{is_live_history as is_live_history_of};
 ghost use Rattle.result_lines.specs.declared.verdicts.Verdict.{Verdict};
 ghost use Rattle.result_lines.specs.Journals.{is_one_history as is_one_history_of};
 ghost use Rattle.result_lines.specs.LiveVerdicts.{called as called_of};
-ghost use Rattle.journal_check.specs.Served.{IsServed, IsServedBy, table_along};
-ghost use Rattle.journal_check.specs.Served.{stamps_by, named_by, by_order};
+ghost use Rattle.journal_check.specs.Served.{IsServed, IsServedBy, table_along, stamps_by, named_by, by_order};
 ghost use Rattle.result_lines.specs.Computed.{by_stamps, or_later, is_table as is_table_of, by_table};
 
 use crate::histories::is_one_history;

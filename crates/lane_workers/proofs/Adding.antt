@@ -19,9 +19,8 @@ use Rattle.batch_plans.specs.declared.replies.Reply.TheVariants as replies
 use Rattle.batch_plans.specs.Limits.{items_of}
 use Rattle.batch_plans.specs.Room.{opened_room, served_batches, served_or}
 use Rattle.batch_plans.specs.Progress.{Progress, with_reply, with_batch}
-use Rattle.batch_plans.specs.Lines.{reply_line, exported_line}
-use Rattle.batch_plans.specs.LiveText.{is_given}
-use Rattle.batch_plans.specs.ReplyText.{is_refused, HasReplies}
+use Rattle.batch_plans.specs.Lines.{exported_line}
+use Rattle.batch_plans.specs.AnswersText.{reply_line, is_given, is_refused, HasReplies}
 use Rattle.batch_plans.proofs.CallLines.{HasReplies-one, HasReplies-refused, HasReplies-opening}
 use Rattle.context_books.specs.Standing.{call_refusal}
 use Rattle.context_books.specs.Runs.{answer_line}

@@ -13,9 +13,11 @@ use Rattle.turn_lock.specs.Passes.{LockId, PassView, next_after}
 use Rattle.stamp_counter.specs.Seats.{SeatView, CounterView}
 use Rattle.hpke_context.specs.Answers.{Seal, Cipher, answer, run}
 use Rattle.hpke_context.specs.Contexts.{ContextView, cipher_of, exported_by}
-use Rattle.context_books.specs.Batches.{Ask, ToSeal, ToOpenAll, block, place, asked, all_asked, on, lane_places, items_in, context_in}
+use Rattle.context_books.specs.Batches.{Ask, ToSeal, ToOpenAll, block, place, asked, on, items_in, context_in}
+use Rattle.context_books.specs.Merging.{all_asked, lane_places}
 use Rattle.speculative_open.specs.Tables.{TableView}
-use Rattle.context_books.specs.Entries.{entry, entries_from, steps_from, entry_places}
+use Rattle.context_books.specs.Entries.{entry, entries_from, steps_from}
+use Rattle.context_books.specs.Histories.{entry_places}
 use Rattle.context_books.proofs.Lists.{on-append, on-spots_same, all_asked-append}
 use Rattle.context_books.proofs.OneLane.{parted, few_taken}
 use Rattle.lane_workers.specs.OnTheWay.{AllReplied}
@@ -30,12 +32,14 @@ use Rattle.batch_plans.specs.declared.plan.CallLine.{CallLine}
 use Rattle.batch_plans.specs.declared.plan.CallLine.TheVariants as calls
 use Rattle.batch_plans.specs.declared.replies.CallRefusal.{CallRefusal}
 use Rattle.batch_plans.specs.declared.replies.Reply.TheVariants.{Refused}
-use Rattle.batch_plans.specs.Limits.{items_of, IsCallWithin}
+use Rattle.batch_plans.specs.Limits.{items_of}
+use Rattle.batch_plans.specs.Within.{IsCallWithin}
 use Rattle.batch_plans.specs.Calls.{context_of, refusal}
 use Rattle.batch_plans.specs.Room.{served_room, served_batches}
 use Rattle.batch_plans.specs.Progress.{Progress, with_reply}
 use Rattle.batch_plans.specs.Lines.{exported_line}
-use Rattle.context_books.specs.Standing.{standing_at, refusal_on, call_refusal, export_limits}
+use Rattle.context_books.specs.Standing.{standing_at, refusal_on, call_refusal}
+use Rattle.context_books.specs.ContextLines.{export_limits}
 use Rattle.context_books.specs.Asks.{ask_of, ask_unless, asked_by, cipher_at, cipher_in}
 use Rattle.context_books.specs.Runs.{answer_line, export_line, lines_unless}
 use Rattle.context_books.proofs.Refusals.{refusal_agrees}

@@ -10,9 +10,8 @@ use Rattle.stamp_counter.specs.Seats.{CounterView}
 use Rattle.hpke_context.specs.Contexts.{ContextView}
 use Rattle.context_books.specs.Batches.{Ask, ToOpenAll}
 use Rattle.lane_workers.proofs.ShowingCalls.{lane_fresh, lane_shows}
-use Rattle.lane_workers.specs.OnTheWay.{LaneIs}
+use Rattle.lane_workers.specs.OnTheWay.{LaneIs, StampsAre}
 use Rattle.lane_workers.proofs.Stamping.{stamps_fresh, stamps_show}
-use Rattle.lane_workers.specs.OnTheWay.{StampsAre}
 use Rattle.shared_context.specs.Calls.{SharedView}
 use Rattle.batch_plans.specs.declared.plan.Plan.{Plan}
 use Rattle.batch_plans.specs.declared.plan.CallLine.{CallLine}
@@ -22,8 +21,8 @@ use Rattle.batch_plans.specs.Limits.{items_of}
 use Rattle.batch_plans.specs.Room.{lane_room}
 use Rattle.batch_plans.specs.Progress.{begun}
 use Rattle.batch_plans.proofs.Rooms.{lane_within}
-use Rattle.batch_plans.specs.ReplyText.{answered_lines, calls_lines}
-use Rattle.context_books.specs.Standing.{export_limits}
+use Rattle.batch_plans.specs.AnswersText.{answered_lines, calls_lines}
+use Rattle.context_books.specs.ContextLines.{export_limits}
 use Rattle.context_books.specs.Asks.{ask_of, batch_of, cipher_at}
 use Rattle.context_books.proofs.Done.{lane_asks}
 use Rattle.context_books.specs.Answered.{HasAnswered, HasRoomFor}

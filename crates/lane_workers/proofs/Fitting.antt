@@ -6,7 +6,8 @@ use Rattle.stamp_counter.specs.Seats.{CounterView}
 use Rattle.shared_context.specs.Calls.{SharedView}
 use Rattle.batch_plans.specs.declared.plan.Plan.{Plan}
 use Rattle.batch_plans.specs.declared.plan.CallLine.{CallLine}
-use Rattle.batch_plans.specs.Limits.{items_of, IsCallWithin}
+use Rattle.batch_plans.specs.Limits.{items_of}
+use Rattle.batch_plans.specs.Within.{IsCallWithin}
 use Rattle.batch_plans.specs.Room.{opened_room, served_room}
 use Rattle.context_books.specs.LaneCalls.{opening_items, IsOpening, lane_calls}
 use Rattle.context_books.proofs.Within.{of_call, opening_count, opening_spans, opening_room}

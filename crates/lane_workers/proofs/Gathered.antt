@@ -14,8 +14,9 @@ use Rattle.batch_plans.specs.declared.plan.Plan.{Plan}
 use Rattle.batch_plans.specs.declared.plan.CallLine.{CallLine}
 use Rattle.batch_plans.specs.declared.plan.CallLine.TheVariants as calls
 use Rattle.batch_plans.specs.declared.replies.LaneAnswers.{LaneAnswers}
-use Rattle.batch_plans.specs.Limits.{IsCallWithin, IsWithinLimits}
-use Rattle.batch_plans.specs.ReplyText.{all_lines, answered_lines, has_stamps}
+use Rattle.batch_plans.specs.Within.{IsCallWithin, IsWithinLimits}
+use Rattle.batch_plans.specs.ReplyText.{all_lines, has_stamps}
+use Rattle.batch_plans.specs.AnswersText.{answered_lines}
 use Rattle.context_books.specs.Asks.{batch_of, cipher_at}
 use Rattle.context_books.specs.Runs.{Run, call_lines, lane_call_lines, LegalFor, IsAllowed}
 use Rattle.lane_workers.specs.Served.{Told, told_lines, seen_of, LaneIsServed}

@@ -9,15 +9,15 @@ use Rattle.hpke_context.specs.Answers.{Answer, Cipher, run}
 use Rattle.hpke_context.specs.Contexts.{ContextView}
 use Rattle.context_books.specs.Batches.{Ask, ToOpenAll, Batch, block, asked, on, unseal, items_in, context_in}
 use Rattle.context_books.specs.Guesses.{guess_at, guess_count}
-use Rattle.context_books.specs.Entries.{entries_from, steps_from, entry_places}
+use Rattle.context_books.specs.Entries.{entries_from, steps_from}
+use Rattle.context_books.specs.Histories.{entry_places}
 use Rattle.context_books.proofs.Lists.{append-nil, on-spots, is_cases}
 use Rattle.context_books.proofs.OneLane.{taken_more, few_taken}
 use Rattle.context_books.specs.Lists.{EachFrom}
 use Rattle.lane_workers.specs.Showing.{AnsweredAt, OpeningShows}
-use Rattle.lane_workers.specs.OnTheWay.{AllReplied}
+use Rattle.lane_workers.specs.OnTheWay.{AllReplied, LaneIs}
 use Rattle.lane_workers.proofs.ShowingEntries.{block_places}
 use Rattle.lane_workers.proofs.ShowingCalls.{lane_waits, lane_calls, opening_stays, call_answered}
-use Rattle.lane_workers.specs.OnTheWay.{LaneIs}
 use Rattle.lane_workers.proofs.Stamping.{added_to}
 use Rattle.batch_plans.specs.declared.plan.Plan.{Plan}
 use Rattle.batch_plans.specs.declared.plan.CallLine.{CallLine}

@@ -4,7 +4,8 @@ use Rattle.std.specs.Prelude.{slice_get, slice_index_or, remove, All, IsNone, If
 use Rattle.std.proofs.lemmas.Option.{get_or_from_slice_get, slice_get_within}
 use mathlib.Core.List.{IsPrefix}
 use Rattle.call_places.specs.declared.entries.Entry.{Entry}
-use Rattle.call_places.specs.Entries.{own, StampsRise}
+use Rattle.call_places.specs.Entries.{own}
+use Rattle.call_places.specs.Orders.{StampsRise}
 use Rattle.turn_lock.specs.Passes.{LockId, PassView, PassListView, fresh_pass, fresh_from, IsShown, NoOthers}
 use Rattle.lane_workers.specs.Showing.{Closes}
 use Rattle.lane_workers.specs.Served.{seen_of, seen_by}

@@ -14,7 +14,8 @@ use Rattle.batch_plans.specs.declared.plan.CallLine.{CallLine}
 use Rattle.batch_plans.specs.declared.plan.CallLine.TheVariants as calls
 use Rattle.batch_plans.specs.declared.replies.Batch.{Batch}
 use Rattle.batch_plans.specs.declared.replies.Reply.{Reply}
-use Rattle.batch_plans.specs.Limits.{items_from, IsCallWithin}
+use Rattle.batch_plans.specs.Limits.{items_from}
+use Rattle.batch_plans.specs.Within.{IsCallWithin}
 use Rattle.batch_plans.specs.Calls.{context_of}
 use Rattle.batch_plans.specs.Room.{opened_room}
 use Rattle.batch_plans.specs.Progress.{Progress, with_reply, with_batch}

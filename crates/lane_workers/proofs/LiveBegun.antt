@@ -16,7 +16,8 @@ use Rattle.batch_plans.specs.declared.replies.CallRefusal.{CallRefusal}
 use Rattle.batch_plans.specs.declared.replies.CallRefusal.TheVariants.{NoContext}
 use Rattle.batch_plans.specs.declared.replies.LaneAnswers.{LaneAnswers}
 use Rattle.batch_plans.specs.Calls.{refusal}
-use Rattle.batch_plans.specs.Limits.{items_of, IsCallWithin}
+use Rattle.batch_plans.specs.Limits.{items_of}
+use Rattle.batch_plans.specs.Within.{IsCallWithin}
 use Rattle.batch_plans.specs.Names.{at_position, all_live}
 use Rattle.batch_plans.specs.Progress.{Progress, begun}
 use Rattle.batch_plans.specs.Room.{served_room, served_batches, served_or, call_room, call_replies, call_batches, lane_room, IsLaneWithin}
@@ -24,7 +25,7 @@ use Rattle.batch_plans.proofs.Rooms.{has_item, lane_within}
 use Rattle.batch_plans.specs.ReplyText.{numbered}
 use Rattle.batch_plans.proofs.Numbering.{length-numbered}
 use Rattle.context_books.specs.Live.{looked_up, looked_up_plan}
-use Rattle.context_books.specs.Standing.{export_limits}
+use Rattle.context_books.specs.ContextLines.{export_limits}
 use Rattle.context_books.proofs.LookedUp.{calls_looked}
 use Rattle.context_books.proofs.Refusals.{refusal_agrees}
 use Rattle.context_books.specs.Answered.{HasAnswered, HasRoomFor}

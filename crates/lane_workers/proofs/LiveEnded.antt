@@ -21,8 +21,8 @@ use Rattle.batch_plans.specs.declared.replies.Reply.TheVariants.{Blank, Refused}
 use Rattle.batch_plans.specs.Progress.{Progress}
 use Rattle.batch_plans.specs.Replies.{IsInRange, IsPrintable}
 use Rattle.batch_plans.specs.Room.{blank_batch}
-use Rattle.batch_plans.specs.LiveText.{is_given, given_lines}
-use Rattle.batch_plans.specs.ReplyText.{calls_lines, numbered, all_lines}
+use Rattle.batch_plans.specs.AnswersText.{is_given, given_lines, calls_lines}
+use Rattle.batch_plans.specs.ReplyText.{numbered, all_lines}
 use Rattle.batch_plans.proofs.Numbering.{length-numbered}
 use Rattle.context_books.specs.Live.{was_live, looked_up, looked_up_plan}
 use Rattle.context_books.proofs.LookedUp.{calls_looked}

@@ -22,9 +22,10 @@ use Rattle.batch_plans.specs.Calls.{context_of}
 use Rattle.batch_plans.specs.Limits.{first_name, items_of}
 use Rattle.batch_plans.specs.Names.{at_position}
 use Rattle.batch_plans.specs.Room.{served_batches, served_or}
-use Rattle.batch_plans.specs.Lines.{reply_line, batch_line, refused_line}
-use Rattle.batch_plans.specs.ReplyText.{guess_line, calls_lines, numbered, all_lines, HasReplies}
-use Rattle.batch_plans.specs.ReplyText.UsesUp.{none, call_and_more}
+use Rattle.batch_plans.specs.Lines.{batch_line, refused_line}
+use Rattle.batch_plans.specs.AnswersText.{reply_line, guess_line, calls_lines, HasReplies}
+use Rattle.batch_plans.specs.ReplyText.{numbered, all_lines}
+use Rattle.batch_plans.specs.AnswersText.UsesUp.{none, call_and_more}
 use Rattle.batch_plans.proofs.CallLines.{HasReplies-one, HasReplies-refused, calls_lines-append, calls_lines-one}
 use Rattle.context_books.specs.Asks.{batch_of}
 use Rattle.context_books.specs.Live.{was_live, looked_up, looked_up_plan, retire_line}

@@ -17,7 +17,7 @@ use Rattle.turn_lock.specs.Passes.{LockId, PassView}
 use Rattle.stamp_counter.specs.Seats.{SeatView, CounterView}
 use Rattle.hpke_context.specs.Contexts.{ContextView}
 use Rattle.context_books.specs.Batches.{place}
-use Rattle.context_books.specs.Entries.{entry_places}
+use Rattle.context_books.specs.Histories.{entry_places}
 use Rattle.context_books.specs.Legal.{is_same_place}
 use Rattle.context_books.proofs.Lists.{append-nil}
 use Rattle.context_books.proofs.Members.{In-append, contains_in, in_contains, in_map}

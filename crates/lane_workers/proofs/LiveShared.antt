@@ -11,14 +11,16 @@ use Rattle.std.proofs.lemmas.List.Sums.{sum_by-cons}
 use Rattle.call_places.specs.declared.spans.Item.{Item}
 use Rattle.call_places.specs.declared.entries.Entry.{Entry}
 use Rattle.hpke_context.specs.Contexts.{ContextView}
-use Rattle.context_books.specs.Batches.{Nothing, Spot, place, asked, all_asked, on, lane_places}
+use Rattle.context_books.specs.Batches.{Nothing, Spot, place, asked, on}
+use Rattle.context_books.specs.Merging.{all_asked, lane_places}
 use Rattle.context_books.proofs.Lists.{on-append}
 use Rattle.batch_plans.specs.declared.plan.Plan.{Plan}
 use Rattle.batch_plans.specs.declared.plan.CallLine.{CallLine}
 use Rattle.batch_plans.specs.declared.plan.CallLine.TheVariants as calls
 use Rattle.batch_plans.specs.declared.replies.CallRefusal.TheVariants.{NoContext}
 use Rattle.batch_plans.specs.Calls.{context_of}
-use Rattle.batch_plans.specs.Limits.{first_name, items_of, size_of, text_size, IsCallWithin, IsWithinLimits}
+use Rattle.batch_plans.specs.Limits.{first_name, items_of, size_of}
+use Rattle.batch_plans.specs.Within.{text_size, IsCallWithin, IsWithinLimits}
 use Rattle.batch_plans.specs.Names.{at_position, all_live}
 use Rattle.batch_plans.specs.ReplyText.{numbered}
 use Rattle.batch_plans.proofs.Numbering.{length-numbered}

@@ -5,11 +5,12 @@ use Rattle.std.specs.List.{All}
 use Rattle.call_places.specs.declared.entries.Entry.{Entry}
 use Rattle.call_places.specs.declared.entries.Place.{Place}
 use Rattle.call_places.specs.declared.entries.Step.TheVariants.{Note}
-use Rattle.call_places.specs.Entries.{own, StampsRise}
+use Rattle.call_places.specs.Entries.{own}
+use Rattle.call_places.specs.Orders.{StampsRise}
 use Rattle.call_places.specs.Notes.{AreLive}
 use Rattle.hpke_context.specs.Contexts.{ContextView}
 use Rattle.context_books.specs.Batches.{own_places, place}
-use Rattle.context_books.specs.Entries.{entry_places}
+use Rattle.context_books.specs.Histories.{entry_places}
 use Rattle.context_books.proofs.Members.{In-left, In-right, In-append, contains_in, in_contains, in_map, map_in, RisesBy, rises-append, pairs_rise}
 use Rattle.context_books.specs.Lists.{In}
 use Rattle.context_books.proofs.Places as lane_places

@@ -9,13 +9,13 @@ use Rattle.std.proofs.lemmas.List.Elements.{All-nil}
 use Rattle.std.proofs.lemmas.List.FromFn.{length-map-range_with_len}
 use Rattle.call_places.specs.declared.entries.Entry.{Entry}
 use Rattle.call_places.specs.declared.entries.Mark.{Mark}
-use Rattle.call_places.specs.Entries.{mark_of, own, stamps_of, StampsRise}
+use Rattle.call_places.specs.Entries.{mark_of, own, stamps_of}
+use Rattle.call_places.specs.Orders.{StampsRise}
 use Rattle.call_places.specs.Notes.{AreLive}
 use Rattle.turn_lock.specs.Passes.{PassView}
 use Rattle.hpke_context.specs.Contexts.{ContextView}
 use Rattle.context_books.specs.Batches.{Batch}
-use Rattle.context_books.specs.Histories.{AreAllFrom0, all_stamps, marks_at}
-use Rattle.context_books.specs.Entries.{entry_places}
+use Rattle.context_books.specs.Histories.{AreAllFrom0, all_stamps, marks_at, entry_places}
 use Rattle.context_books.proofs.Members.{contains_in, in_contains}
 use Rattle.lane_workers.specs.Showing.{Closes}
 use Rattle.lane_workers.proofs.ShowingEntries.{in_own}
@@ -26,8 +26,8 @@ use Rattle.batch_plans.specs.declared.plan.CallLine.{CallLine}
 use Rattle.batch_plans.specs.declared.plan.CallLine.TheVariants as calls
 use Rattle.batch_plans.specs.declared.replies.ContextReply.{ContextReply}
 use Rattle.batch_plans.specs.declared.replies.LaneAnswers.{LaneAnswers}
-use Rattle.batch_plans.specs.Limits.{IsWithinLimits}
-use Rattle.batch_plans.specs.LiveText.{given_lines, lanes_given}
+use Rattle.batch_plans.specs.Within.{IsWithinLimits}
+use Rattle.batch_plans.specs.AnswersText.{given_lines, lanes_given}
 use Rattle.batch_plans.specs.ReplyText.{numbered, all_lines}
 use Rattle.batch_plans.proofs.Numbering.{length-numbered}
 use Rattle.context_books.specs.Asks.{batch_of, cipher_at}

@@ -7,7 +7,8 @@ use Rattle.call_places.specs.declared.entries.Place.{Place}
 use Rattle.call_places.specs.Entries.{own}
 use Rattle.hpke_context.specs.Answers.{Answer, Cipher}
 use Rattle.hpke_context.specs.Contexts.{ContextView}
-use Rattle.context_books.specs.Batches.{Batch, Ask, block, place, unseal, item_in_call, item_of, lane_of, lane_places}
+use Rattle.context_books.specs.Batches.{Batch, Ask, block, place, unseal, item_in_call, item_of, lane_of}
+use Rattle.context_books.specs.Merging.{lane_places}
 use Rattle.context_books.specs.Guesses.{guess_at, guess_count}
 use Rattle.lane_workers.specs.Showing.{LaneShows, OpeningShows, OpeningsShow}
 use Rattle.batch_plans.specs.declared.plan.Plan.{Plan}

@@ -15,14 +15,13 @@ use Rattle.context_books.specs.Guesses.{guess_of, guess_at}
 use Rattle.context_books.specs.Entries.{entries_from, steps_from}
 use Rattle.context_books.proofs.Lists.{append-nil, is_cases}
 use Rattle.lane_workers.specs.Showing.{OpeningShows}
-use Rattle.lane_workers.specs.OnTheWay.{AllReplied}
+use Rattle.lane_workers.specs.OnTheWay.{AllReplied, StampsAre}
 use Rattle.lane_workers.proofs.Stamping.{added_to, stamps_wait, stamps_call}
-use Rattle.lane_workers.specs.OnTheWay.{StampsAre}
 use Rattle.shared_context.specs.Calls.{SharedView}
 use Rattle.batch_plans.specs.declared.plan.Plan.{Plan}
 use Rattle.batch_plans.specs.declared.plan.CallLine.{CallLine}
 use Rattle.batch_plans.specs.Limits.{items_of}
-use Rattle.context_books.specs.Standing.{export_limits}
+use Rattle.context_books.specs.ContextLines.{export_limits}
 use Rattle.context_books.specs.Asks.{ask_of, cipher_at}
 use Rattle.context_books.specs.Answered.{HasAnswered, HasRoomFor}
 use Rattle.context_books.proofs.Steps.{length-run}

@@ -26,13 +26,15 @@ use Rattle.batch_plans.specs.declared.plan.Plan.{Plan}
 use Rattle.batch_plans.specs.declared.plan.CallLine.{CallLine}
 use Rattle.batch_plans.specs.declared.plan.CallLine.TheVariants as calls
 use Rattle.batch_plans.specs.declared.replies.Batch.{Batch}
-use Rattle.batch_plans.specs.Limits.{items_of, items_from, IsCallWithin}
+use Rattle.batch_plans.specs.Limits.{items_of, items_from}
+use Rattle.batch_plans.specs.Within.{IsCallWithin}
 use Rattle.batch_plans.specs.Calls.{context_of, keeps_guess}
 use Rattle.batch_plans.specs.Room.{served_room, served_batches}
 use Rattle.batch_plans.specs.Progress.{Progress, with_batch}
 use Rattle.batch_plans.specs.Lines.{batch_line}
-use Rattle.batch_plans.specs.ReplyText.{guess_line}
-use Rattle.context_books.specs.Standing.{call_refusal, export_limits}
+use Rattle.batch_plans.specs.AnswersText.{guess_line}
+use Rattle.context_books.specs.Standing.{call_refusal}
+use Rattle.context_books.specs.ContextLines.{export_limits}
 use Rattle.context_books.specs.Asks.{ask_of, asked_by, cipher_at}
 use Rattle.context_books.specs.Runs.{answer_line}
 use Rattle.context_books.specs.Writing.{PutsReplies}

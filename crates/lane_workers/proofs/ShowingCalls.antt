@@ -5,18 +5,18 @@ use Rattle.call_places.specs.declared.entries.Place.{Place}
 use Rattle.call_places.specs.declared.entries.Entry.{Entry}
 use Rattle.call_places.specs.Entries.{seq_of, own}
 use Rattle.hpke_context.specs.Answers.{Item, Cipher, Answer, answer, next, run}
-use Rattle.context_books.specs.Batches.{Batch, Ask, items_in, context_in, block, place, asked, all_asked, on, lane_of}
+use Rattle.context_books.specs.Batches.{Batch, Ask, items_in, context_in, block, place, asked, on, lane_of}
+use Rattle.context_books.specs.Merging.{all_asked}
 use Rattle.context_books.specs.Guesses.{missed}
-use Rattle.context_books.specs.Entries.{step_for, entry_places, number_after, numbers_from, steps_from, entries_from}
+use Rattle.context_books.specs.Entries.{step_for, number_after, numbers_from, steps_from, entries_from}
+use Rattle.context_books.specs.Histories.{entry_places}
 use Rattle.context_books.proofs.Lists.{on-append, on-spots, all_asked-append, append-nil}
 use Rattle.context_books.proofs.Runs.{drop_step, item_here}
 use Rattle.context_books.proofs.EntryNumbers.{from_each, entry_places-append, number_next, last_number, last_is}
 use Rattle.context_books.specs.Lists.{EachFrom}
 use Rattle.lane_workers.specs.Showing.{AnsweredAt, LaneShows, OpeningShows}
 use Rattle.lane_workers.proofs.ShowingEntries.{own-append, each_longer}
-use Rattle.lane_workers.specs.OnTheWay.{OfLane}
-use Rattle.lane_workers.specs.OnTheWay.{AllReplied}
-use Rattle.lane_workers.specs.OnTheWay.{LaneIs}
+use Rattle.lane_workers.specs.OnTheWay.{OfLane, AllReplied, LaneIs}
 
 each_append : (P : ℕ → Entry → Type 0) (n : ℕ) (xs ys : List Entry) → EachFrom P n xs → EachFrom P (last_number n xs) ys → EachFrom P n (xs ++ ys)
 each_append P n [] ys a b = b

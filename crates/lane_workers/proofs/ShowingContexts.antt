@@ -8,21 +8,20 @@ use Rattle.call_places.specs.declared.entries.Entry.{Entry}
 use Rattle.call_places.specs.Entries.{seq_of, own, mark_of}
 use Rattle.hpke_context.specs.Answers.{Cipher, Answer, run}
 use Rattle.call_places.specs.Messages.{SealedMessage}
-use Rattle.context_books.specs.Batches.{Batch, ToOpenAll, unseal, block, place, all_asked, on, own_places, lane_of, lane_places, items_of, item_or_none}
+use Rattle.context_books.specs.Batches.{Batch, ToOpenAll, unseal, block, place, on, own_places, lane_of, items_of, item_or_none}
+use Rattle.context_books.specs.Merging.{all_asked, lane_places}
 use Rattle.context_books.specs.Legal.{StandTogether, Legal, is_same_place, reply_in, reply_of, due_after}
 use Rattle.context_books.specs.Guesses.{Guessed, missed, missed_in}
-use Rattle.context_books.specs.Histories.{mark, HaveConsecutiveStamps}
-use Rattle.context_books.specs.Entries.{entry_places, entries_from, steps_from, numbers_from, number_after, FitsAt, Fits}
+use Rattle.context_books.specs.Histories.{mark, HaveConsecutiveStamps, entry_places}
+use Rattle.context_books.specs.Entries.{entries_from, steps_from, numbers_from, number_after, FitsAt, Fits}
 use Rattle.context_books.proofs.Members.{in_contains, contains_in}
-use Rattle.context_books.specs.Lists.{In}
+use Rattle.context_books.specs.Lists.{In, EachFrom}
 use Rattle.context_books.proofs.Places.{same_from, same_places}
 use Rattle.context_books.proofs.Runs.{call_numbers}
 use Rattle.context_books.proofs.EntryNumbers.{to_each, from_each, each_front, entry_places-append, number_next, due_fits, length-steps_from}
-use Rattle.context_books.specs.Lists.{EachFrom}
 use Rattle.lane_workers.specs.Showing.{AnsweredAt, LaneShows, OpeningShows, Closes}
 use Rattle.lane_workers.proofs.ShowingEntries.{own_places-entries, rest_none, each_none, each_longer, each_all, block_places, mark_added, mark_inside}
-use Rattle.lane_workers.specs.OnTheWay.{OfLane}
-use Rattle.lane_workers.specs.OnTheWay.{AllReplied}
+use Rattle.lane_workers.specs.OnTheWay.{OfLane, AllReplied}
 
 -- ---- answers by place
 

@@ -8,12 +8,11 @@ use Rattle.call_places.specs.declared.entries.Entry.{Entry}
 use Rattle.call_places.specs.Entries.{own, mark_of}
 use Rattle.hpke_context.specs.Answers.{Cipher, Item}
 use Rattle.context_books.specs.Batches.{block, place, own_places}
-use Rattle.context_books.specs.Histories.{mark}
-use Rattle.context_books.specs.Entries.{entry_places, entries_from, steps_from, number_after}
+use Rattle.context_books.specs.Histories.{mark, entry_places}
+use Rattle.context_books.specs.Entries.{entries_from, steps_from, number_after}
 use Rattle.context_books.proofs.Members.{In-left, In-right, in_filter, filter_in}
-use Rattle.context_books.specs.Lists.{In}
+use Rattle.context_books.specs.Lists.{In, EachFrom}
 use Rattle.context_books.proofs.EntryNumbers.{places_from, length-steps_from}
-use Rattle.context_books.specs.Lists.{EachFrom}
 use Rattle.lane_workers.specs.OnTheWay.{OfLane}
 
 -- ---- one lane

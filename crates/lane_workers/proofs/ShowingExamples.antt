@@ -6,10 +6,12 @@ use mathlib.Core.List.{IsPrefix}
 use Rattle.call_places.specs.declared.entries.Place.{Place}
 use Rattle.call_places.specs.declared.entries.Entry.{Entry}
 use Rattle.call_places.specs.declared.entries.Step.TheVariants.{Opened}
-use Rattle.call_places.specs.Entries.{own, IsBefore}
+use Rattle.call_places.specs.Entries.{own}
+use Rattle.call_places.specs.Orders.{IsBefore}
 use Rattle.hpke_context.specs.Answers.{Cipher}
 use Rattle.call_places.specs.Messages.{SealedMessage}
-use Rattle.context_books.specs.Batches.{Ask, Nothing, ToSeal, ToOpen, ToOpenAll, unseal, place, lane_of, lane_places}
+use Rattle.context_books.specs.Batches.{Ask, Nothing, ToSeal, ToOpen, ToOpenAll, unseal, place, lane_of}
+use Rattle.context_books.specs.Merging.{lane_places}
 use Rattle.context_books.specs.Guesses.{guess_at}
 use Rattle.context_books.specs.Entries.{entry}
 use Rattle.context_books.specs.Rows.{toy, message, opening}

@@ -10,13 +10,14 @@ use Rattle.std.proofs.lemmas.Bool.{cases_lt}
 use Rattle.call_places.specs.declared.entries.Place.{Place}
 use Rattle.call_places.specs.declared.entries.Mark.{Mark}
 use Rattle.call_places.specs.declared.entries.Entry.{Entry}
-use Rattle.call_places.specs.Entries.{own, IsBefore, mark_of, stamps_of, StampsRise}
+use Rattle.call_places.specs.Entries.{own, mark_of, stamps_of}
+use Rattle.call_places.specs.Orders.{IsBefore, StampsRise}
 use Rattle.hpke_context.specs.Answers.{Cipher}
 use Rattle.context_books.specs.Batches.{Batch, Ask, ToOpenAll, block, lane_of, IsServed}
 use Rattle.context_books.specs.Legal.{OpensOn, StandTogether, Legal, reply_of}
 use Rattle.context_books.specs.Guesses.{Guessed, AllGuessed, guess_at, missed_in}
-use Rattle.context_books.specs.Histories.{places, stamps, marks_at, all_stamps, HasLowerStamp, HaveConsecutiveStamps, AreAllFrom0, LegalMarks}
-use Rattle.context_books.specs.Entries.{entry_places, Fits}
+use Rattle.context_books.specs.Histories.{places, stamps, marks_at, all_stamps, HasLowerStamp, HaveConsecutiveStamps, AreAllFrom0, LegalMarks, entry_places}
+use Rattle.context_books.specs.Entries.{Fits}
 use Rattle.context_books.proofs.Members.{contains_in, in_contains, map_in, RisesBy, pairs_rise}
 use Rattle.context_books.specs.Lists.{In}
 use Rattle.context_books.proofs.Legals.{legal}

@@ -3,7 +3,8 @@ use Rattle.std.proofs.Common.{◌≡◌, ℕ, suc, ◌+◌, ◌<◌, ◌≤◌, 
 use Rattle.call_places.specs.declared.entries.Place.{Place}
 use Rattle.call_places.specs.declared.entries.Step.{Step}
 use Rattle.call_places.specs.declared.entries.Entry.{Entry}
-use Rattle.call_places.specs.Entries.{own, IsBefore}
+use Rattle.call_places.specs.Entries.{own}
+use Rattle.call_places.specs.Orders.{IsBefore}
 use Rattle.context_books.specs.Batches.{Ask, context_in, place}
 use Rattle.context_books.specs.Entries.{entries_from}
 use Rattle.context_books.proofs.Lists.{append-nil}

@@ -9,15 +9,17 @@ use Rattle.call_places.specs.Entries.{mark_of}
 use Rattle.turn_lock.specs.Passes.{PassView}
 use Rattle.hpke_context.specs.Answers.{At_limit}
 use Rattle.hpke_context.specs.Contexts.{ContextView}
-use Rattle.context_books.specs.Batches.{Ask, ToOpenAll, lane_of, lane_places}
+use Rattle.context_books.specs.Batches.{Ask, ToOpenAll, lane_of}
+use Rattle.context_books.specs.Merging.{lane_places}
 use Rattle.context_books.specs.Guesses.{guess_count}
 use Rattle.context_books.proofs.Members.{in_contains}
 use Rattle.batch_plans.specs.declared.plan.Plan.{Plan}
 use Rattle.batch_plans.specs.declared.plan.CallLine.{CallLine}
 use Rattle.batch_plans.specs.declared.replies.LaneAnswers.{LaneAnswers}
 use Rattle.batch_plans.specs.Replies.{IsInRange}
-use Rattle.batch_plans.specs.Limits.{IsWithinLimits}
-use Rattle.batch_plans.specs.ReplyText.{numbered, all_lines, answered_lines, lanes_lines}
+use Rattle.batch_plans.specs.Within.{IsWithinLimits}
+use Rattle.batch_plans.specs.ReplyText.{numbered, all_lines}
+use Rattle.batch_plans.specs.AnswersText.{answered_lines, lanes_lines}
 use Rattle.context_books.specs.Asks.{ask_of, batch_of}
 use Rattle.context_books.specs.Runs.{lane_call_lines}
 use Rattle.lane_workers.specs.Served.{Told, told_lines, LaneIsServed}

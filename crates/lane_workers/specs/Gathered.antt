@@ -9,7 +9,8 @@ use Rattle.hpke_context.specs.Contexts.{ContextView}
 use Rattle.lane_workers.specs.Showing.{Closes}
 use Rattle.batch_plans.specs.declared.plan.Plan.{Plan}
 use Rattle.batch_plans.specs.declared.replies.LaneAnswers.{LaneAnswers}
-use Rattle.batch_plans.specs.ReplyText.{numbered, lanes_lines}
+use Rattle.batch_plans.specs.ReplyText.{numbered}
+use Rattle.batch_plans.specs.AnswersText.{lanes_lines}
 use Rattle.context_books.specs.Runs.{run_along, lane_call_lines, IsAllowed}
 use Rattle.lane_workers.specs.Served.{seen_of, LaneIsServed}
 

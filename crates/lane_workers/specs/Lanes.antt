@@ -8,21 +8,22 @@ use Rattle.turn_lock.specs.Passes.{PassView}
 use Rattle.stamp_counter.specs.Seats.{SeatView, CounterView}
 use Rattle.hpke_context.specs.Answers.{Answer}
 use Rattle.hpke_context.specs.Contexts.{ContextView}
-use Rattle.context_books.specs.Batches.{Ask, ToOpenAll, block, unseal, lane_of, lane_places}
+use Rattle.context_books.specs.Batches.{Ask, ToOpenAll, block, unseal, lane_of}
+use Rattle.context_books.specs.Merging.{lane_places}
 use Rattle.context_books.specs.Guesses.{guess_at, guess_count}
 use Rattle.lane_workers.specs.Showing.{OpeningShows}
-use Rattle.lane_workers.specs.OnTheWay.{AllReplied}
-use Rattle.lane_workers.specs.OnTheWay.{LaneIs}
-use Rattle.lane_workers.specs.OnTheWay.{StampsAre}
+use Rattle.lane_workers.specs.OnTheWay.{AllReplied, LaneIs, StampsAre}
 use Rattle.shared_context.specs.Stamped.{IsNote}
 use Rattle.shared_context.specs.Calls.{SharedView}
 use Rattle.batch_plans.specs.declared.plan.Plan.{Plan}
 use Rattle.batch_plans.specs.declared.plan.CallLine.{CallLine}
-use Rattle.batch_plans.specs.Limits.{items_of, IsWithinLimits}
+use Rattle.batch_plans.specs.Limits.{items_of}
+use Rattle.batch_plans.specs.Within.{IsWithinLimits}
 use Rattle.batch_plans.specs.Calls.{context_of}
 use Rattle.batch_plans.specs.Progress.{Progress}
 use Rattle.batch_plans.specs.ReplyText.{numbered, all_lines}
-use Rattle.context_books.specs.Standing.{AreOfLines, export_limits, call_refusal}
+use Rattle.context_books.specs.Standing.{call_refusal}
+use Rattle.context_books.specs.ContextLines.{AreOfLines, export_limits}
 use Rattle.context_books.specs.Asks.{batch_of, cipher_at}
 use Rattle.context_books.specs.LaneCalls.{lane_calls}
 use Rattle.context_books.specs.Answered.{HasAnswered, HasRoomFor}

@@ -13,7 +13,7 @@ use Rattle.batch_plans.specs.declared.plan.Plan.{Plan}
 use Rattle.batch_plans.specs.declared.replies.ContextReply.{ContextReply}
 use Rattle.batch_plans.specs.declared.replies.LaneAnswers.{LaneAnswers}
 use Rattle.batch_plans.specs.ReplyText.{numbered}
-use Rattle.batch_plans.specs.LiveText.{lanes_given}
+use Rattle.batch_plans.specs.AnswersText.{lanes_given}
 use Rattle.context_books.specs.Live.{live_run_along, live_lane_lines, IsAllowedLive}
 use Rattle.lane_workers.specs.Served.{seen_of}
 use Rattle.lane_workers.specs.LiveServed.{LiveLaneIsServed}

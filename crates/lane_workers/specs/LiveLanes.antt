@@ -12,7 +12,7 @@ use Rattle.key_schedule.specs.declared.psks.PskFault.{PskFault}
 use Rattle.key_schedule.specs.declared.psks.PskFault.TheVariants.{Inconsistent, Unneeded, Missing}
 use Rattle.key_schedule.specs.Psks.{verify_psk_inputs}
 use Rattle.context_books.specs.Batches.{place}
-use Rattle.context_books.specs.Entries.{entry_places}
+use Rattle.context_books.specs.Histories.{entry_places}
 use Rattle.shared_context.specs.Calls.{SharedView}
 use Rattle.live_table.specs.Calls.{TableView}
 use Rattle.batch_plans.specs.declared.plan.Plan.{Plan}
@@ -26,12 +26,12 @@ use Rattle.batch_plans.specs.declared.replies.ContextReply.{ContextReply}
 use Rattle.batch_plans.specs.declared.replies.Reply.{Reply}
 use Rattle.batch_plans.specs.declared.replies.Reply.TheVariants as replies
 use Rattle.batch_plans.specs.Calls.{context_of}
-use Rattle.batch_plans.specs.Limits.{first_name, IsWithinLimits, items_of}
+use Rattle.batch_plans.specs.Limits.{first_name, items_of}
+use Rattle.batch_plans.specs.Within.{IsWithinLimits}
 use Rattle.batch_plans.specs.Names.{line_count, at_position, all_live}
 use Rattle.batch_plans.specs.Room.{served_batches, served_or}
 use Rattle.batch_plans.specs.Lines.{added_line, refused_line}
-use Rattle.batch_plans.specs.LiveText.{is_given}
-use Rattle.batch_plans.specs.ReplyText.{HasReplies}
+use Rattle.batch_plans.specs.AnswersText.{is_given, HasReplies}
 use Rattle.hpke_context.specs.Contexts.{ContextView}
 use Rattle.context_books.specs.Live.{was_live, looked_up_plan, add_line}
 use Rattle.context_books.specs.Standing.{standing_at, call_refusal}

@@ -11,7 +11,7 @@ use Rattle.call_places.specs.Entries.{own}
 use Rattle.turn_lock.specs.Passes.{PassView}
 use Rattle.hpke_context.specs.Contexts.{ContextView}
 use Rattle.context_books.specs.Batches.{place}
-use Rattle.context_books.specs.Entries.{entry_places}
+use Rattle.context_books.specs.Histories.{entry_places}
 use Rattle.lane_workers.specs.Showing.{LaneShows, OpeningsShow, StampsInOrder}
 use Rattle.batch_plans.specs.declared.plan.Plan.{Plan}
 use Rattle.batch_plans.specs.declared.plan.CallLine.{CallLine}
@@ -21,7 +21,7 @@ use Rattle.batch_plans.specs.declared.replies.LaneAnswers.{LaneAnswers}
 use Rattle.batch_plans.specs.Names.{line_count}
 use Rattle.batch_plans.specs.Replies.{IsPrintable}
 use Rattle.batch_plans.specs.ReplyText.{numbered, all_lines}
-use Rattle.batch_plans.specs.LiveText.{given_lines}
+use Rattle.batch_plans.specs.AnswersText.{given_lines}
 use Rattle.context_books.specs.Asks.{batch_of, cipher_at}
 use Rattle.context_books.specs.Live.{Noting, noting, IsNoted, was_live, looked_up, looked_up_plan, add_line, retire_line}
 use Rattle.context_books.specs.LaneCalls.{lane_calls}

@@ -2,10 +2,12 @@
 use Rattle.std.specs.Prelude.{ℕ, ◌≡◌, ◌<◌, List, [], ◌∷◌}
 use Rattle.call_places.specs.declared.entries.Place.{Place}
 use Rattle.call_places.specs.declared.entries.Entry.{Entry}
-use Rattle.call_places.specs.Entries.{own, IsBefore}
+use Rattle.call_places.specs.Entries.{own}
+use Rattle.call_places.specs.Orders.{IsBefore}
 use Rattle.hpke_context.specs.Answers.{Cipher, Answer}
-use Rattle.context_books.specs.Batches.{Batch, Ask, lane_places}
-use Rattle.context_books.specs.Entries.{entry_places}
+use Rattle.context_books.specs.Batches.{Batch, Ask}
+use Rattle.context_books.specs.Merging.{lane_places}
+use Rattle.context_books.specs.Histories.{entry_places}
 use Rattle.context_books.specs.Lists.{EachFrom, In}
 use Rattle.lane_workers.specs.Showing.{AnsweredAt}
 

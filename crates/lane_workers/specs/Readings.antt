@@ -13,8 +13,7 @@ use Rattle.batch_plans.specs.declared.replies.Batch.{Batch}
 use Rattle.batch_plans.specs.Limits.{items_of}
 use Rattle.batch_plans.specs.Room.{served_batches, served_or}
 use Rattle.batch_plans.specs.Progress.{Progress}
-use Rattle.batch_plans.specs.LiveText.{is_given}
-use Rattle.batch_plans.specs.ReplyText.{HasReplies}
+use Rattle.batch_plans.specs.AnswersText.{is_given, HasReplies}
 use Rattle.context_books.specs.Standing.{call_refusal}
 use Rattle.lane_workers.specs.declared.works.LaneWork.{LaneWork}
 use Rattle.lane_workers.specs.Served.{seen_of}

@@ -7,9 +7,9 @@ use Rattle.shared_context.specs.Stamped.{IsNote}
 use Rattle.shared_context.specs.Calls.{SharedView}
 use Rattle.batch_plans.specs.declared.plan.Plan.{Plan}
 use Rattle.batch_plans.specs.declared.replies.LaneAnswers.{LaneAnswers}
-use Rattle.batch_plans.specs.Limits.{IsWithinLimits}
+use Rattle.batch_plans.specs.Within.{IsWithinLimits}
 use Rattle.batch_plans.specs.Room.{lane_room}
-use Rattle.context_books.specs.Standing.{export_limits}
+use Rattle.context_books.specs.ContextLines.{export_limits}
 use Rattle.lane_workers.specs.Served.{seen_of, LaneIsServed}
 use Rattle.lane_workers.specs.Turns.{shared_at, pass_at, views}
 use Rattle.context_books.specs.LaneCalls.{lane_calls}

@@ -13,7 +13,8 @@ use Rattle.batch_plans.specs.declared.plan.CallLine.{CallLine}
 use Rattle.batch_plans.specs.declared.replies.LaneAnswers.{LaneAnswers}
 use Rattle.batch_plans.specs.Replies.{IsPrintable}
 use Rattle.batch_plans.specs.Lines.{batch_line}
-use Rattle.batch_plans.specs.ReplyText.{numbered, all_lines, answered_lines}
+use Rattle.batch_plans.specs.ReplyText.{numbered, all_lines}
+use Rattle.batch_plans.specs.AnswersText.{answered_lines}
 use Rattle.context_books.specs.Standing.{call_refusal}
 use Rattle.context_books.specs.Asks.{batch_of, cipher_at}
 use Rattle.context_books.specs.Runs.{answer_line, lines_of_items, guess_lines, lines_unless}

@@ -7,12 +7,15 @@ use mathlib.Core.List.{IsPrefix}
 use Rattle.call_places.specs.declared.entries.Place.{Place}
 use Rattle.call_places.specs.declared.entries.Entry.{Entry}
 use Rattle.call_places.specs.declared.entries.Mark.{Mark}
-use Rattle.call_places.specs.Entries.{seq_of, own, IsBefore, mark_of, stamps_of, StampsRise}
+use Rattle.call_places.specs.Entries.{seq_of, own, mark_of, stamps_of}
+use Rattle.call_places.specs.Orders.{IsBefore, StampsRise}
 use Rattle.hpke_context.specs.Answers.{Item, Cipher, Answer, answer}
 use Rattle.call_places.specs.Messages.{SealedMessage}
-use Rattle.context_books.specs.Batches.{Batch, ToOpenAll, unseal, item_of, lane_of, lane_places}
+use Rattle.context_books.specs.Batches.{Batch, ToOpenAll, unseal, item_of, lane_of}
+use Rattle.context_books.specs.Merging.{lane_places}
 use Rattle.context_books.specs.Guesses.{guess_count, guess_at, missed}
-use Rattle.context_books.specs.Entries.{step_for, steps_from, numbers_from, entries_from, entry_places, AtNumbers}
+use Rattle.context_books.specs.Entries.{step_for, steps_from, numbers_from, entries_from, AtNumbers}
+use Rattle.context_books.specs.Histories.{entry_places}
 
 -- what is shown of a batch
 pub record Showing : Type 0 where

@@ -3,7 +3,8 @@
 ghost use Rattle.std.specs.Prelude.{ℕ, ◌≡◌, ◌+◌, ◌<◌, ◌≤◌, ◌^◌, [], ◌∷◌, All, MatchOption, Some, None, length, map, take, sum_by};
 ghost use Rattle.call_places.specs.Spans.{IsInPool, ItemIsInPool, span_bytes};
 ghost use Rattle.hpke_context.specs.Answers.{run};
-ghost use Rattle.hpke_context.specs.Contexts.{CanSeal, CanOpen, HasCipher, cipher_of, export_limit, exported_by};
+ghost use Rattle.hpke_context.specs.Contexts.{cipher_of, export_limit, exported_by};
+ghost use Rattle.hpke_context.specs.Calls.{CanSeal, CanOpen, HasCipher};
 ghost use Rattle.context_books.specs.Openings.{IsTableFor, opening_steps, opening_misses, unseals};
 ghost use Rattle.batch_plans.specs.Room.{opened_room};
 ghost use Rattle.batch_plans.specs.Lines.{exported_line};

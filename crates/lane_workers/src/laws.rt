@@ -8,7 +8,7 @@ ghost use Rattle.hpke_context.specs.Contexts.{ContextView};
 ghost use Rattle.batch_plans.specs.declared.plan.Plan.{Plan};
 ghost use Rattle.batch_plans.specs.declared.replies.ContextReply.{ContextReply};
 ghost use Rattle.batch_plans.specs.declared.replies.LaneAnswers.{LaneAnswers};
-ghost use Rattle.batch_plans.specs.Limits.{IsWithinLimits};
+ghost use Rattle.batch_plans.specs.Within.{IsWithinLimits};
 ghost use Rattle.lane_workers.specs.Gathered.{AllLanesServed, AllClosed, AreOfARun};
 ghost use Rattle.lane_workers.specs.LiveGathered.{AllLiveLanesServed, AllLiveClosed, AreOfALiveRun};
 

@@ -1,7 +1,7 @@
 //! The calls of a lane that adds and retires contexts.
 
 ghost use Rattle.std.specs.Prelude.{◌≡◌, ◌+◌, ◌<◌, Some, None, length, slice_get};
-ghost use Rattle.batch_plans.specs.Limits.{IsWithinLimits};
+ghost use Rattle.batch_plans.specs.Within.{IsWithinLimits};
 ghost use Rattle.batch_plans.specs.Names.{line_count};
 ghost use Rattle.context_books.specs.Live.{Noting, noting, noting_of};
 ghost use Rattle.context_books.specs.LaneCalls.{lane_calls};

@@ -8,7 +8,8 @@ use Rattle.hkdf_labelled.specs.declared.suites.Suite.{Suite}
 use Rattle.key_schedule.specs.declared.modes.Role.TheVariants.{Recipient}
 use Rattle.aes_gcm.specs.Gcm.{body, clear}
 use Rattle.aes_gcm.proofs.Opening.{IsWhole, length-gctr}
-use Rattle.hpke_context.specs.Contexts.{encrypts, key_in, nonce_of, tag_holds}
+use Rattle.hpke_context.specs.Contexts.{key_in, nonce_of, tag_holds}
+use Rattle.hpke_context.specs.Calls.{encrypts}
 use Rattle.sntrup_kem.specs.Kem.{decapsulated}
 use Rattle.ohttp_capsule.specs.declared.asking.Asked.{Asked}
 use Rattle.ohttp_capsule.specs.declared.faults.CapsuleFault.{CapsuleFault}

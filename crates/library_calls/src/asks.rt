@@ -2,7 +2,8 @@
 
 ghost use Rattle.std.specs.Prelude.{◌≡◌, ◌≢◌, ◌⊎◌, ◌↔◌, ◌≤◌, ◌<◌, ◌+◌, ◌++◌, [], length, take, IsTrue, IsOk, IfOk, IfSome, IfNone, OnOk, OnErr, Ok};
 ghost use Rattle.hkdf_labelled.specs.Hmac.{zero_padded};
-ghost use Rattle.hpke_context.specs.Contexts.{HasCipher, cipher_of};
+ghost use Rattle.hpke_context.specs.Contexts.{cipher_of};
+ghost use Rattle.hpke_context.specs.Calls.{HasCipher};
 ghost use Rattle.sntrup_kem.specs.Sizes.{enc_size};
 ghost use Rattle.sntrup_kem.specs.Kem.{drawn_r, enc_of, session_of};
 ghost use Rattle.ohttp_capsule.specs.Headers.{header};

@@ -2,7 +2,8 @@
 
 ghost use Rattle.std.specs.Prelude.{◌≡◌, ◌≢◌, ◌⊎◌, ◌≤◌, ◌<◌, ◌↔◌, length, take, drop, IsTrue, IfOk, OnErr, None, Some, Ok, false};
 ghost use Rattle.field_text.specs.declared.faults.BadBatch.{BadBatch as BadBatch_};
-ghost use Rattle.batch_plans.specs.Limits.{IsWithinLimits, most_input};
+ghost use Rattle.batch_plans.specs.Limits.{most_input};
+ghost use Rattle.batch_plans.specs.Within.{IsWithinLimits};
 ghost use Rattle.request_frames.specs.Batch.{BadAt};
 ghost use Rattle.batch_plans.specs.ReplyText.{bad_text};
 ghost use Rattle.context_table.specs.ReplyTo.{IsReply};

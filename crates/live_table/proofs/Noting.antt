@@ -7,7 +7,8 @@ use native.Mathlib.Decide.{ℕ_discrete}
 use Rattle.call_places.specs.declared.entries.Act.{Act}
 use Rattle.call_places.specs.declared.entries.Place.{Place}
 use Rattle.call_places.specs.declared.entries.Entry.{Entry}
-use Rattle.call_places.specs.Entries.{own, StampsRise}
+use Rattle.call_places.specs.Entries.{own}
+use Rattle.call_places.specs.Orders.{StampsRise}
 use Rattle.call_places.specs.Notes.{note_entry, live_at, AreLive}
 use Rattle.call_places.specs.Quotas.{AreLeft}
 use Rattle.call_places.proofs.Live.{another, AreLive-push}

@@ -2,7 +2,7 @@
 use Rattle.std.specs.Prelude.{ℕ, ◌≡◌, ◌<◌, ◌≤◌, Bool, false, List, slice_index_or, sum}
 use Rattle.call_places.specs.declared.entries.Entry.{Entry}
 use Rattle.call_places.specs.declared.listed.Terms.{Terms}
-use Rattle.call_places.specs.Entries.{StampsRise}
+use Rattle.call_places.specs.Orders.{StampsRise}
 use Rattle.call_places.specs.Notes.{live_at, AreLive}
 use Rattle.call_places.specs.Quotas.{AreLeft}
 use Rattle.stamp_counter.specs.Seats.{SeatView}

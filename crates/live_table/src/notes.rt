@@ -3,7 +3,8 @@
 ghost use Rattle.std.specs.Prelude.{ℕ, ◌≡◌, ◌+◌, ◌<◌, ◌≤◌, ◌++◌, ◌∷◌, [], Bool, false, List, IfOk, length, slice_index, slice_index_or, sum};
 ghost use Rattle.call_places.specs.declared.entries.Entry.{Entry};
 ghost use Rattle.call_places.specs.declared.entries.Place.{Place};
-ghost use Rattle.call_places.specs.Entries.{own, last_of, stamps_of, StampsRise};
+ghost use Rattle.call_places.specs.Entries.{own, stamps_of};
+ghost use Rattle.call_places.specs.Orders.{last_of, StampsRise};
 ghost use Rattle.call_places.specs.Notes.{note_entry, live_at, AreLive};
 ghost use Rattle.stamp_counter.specs.Stamps.{IsNote, ComesAfter};
 ghost use Rattle.live_table.specs.Notes.{terms_of};

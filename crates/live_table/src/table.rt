@@ -1,7 +1,8 @@
 //! A table of the contexts that are there for calls: its turns and its close.
 
 ghost use Rattle.std.specs.Prelude.{◌≡◌, ◌+◌, ◌<◌, ◌≤◌, [], All, IfOk, length, sum};
-ghost use Rattle.call_places.specs.Entries.{stamps_of, StampsRise};
+ghost use Rattle.call_places.specs.Entries.{stamps_of};
+ghost use Rattle.call_places.specs.Orders.{StampsRise};
 ghost use Rattle.call_places.specs.Notes.{AreLive};
 ghost use Rattle.turn_lock.specs.Passes.{fresh_from, AllOf, IsShown, NoOthers};
 ghost use Rattle.stamp_counter.specs.Stamps.{IsNote};

@@ -11,7 +11,8 @@ use Rattle.hkdf_labelled.specs.declared.suites.Suite.{Suite}
 use Rattle.key_schedule.specs.declared.modes.Role.TheVariants.{Sender, Recipient}
 use Rattle.aes_gcm.specs.Gcm.{seal, clear}
 use Rattle.aes_gcm.proofs.Opening.{IsWhole, seal-holds, seal-clear}
-use Rattle.hpke_context.specs.Contexts.{encrypts, key_in, nonce_of, tag_holds, cipher_of}
+use Rattle.hpke_context.specs.Contexts.{key_in, nonce_of, tag_holds, cipher_of}
+use Rattle.hpke_context.specs.Calls.{encrypts}
 use Rattle.hpke_context.proofs.Tags.{tag_holds-is}
 use Rattle.ohttp_capsule.specs.declared.asking.Asked.{Asked}
 use Rattle.ohttp_capsule.specs.declared.faults.CapsuleFault.{CapsuleFault}

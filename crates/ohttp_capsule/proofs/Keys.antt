@@ -14,7 +14,8 @@ use Rattle.key_schedule.specs.declared.modes.Role.{Role}
 use Rattle.aes_block.specs.Cipher.{IsKey}
 use Rattle.aes_block.proofs.Lengths.{length-cipher}
 use Rattle.aes_gcm.proofs.Opening.{IsWhole}
-use Rattle.hpke_context.specs.Contexts.{ContextView, encrypts, key_in}
+use Rattle.hpke_context.specs.Contexts.{ContextView, key_in}
+use Rattle.hpke_context.specs.Calls.{encrypts}
 use Rattle.ohttp_capsule.specs.Requests.{context_of}
 use Rattle.ohttp_capsule.specs.Responses.{key_size, response_prk, aead_key}
 

@@ -9,7 +9,8 @@ use Rattle.key_schedule.specs.declared.modes.Role.TheVariants.{Recipient}
 use Rattle.hkdf_labelled.specs.declared.suites.Suite.{Suite}
 use Rattle.aes_gcm.specs.Gcm.{Holds, clear}
 use Rattle.key_schedule.specs.Nonces.{compute_nonce}
-use Rattle.hpke_context.specs.Contexts.{ContextView, encrypts, key_in, base_nonce_in, nonce_of, tag_holds, cipher_of}
+use Rattle.hpke_context.specs.Contexts.{ContextView, key_in, base_nonce_in, nonce_of, tag_holds, cipher_of}
+use Rattle.hpke_context.specs.Calls.{encrypts}
 use Rattle.hpke_context.proofs.Tags.{tag_holds-is}
 use Rattle.ohttp_capsule.specs.declared.asking.Asked.{Asked}
 use Rattle.ohttp_capsule.specs.declared.faults.CapsuleFault.{CapsuleFault}

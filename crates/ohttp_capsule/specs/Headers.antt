@@ -6,7 +6,7 @@ use Rattle.hkdf_labelled.specs.Suites.{kdf_id, aead_id}
 use Rattle.hkdf_labelled.specs.declared.suites.Suite.{Suite}
 use Rattle.hkdf_labelled.specs.declared.suites.Kdf.TheVariants as kdfs
 use Rattle.hkdf_labelled.specs.declared.suites.Aead.TheVariants as aeads
-use Rattle.hpke_context.specs.Contexts.{encrypts}
+use Rattle.hpke_context.specs.Calls.{encrypts}
 
 -- the size of hdr: one byte for the key identifier, and two for each of the three algorithms
 abbrev pub header_size : ℕ

@@ -1,7 +1,7 @@
 //! The gateway's answer to a request (RFC 9458, 4.3 and 4.4).
 
 ghost use Rattle.std.specs.Prelude.{◌≡◌, ◌≢◌, ◌↔◌, ◌+◌, ◌-◌, ◌^◌, ◌≤◌, List, ℕ, length, nat_lt, IfOk};
-ghost use Rattle.hpke_context.specs.Contexts.{HasCipher};
+ghost use Rattle.hpke_context.specs.Calls.{HasCipher};
 ghost use Rattle.ohttp_capsule.specs.declared.asking.Asked.{Asked};
 ghost use Rattle.ohttp_capsule.specs.Requests.{least_request};
 ghost use Rattle.ohttp_capsule.specs.Responses.{entropy_size};

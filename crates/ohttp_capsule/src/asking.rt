@@ -2,13 +2,12 @@
 
 ghost use Rattle.std.specs.Prelude.{◌≡◌, ◌+◌, ◌^◌, ◌≤◌, ℕ, List, length, IsTrue, IfOk, OnOk};
 ghost use Rattle.rand_words.specs.Words.{TakesAtMost};
-ghost use Rattle.hpke_context.specs.Contexts.{encrypts, HasCipher};
+ghost use Rattle.hpke_context.specs.Calls.{encrypts, HasCipher};
 ghost use Rattle.sntrup_kem.specs.Sizes.{enc_size};
 ghost use Rattle.sntrup_kem.specs.Kem.{drawn_r, IsGenerated};
 ghost use Rattle.key_schedule.specs.declared.modes.Role.TheVariants.{Sender};
 ghost use Rattle.ohttp_capsule.specs.Headers.{header_size};
-ghost use Rattle.ohttp_capsule.specs.Requests.{tag_size, least_request};
-ghost use Rattle.ohttp_capsule.specs.Requests.{context_of, asked_with, encapsulated_request};
+ghost use Rattle.ohttp_capsule.specs.Requests.{tag_size, least_request, context_of, asked_with, encapsulated_request};
 ghost use Rattle.ohttp_capsule.specs.Laws.{Asks};
 
 use crate::firsts::sealed_first;

@@ -1,7 +1,8 @@
 //! The first message of a context, which is the one that a request has.
 
 ghost use Rattle.std.specs.Prelude.{◌≡◌, ◌<◌, ◌≤◌, ◌-◌, ◌+◌, ◌^◌, ◌⊎◌, [], length, true, false, IfOk};
-ghost use Rattle.hpke_context.specs.Contexts.{HasCipher, cipher_of};
+ghost use Rattle.hpke_context.specs.Contexts.{cipher_of};
+ghost use Rattle.hpke_context.specs.Calls.{HasCipher};
 
 use crate::faults::CapsuleFault;
 use crate::responses::{opened, sealed};

@@ -4,7 +4,7 @@ ghost use Rattle.std.specs.Prelude.{◌≡◌, ◌≢◌, ◌<◌, ◌≤◌, �
 ghost use Rattle.hkdf_labelled.specs.Suites.{hash_size};
 ghost use Rattle.hkdf_labelled.specs.Hkdf.{expand};
 ghost use Rattle.aes_gcm.specs.Gcm.{seal};
-ghost use Rattle.hpke_context.specs.Contexts.{HasCipher, encrypts};
+ghost use Rattle.hpke_context.specs.Calls.{HasCipher, encrypts};
 ghost use Rattle.ohttp_capsule.specs.Responses.{key_size, entropy_size, response_secret, response_prk, aead_key, aead_nonce, encapsulated_response};
 ghost use Rattle.ohttp_capsule.specs.Replies.{opened_with};
 

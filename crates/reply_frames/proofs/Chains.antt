@@ -1,6 +1,6 @@
 -- Pieces of a text that are put one after another.
 use Rattle.std.proofs.Common.{ℕ, List, ◌++◌, Option}
-use Rattle.field_text.specs.Printing.{Puts}
+use Rattle.field_text.specs.Buffers.{Puts}
 use Rattle.field_text.specs.declared.buffer.Buffer.{Buffer}
 use Rattle.field_text.proofs.Held.{Puts-then}
 

@@ -8,9 +8,8 @@ use Rattle.batch_plans.specs.declared.plan.CallLine.{CallLine}
 use Rattle.batch_plans.specs.declared.replies.Reply.{Reply}
 use Rattle.batch_plans.specs.declared.replies.Batch.{Batch}
 use Rattle.batch_plans.specs.declared.replies.LaneAnswers.{LaneAnswers}
-use Rattle.batch_plans.specs.Lines.{reply_line}
-use Rattle.batch_plans.specs.ReplyText.{numbered, all_lines, reply_count, batch_count, guess_line, calls_lines, answered_lines, lanes_lines, lane_lines}
-use Rattle.batch_plans.specs.LiveText.{given_lines, lanes_given}
+use Rattle.batch_plans.specs.AnswersText.{reply_line, reply_count, batch_count, guess_line, calls_lines, answered_lines, lanes_lines, given_lines, lanes_given}
+use Rattle.batch_plans.specs.ReplyText.{numbered, all_lines, lane_lines}
 use Rattle.batch_plans.proofs.Lanes.{IsLane}
 use Rattle.reply_frames.specs.LineParts.{lines_by, lanes_by}
 use Rattle.reply_frames.proofs.LinesLeft.{drop-next}

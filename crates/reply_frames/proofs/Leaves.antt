@@ -1,6 +1,6 @@
 -- A text of which a front was put: what is left of it grows shorter, piece by piece.
 use Rattle.std.proofs.Common.{◌≡◌, ℕ, List, [], ◌++◌, Option, refl, sym, ap, ◌∙◌, append-nil, append_assoc}
-use Rattle.field_text.specs.Printing.{Puts}
+use Rattle.field_text.specs.Buffers.{Puts}
 use Rattle.field_text.specs.declared.buffer.Buffer.{Buffer}
 use Rattle.field_text.proofs.Held.{Puts-then, Puts-same, Puts-nothing}
 

@@ -3,8 +3,8 @@ use Rattle.std.specs.Prelude.{ℕ, Bool, true, false, List, [], ◌∷◌, ◌++
 use Rattle.call_places.specs.declared.entries.Mark.{Mark}
 use Rattle.batch_plans.specs.declared.plan.CallLine.{CallLine}
 use Rattle.batch_plans.specs.declared.replies.LaneAnswers.{LaneAnswers}
-use Rattle.batch_plans.specs.ReplyText.{answered_lines, mark_line}
-use Rattle.batch_plans.specs.LiveText.{given_lines}
+use Rattle.batch_plans.specs.ReplyText.{mark_line}
+use Rattle.batch_plans.specs.AnswersText.{answered_lines, given_lines}
 
 -- the lines of a lane's calls, by the replies that were given or by all
 abbrev pub lines_by : Bool → List CallLine → LaneAnswers → List (List ℕ)

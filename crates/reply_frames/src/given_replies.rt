@@ -3,8 +3,8 @@
 ghost use Rattle.std.specs.Prelude.{◌≡◌, ℕ, ◌≤◌, length, take, drop, filter, slice_get};
 ghost use Rattle.std.specs.List.{All, concat};
 ghost use Rattle.batch_plans.specs.Replies.{IsInRange, IsPrintable};
-ghost use Rattle.field_text.specs.Printing.{Puts};
-ghost use Rattle.batch_plans.specs.LiveText.{is_given as given_test, given_lines};
+ghost use Rattle.field_text.specs.Buffers.{Puts};
+ghost use Rattle.batch_plans.specs.AnswersText.{is_given as given_test, given_lines};
 
 use crate::lane_replies::{guesses_of, put_guesses, put_replies, reply_count};
 use batch_io::Sink;

@@ -2,8 +2,9 @@
 
 ghost use Rattle.std.specs.Prelude.{ℕ, ◌≡◌, ◌++◌, List, [], codes, decimal, length, IfOk};
 ghost use Rattle.batch_plans.specs.Replies.{IsInRange};
-ghost use Rattle.field_text.specs.Printing.{Puts, IsFresh};
-ghost use Rattle.batch_plans.specs.Lines.{key_line, context_line, reply_line};
+ghost use Rattle.field_text.specs.Buffers.{Puts, IsFresh};
+ghost use Rattle.batch_plans.specs.Lines.{key_line, context_line};
+ghost use Rattle.batch_plans.specs.AnswersText.{reply_line};
 ghost use Rattle.batch_plans.specs.LiveText.{note_line};
 
 use crate::replies::put_key_line;

@@ -3,11 +3,12 @@
 ghost use Rattle.std.specs.Prelude.{◌≡◌, ◌≤◌, length, map};
 ghost use Rattle.std.specs.List.{concat};
 ghost use Rattle.std.specs.Io.KnownBytes.{Appends};
-ghost use Rattle.batch_io.specs.Outside.{Rose};
+ghost use Rattle.batch_io.specs.Faults.{Rose};
 ghost use Rattle.batch_plans.specs.Names.{line_count as lines_in};
-ghost use Rattle.field_text.specs.Printing.{Puts, AppendsPrefix};
-ghost use Rattle.batch_plans.specs.ReplyText.{IsAnswered};
-ghost use Rattle.batch_plans.specs.LiveText.{note_line, table_lines, live_text};
+ghost use Rattle.field_text.specs.Printing.{AppendsPrefix};
+ghost use Rattle.field_text.specs.Buffers.{Puts};
+ghost use Rattle.batch_plans.specs.AnswersText.{IsAnswered, live_text};
+ghost use Rattle.batch_plans.specs.LiveText.{note_line, table_lines};
 
 use crate::printing::{put_each_journal, put_journals, put_lanes, put_setup, put_version};
 use crate::reply_lines::put_note;

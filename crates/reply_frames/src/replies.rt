@@ -2,7 +2,7 @@
 
 ghost use Rattle.std.specs.Prelude.{◌≡◌};
 ghost use Rattle.std.specs.List.{concat};
-ghost use Rattle.field_text.specs.Printing.{Puts};
+ghost use Rattle.field_text.specs.Buffers.{Puts};
 ghost use Rattle.batch_plans.specs.Words.{key_refusal_word};
 ghost use Rattle.batch_plans.specs.Lines.{key_words, key_line};
 ghost use Rattle.batch_plans.specs.ReplyText.{numbered};

@@ -3,10 +3,10 @@
 ghost use Rattle.std.specs.Prelude.{◌≡◌, ◌++◌, length, codes, decimal};
 ghost use Rattle.batch_plans.specs.Replies.{IsInRange};
 ghost use Rattle.call_places.specs.Spans.{span_bytes};
-ghost use Rattle.field_text.specs.Printing.{Puts};
-ghost use Rattle.batch_plans.specs.Lines.{context_words, context_line};
-ghost use Rattle.batch_plans.specs.Lines.{served_line, exported_line, refused_line, reply_line};
-ghost use Rattle.batch_plans.specs.ReplyText.{guess_line, stamp_words, mark_line, bad_text};
+ghost use Rattle.field_text.specs.Buffers.{Puts};
+ghost use Rattle.batch_plans.specs.Lines.{context_words, context_line, served_line, exported_line, refused_line};
+ghost use Rattle.batch_plans.specs.AnswersText.{reply_line, guess_line};
+ghost use Rattle.batch_plans.specs.ReplyText.{stamp_words, mark_line, bad_text};
 ghost use Rattle.batch_plans.specs.LiveText.{tells_live as live_test, bit as bit_of, note_line};
 
 use crate::reply_words::{word_of_call_refusal, word_of_context_refusal, word_of_reason};

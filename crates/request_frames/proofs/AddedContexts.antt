@@ -11,7 +11,7 @@ use Rattle.batch_plans.specs.declared.plan.CallLine.{CallLine}
 use Rattle.batch_plans.specs.declared.plan.CallLine.TheVariants.{Add}
 use Rattle.batch_plans.specs.Names.{line_count}
 use Rattle.request_frames.specs.Batch.{add_call}
-use Rattle.request_frames.specs.Added.{added_contexts, IsShare, name_added, names_added, IsLive}
+use Rattle.request_frames.specs.LivePlans.{added_contexts, IsShare, name_added, names_added, IsLive}
 
 -- the first of these are those
 pub record Begins {A : Type 0} (front whole : List A) : Type 0 where

@@ -7,7 +7,8 @@ use Rattle.field_text.specs.declared.reasons.Reason.{Reason}
 use Rattle.field_text.specs.declared.reasons.Reason.TheVariants.{Count}
 use Rattle.field_text.specs.declared.stop.Stop.{Stop}
 use Rattle.field_text.specs.declared.stop.Stop.TheVariants as stops
-use Rattle.field_text.specs.Fields.{◌>>=◌, next, Stops}
+use Rattle.field_text.specs.Fields.{◌>>=◌, next}
+use Rattle.field_text.specs.Readings.{Stops}
 use Rattle.batch_plans.specs.declared.plan.Plan.{Plan}
 use Rattle.batch_plans.specs.declared.plan.CallLine.TheVariants as calls
 use Rattle.batch_plans.specs.Limits.{most_opening, most_ciphertext}

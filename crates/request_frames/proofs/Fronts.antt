@@ -12,8 +12,7 @@ use Rattle.field_text.proofs.SpelledLines.{IsSpelling, IsText, front_ok, front_r
 use Rattle.batch_plans.specs.declared.plan.Plan.{Plan}
 use Rattle.batch_plans.specs.Limits.{most_input}
 use Rattle.request_frames.specs.Batch.{batch, batch_lines, ended, front_batch, Spells, BadAt, BeginsWith, FrontBadAt}
-use Rattle.request_frames.specs.Live.{live_lines, live, front_live}
-use Rattle.request_frames.specs.Live.{Spells as SpellsLive, BeginsWith as BeginsLive}
+use Rattle.request_frames.specs.Live.{live_lines, live, front_live, Spells as SpellsLive, BeginsWith as BeginsLive}
 use Rattle.request_frames.proofs.SpelledPlans.{Adds, spelling}
 use Rattle.request_frames.proofs.SpelledTexts.{front_ends, ended_ok}
 use Rattle.request_frames.proofs.SpelledLive.{live_spelling}

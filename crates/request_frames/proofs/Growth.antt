@@ -15,7 +15,8 @@ use Rattle.batch_plans.specs.declared.plan.ContextKind.TheVariants as kinds
 use Rattle.batch_plans.specs.declared.plan.ContextLine.{ContextLine}
 use Rattle.batch_plans.specs.declared.plan.CallLine.{CallLine}
 use Rattle.batch_plans.specs.declared.plan.CallLine.TheVariants as calls
-use Rattle.batch_plans.specs.Limits.{most_input, most_keys, most_contexts, most_lanes, most_items, most_exported, most_field, most_ciphertext, items_of, size_of, items_from, text_size, all_items, all_sizes, all_texts, IsItemWithin, IsSourceWithin, IsKeyWithin, IsKindWithin, IsContextWithin, IsCallWithin, IsWithinLimits, IsPlainCall, IsPlain}
+use Rattle.batch_plans.specs.Limits.{most_input, most_keys, most_contexts, most_lanes, most_items, most_exported, most_field, most_ciphertext, items_of, size_of, items_from, all_items, all_sizes}
+use Rattle.batch_plans.specs.Within.{text_size, all_texts, IsItemWithin, IsSourceWithin, IsKeyWithin, IsKindWithin, IsContextWithin, IsCallWithin, IsWithinLimits, IsPlainCall, IsPlain}
 use Rattle.request_frames.proofs.MoreLines.{field_grown, message_grown}
 use Rattle.request_frames.specs.Batch.{add_call, empty_plan}
 

@@ -3,7 +3,8 @@ use Rattle.std.proofs.Common.{◌≡◌, ℕ, ◌+◌, List, [], ◌∷◌, ◌+
 use Rattle.field_text.specs.declared.reasons.Reason.{Reason}
 use Rattle.field_text.specs.declared.stop.Stop.{Stop}
 use Rattle.field_text.specs.declared.stop.Stop.TheVariants as stops
-use Rattle.field_text.specs.Fields.{◌>>=◌, Gives}
+use Rattle.field_text.specs.Fields.{◌>>=◌}
+use Rattle.field_text.specs.Readings.{Gives}
 use Rattle.batch_plans.specs.declared.plan.Plan.{Plan}
 use Rattle.batch_plans.specs.declared.plan.CallLine.{CallLine}
 use Rattle.batch_plans.specs.Limits.{most_opening, most_items, most_exported, items_of, size_of, all_items, all_sizes}

@@ -12,7 +12,7 @@ use Rattle.field_text.specs.Fields.{◌>>=◌}
 use Rattle.field_text.proofs.Spellings.{test_ok}
 use Rattle.batch_plans.specs.declared.plan.EncField.{EncField}
 use Rattle.batch_plans.specs.declared.plan.EncField.TheVariants.{Bytes, Of}
-use Rattle.batch_plans.specs.Limits.{IsField}
+use Rattle.batch_plans.specs.Within.{IsField}
 use Rattle.request_frames.specs.KeyForms.{at_most, IsMessageWithin}
 
 -- ---- limits, over a pool that is as long

@@ -4,7 +4,8 @@ use Rattle.call_places.specs.declared.spans.Item.{Item}
 use Rattle.field_text.specs.declared.reasons.Reason.{Reason}
 use Rattle.field_text.specs.declared.stop.Stop.{Stop}
 use Rattle.field_text.specs.declared.stop.Stop.TheVariants as stops
-use Rattle.field_text.specs.Fields.{◌>>=◌, next, bytes, Pooled, Stops}
+use Rattle.field_text.specs.Fields.{◌>>=◌, next, bytes, Pooled}
+use Rattle.field_text.specs.Readings.{Stops}
 use Rattle.batch_plans.specs.Limits.{most_field, most_ciphertext}
 use Rattle.request_frames.specs.Forms.{item, pairs}
 

@@ -12,11 +12,12 @@ use Rattle.field_text.proofs.SpelledLines.{no_piece}
 use Rattle.batch_plans.specs.declared.plan.CallLine.{CallLine}
 use Rattle.batch_plans.specs.declared.plan.CallLine.TheVariants.{Seal, Unseal}
 use Rattle.batch_plans.specs.declared.plan.ContextLine.{ContextLine}
-use Rattle.batch_plans.specs.Limits.{most_field, most_plaintext, most_ciphertext, first_name, text_size, IsItemWithin, IsNumber, IsCallWithin, IsPlainCall}
+use Rattle.batch_plans.specs.Limits.{most_field, most_plaintext, most_ciphertext, first_name}
+use Rattle.batch_plans.specs.Within.{text_size, IsItemWithin, IsNumber, IsCallWithin, IsPlainCall}
 use Rattle.request_frames.proofs.SpelledKeyFields.{piece_is, front_length, field_within}
 use Rattle.request_frames.specs.Forms.{ctx, item, one_item, seal, unseal, export, pairs, unseal_all}
 use Rattle.request_frames.specs.PlanText.{ctx_text, item_pieces, call_pieces}
-use Rattle.request_frames.specs.Added.{name_added}
+use Rattle.request_frames.specs.LivePlans.{name_added}
 use Rattle.request_frames.proofs.SpelledFields.{ctx_ok}
 
 -- ---- items

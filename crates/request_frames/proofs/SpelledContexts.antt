@@ -10,7 +10,8 @@ use Rattle.field_text.proofs.SpelledLines.{no_piece}
 use Rattle.batch_plans.specs.declared.plan.ContextKind.{ContextKind}
 use Rattle.batch_plans.specs.declared.plan.ContextKind.TheVariants as kinds
 use Rattle.batch_plans.specs.declared.plan.ContextLine.{ContextLine}
-use Rattle.batch_plans.specs.Limits.{most_field, IsKindWithin, IsContextWithin}
+use Rattle.batch_plans.specs.Limits.{most_field}
+use Rattle.batch_plans.specs.Within.{IsKindWithin, IsContextWithin}
 use Rattle.request_frames.specs.KeyWords.{kdf}
 use Rattle.request_frames.specs.KeyForms.{message}
 use Rattle.request_frames.proofs.SpelledKeyFields.{kdf_ok, message_ok, piece_is, front_length, field_within}
@@ -20,7 +21,7 @@ use Rattle.request_frames.specs.declared.words.ContextWord.TheVariants.{Share, S
 use Rattle.request_frames.specs.Words.{word_text, draws, role, mode, aead}
 use Rattle.request_frames.specs.Forms.{schedule, share, send, recv, context}
 use Rattle.request_frames.specs.PlanText.{schedule_pieces, context_fields, context_pieces, added_pieces}
-use Rattle.request_frames.specs.Added.{IsShare}
+use Rattle.request_frames.specs.LivePlans.{IsShare}
 use Rattle.request_frames.proofs.SpelledFields.{role_ok, mode_ok, aead_ok}
 
 -- ---- the end of each context line

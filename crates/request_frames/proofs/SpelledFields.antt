@@ -12,7 +12,8 @@ use Rattle.key_schedule.specs.declared.modes.Mode.TheVariants.{Base, Psk}
 use Rattle.field_text.specs.declared.reasons.Reason.TheVariants.{Word, Number, Range}
 use Rattle.field_text.specs.Fields.{number}
 use Rattle.field_text.proofs.Spellings.{ok_same, step_ok, choice_ok, word_ok, number_ok}
-use Rattle.batch_plans.specs.Limits.{first_name, IsNumber}
+use Rattle.batch_plans.specs.Limits.{first_name}
+use Rattle.batch_plans.specs.Within.{IsNumber}
 use Rattle.request_frames.specs.declared.words.LineWord.{LineWord}
 use Rattle.request_frames.specs.Words.{word_text, word_among, role, mode, aead}
 use Rattle.request_frames.specs.Forms.{is_name, name, named, ctx}

@@ -9,7 +9,7 @@ use Rattle.hkdf_labelled.specs.declared.suites.Kdf.TheVariants.{Sha256, Sha384, 
 use Rattle.field_text.specs.Fields.{number, bytes, Pooled}
 use Rattle.field_text.proofs.Spellings.{ok_same, step_ok, choice_ok, number_ok, bytes_ok, IsFront, IsFront-same, IsPooled}
 use Rattle.batch_plans.specs.declared.plan.EncField.{EncField}
-use Rattle.batch_plans.specs.Limits.{IsField}
+use Rattle.batch_plans.specs.Within.{IsField}
 use Rattle.request_frames.specs.KeyWords.{kdf}
 use Rattle.request_frames.specs.KeyForms.{is_reference, reference, message_bytes, message, IsMessageWithin}
 use Rattle.request_frames.specs.KeyText.{enc_text}

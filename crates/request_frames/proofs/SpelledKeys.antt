@@ -11,7 +11,8 @@ use Rattle.field_text.specs.Printing.{hex_text}
 use Rattle.field_text.proofs.Spellings.{ok_same, step_ok, choice_ok, next_ok, exactly_ok, bytes_ok, IsFront, IsFront-same}
 use Rattle.field_text.proofs.SpelledLines.{no_piece}
 use Rattle.batch_plans.specs.declared.plan.KeyLine.{KeyLine}
-use Rattle.batch_plans.specs.Limits.{most_field, IsField, IsSourceWithin, IsKeyWithin}
+use Rattle.batch_plans.specs.Limits.{most_field}
+use Rattle.batch_plans.specs.Within.{IsField, IsSourceWithin, IsKeyWithin}
 use Rattle.request_frames.specs.declared.key_words.KeyWord.{KeyWord}
 use Rattle.request_frames.specs.declared.key_words.KeyWord.TheVariants.{Generate, Secret, Peer}
 use Rattle.batch_plans.specs.declared.plan.KeySet.{KeySet}

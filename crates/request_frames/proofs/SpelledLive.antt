@@ -7,9 +7,10 @@ use Rattle.field_text.specs.Lines.{FrontText, front, whole}
 use Rattle.field_text.proofs.Spellings.{step_ok, word_ok}
 use Rattle.field_text.proofs.SpelledLines.{IsSpelling, text_read, front_read}
 use Rattle.batch_plans.specs.declared.plan.Plan.{Plan}
-use Rattle.batch_plans.specs.Limits.{most_input, IsWithinLimits}
+use Rattle.batch_plans.specs.Limits.{most_input}
+use Rattle.batch_plans.specs.Within.{IsWithinLimits}
 use Rattle.request_frames.specs.Words.{line_word, words_of}
-use Rattle.request_frames.specs.Added.{IsLive}
+use Rattle.request_frames.specs.LivePlans.{IsLive}
 use Rattle.request_frames.specs.Batch.{empty_plan}
 use Rattle.request_frames.specs.PlanText.{text_of}
 use Rattle.request_frames.proofs.SpelledFields.{among_ok}

@@ -30,9 +30,11 @@ use Rattle.request_frames.specs.Words.{word_text, words_of, draws}
 use Rattle.request_frames.specs.Forms.{share, context, name, seal, unseal, unseal_all, export}
 use Rattle.request_frames.specs.Batch.{is_bare, takes_keys, may_stand, add_call, counted, with_rand, with_key, with_context, with_lane, with_one, with_several, with_call, with_line, batch_lines}
 use Rattle.batch_plans.specs.Names.{line_count}
-use Rattle.batch_plans.specs.Limits.{most_input, most_keys, most_contexts, most_lanes, most_opening, most_items, most_exported, items_of, size_of, items_from, text_size, all_items, all_sizes, IsPlain}
+use Rattle.batch_plans.specs.Limits.{most_input, most_keys, most_contexts, most_lanes, most_opening, most_items, most_exported, items_of, size_of, items_from, all_items, all_sizes}
+use Rattle.batch_plans.specs.Within.{text_size, IsPlain}
 use Rattle.request_frames.specs.PlanText.{ctx_text, context_text, added_pieces, item_pieces, call_text, lane_text}
-use Rattle.request_frames.specs.Added.{with_added, with_retired, added_contexts, IsLive}
+use Rattle.request_frames.specs.Added.{with_added, with_retired}
+use Rattle.request_frames.specs.LivePlans.{added_contexts, IsLive}
 use Rattle.request_frames.proofs.SpelledFields.{among_ok, name_ok}
 use Rattle.request_frames.proofs.SpelledContexts.{context_ok, added_ok}
 use Rattle.request_frames.proofs.SpelledCalls.{IsCall, seal_ok, unseal_ok, export_ok, unseal_all_ok}

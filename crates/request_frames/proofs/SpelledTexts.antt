@@ -15,9 +15,10 @@ use Rattle.field_text.proofs.SpelledLines.{IsText, text_read, front_read}
 use Rattle.batch_plans.specs.declared.plan.Plan.{Plan}
 use Rattle.batch_plans.specs.declared.plan.ContextLine.{ContextLine}
 use Rattle.request_frames.specs.KeyText.{seed_text, key_text}
-use Rattle.request_frames.specs.Added.{added_contexts, IsLive}
+use Rattle.request_frames.specs.LivePlans.{added_contexts, IsLive}
 use Rattle.request_frames.specs.Batch.{ended, header, batch_lines, batch, empty_plan, Spells}
-use Rattle.batch_plans.specs.Limits.{most_input, IsWithinLimits, IsPlain}
+use Rattle.batch_plans.specs.Limits.{most_input}
+use Rattle.batch_plans.specs.Within.{IsWithinLimits, IsPlain}
 use Rattle.request_frames.specs.PlanText.{context_text, lane_text, text_of}
 use Rattle.request_frames.proofs.Growth as growth
 use Rattle.request_frames.proofs.AddedContexts.{Begins-same, IsOrdered, line_contexts}

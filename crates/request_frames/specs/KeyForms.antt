@@ -10,7 +10,8 @@ use Rattle.batch_plans.specs.declared.plan.KeySource.TheVariants as sources
 use Rattle.batch_plans.specs.KeyLines.{key_line}
 use Rattle.batch_plans.specs.declared.plan.EncField.{EncField}
 use Rattle.batch_plans.specs.declared.plan.EncField.TheVariants.{Bytes, Of}
-use Rattle.batch_plans.specs.Limits.{most_field, IsField}
+use Rattle.batch_plans.specs.Limits.{most_field}
+use Rattle.batch_plans.specs.Within.{IsField}
 use Rattle.request_frames.specs.declared.key_words.KeyWord.{KeyWord}
 use Rattle.request_frames.specs.declared.key_words.KeyWord.TheVariants.{Generate, Secret, Peer}
 

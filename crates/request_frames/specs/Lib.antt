@@ -11,3 +11,4 @@ pub mod Firsts
 pub mod KeyWords
 pub mod KeyForms
 pub mod KeyText
+pub mod LivePlans

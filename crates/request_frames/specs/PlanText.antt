@@ -19,7 +19,7 @@ use Rattle.batch_plans.specs.declared.plan.Plan.{Plan}
 use Rattle.batch_plans.specs.Limits.{first_name, items_from}
 use Rattle.batch_plans.specs.Names.{line_count}
 use Rattle.request_frames.specs.KeyText.{span_text, enc_text, seed_text, key_text}
-use Rattle.request_frames.specs.Added.{added_contexts}
+use Rattle.request_frames.specs.LivePlans.{added_contexts}
 
 -- ---- pieces
 

@@ -1,7 +1,8 @@
 //! The number and bytes fields of a line, for grammars that have others besides.
 
 ghost use Rattle.std.specs.Prelude.{◌≡◌, ◌+◌, ◌<◌, ◌≤◌, ◌^◌, vec_len, IfOk, OnErr};
-ghost use Rattle.field_text.specs.Fields.{number, bytes, Reads};
+ghost use Rattle.field_text.specs.Fields.{number, bytes};
+ghost use Rattle.field_text.specs.Readings.{Reads};
 ghost use Rattle.request_frames.specs.FieldFaults.{GivesField};
 
 use call_places::Span;

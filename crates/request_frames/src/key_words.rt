@@ -1,7 +1,8 @@
 //! The words of key lines, and the field KDF.
 
 ghost use Rattle.std.specs.Prelude.{◌≡◌, ◌≤◌, length, sum_by, OnOk};
-ghost use Rattle.field_text.specs.Fields.{Reads, next};
+ghost use Rattle.field_text.specs.Fields.{next};
+ghost use Rattle.field_text.specs.Readings.{Reads};
 ghost use Rattle.request_frames.specs.KeyWords.{key_draws, kdf as kdf_field};
 
 use batch_plans::KeySet;

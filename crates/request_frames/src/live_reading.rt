@@ -2,14 +2,14 @@
 
 ghost use Rattle.std.specs.Prelude.{◌≡◌, ℕ, ◌⊎◌, ◌≤◌, ◌++◌, IfOk, List, length, take};
 ghost use Rattle.field_text.specs.declared.reasons.Reason.{Reason};
-ghost use Rattle.field_text.specs.Lines.{Finds};
+ghost use Rattle.field_text.specs.Readings.{Finds};
 ghost use Rattle.batch_plans.specs.declared.plan.Plan.{Plan};
-ghost use Rattle.batch_plans.specs.Limits.{most_input, IsWithinLimits};
-ghost use Rattle.request_frames.specs.Added.{IsLive};
+ghost use Rattle.batch_plans.specs.Limits.{most_input};
+ghost use Rattle.batch_plans.specs.Within.{IsWithinLimits};
+ghost use Rattle.request_frames.specs.LivePlans.{IsLive};
 ghost use Rattle.request_frames.specs.Batch.{refusal, no_memory};
 ghost use Rattle.request_frames.specs.PlanText.{text_of};
-ghost use Rattle.request_frames.specs.Live.{Spells, BadAt, live};
-ghost use Rattle.request_frames.specs.Live.{BeginsWith, FrontBadAt, front_live};
+ghost use Rattle.request_frames.specs.Live.{Spells, BadAt, live, BeginsWith, FrontBadAt, front_live};
 
 use crate::live_draft::LiveDraft;
 use batch_plans::Plan;

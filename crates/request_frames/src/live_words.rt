@@ -1,6 +1,6 @@
 //! The first words of lines, in a batch whose lanes add and retire contexts.
 
-ghost use Rattle.field_text.specs.Fields.{Reads};
+ghost use Rattle.field_text.specs.Readings.{Reads};
 ghost use Rattle.request_frames.specs.Live.{word as word_of};
 
 use crate::words::{LineWord, line_word};

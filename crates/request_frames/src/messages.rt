@@ -1,7 +1,8 @@
 //! A message that a line gives, or the number of the line that made it.
 
 ghost use Rattle.std.specs.Prelude.{◌≡◌, ◌+◌, ◌<◌, ◌≤◌, ◌^◌, length, vec_len, sum_by, OnOk};
-ghost use Rattle.field_text.specs.Fields.{Gives, next};
+ghost use Rattle.field_text.specs.Fields.{next};
+ghost use Rattle.field_text.specs.Readings.{Gives};
 ghost use Rattle.request_frames.specs.KeyForms.{is_reference as reference_test, message as message_of};
 
 use batch_plans::EncField;

@@ -1,7 +1,8 @@
 //! The contexts that calls name, and those that lines add and retire.
 
 ghost use Rattle.std.specs.Prelude.{◌≡◌, ◌+◌, ◌≤◌, length, sum_by, OnOk};
-ghost use Rattle.field_text.specs.Fields.{Reads, next};
+ghost use Rattle.field_text.specs.Fields.{next};
+ghost use Rattle.field_text.specs.Readings.{Reads};
 ghost use Rattle.request_frames.specs.Forms.{is_name as name_test, name as name_of, ctx};
 
 use batch_plans::FIRST_NAME;

@@ -1,7 +1,7 @@
 //! The lanes so far.
 
 ghost use Rattle.std.specs.Prelude.{◌≡◌, ◌+◌, ◌≤◌, ◌++◌, [], ◌∷◌, true, OnOk, IfOk};
-ghost use Rattle.field_text.specs.Fields.{Gives, Reads};
+ghost use Rattle.field_text.specs.Readings.{Gives, Reads};
 ghost use Rattle.batch_plans.specs.Limits.{most_items, most_exported, items_of, size_of};
 ghost use Rattle.request_frames.specs.Batch.{add_call};
 ghost use Rattle.request_frames.specs.Drafts.{lanes_in, call_more, lane_more, AreCounted};

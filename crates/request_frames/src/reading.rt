@@ -2,11 +2,11 @@
 
 ghost use Rattle.std.specs.Prelude.{◌≡◌, ◌≢◌, ℕ, ◌⊎◌, ◌≤◌, ◌++◌, IfOk, List, length, take};
 ghost use Rattle.field_text.specs.declared.reasons.Reason.{Reason};
-ghost use Rattle.field_text.specs.Lines.{Finds};
+ghost use Rattle.field_text.specs.Readings.{Finds};
 ghost use Rattle.batch_plans.specs.declared.plan.Plan.{Plan};
-ghost use Rattle.request_frames.specs.Batch.{Spells, BadAt, batch, refusal, no_memory};
-ghost use Rattle.request_frames.specs.Batch.{BeginsWith, FrontBadAt, front_batch};
-ghost use Rattle.batch_plans.specs.Limits.{most_input, IsWithinLimits, IsPlain};
+ghost use Rattle.request_frames.specs.Batch.{Spells, BadAt, batch, refusal, no_memory, BeginsWith, FrontBadAt, front_batch};
+ghost use Rattle.batch_plans.specs.Limits.{most_input};
+ghost use Rattle.batch_plans.specs.Within.{IsWithinLimits, IsPlain};
 
 use crate::draft::BatchDraft;
 use batch_plans::Plan;

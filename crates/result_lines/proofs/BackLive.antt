@@ -4,7 +4,7 @@ use Rattle.std.specs.List.{All}
 use Rattle.std.proofs.lemmas.List.Elements.{All-nil, All-cons, All-head, All-tail}
 use Rattle.call_places.specs.declared.entries.Entry.{Entry}
 use Rattle.call_places.specs.declared.entries.Mark.{Mark}
-use Rattle.call_places.specs.Entries.{StampsRise}
+use Rattle.call_places.specs.Orders.{StampsRise}
 use Rattle.hpke_context.specs.Contexts.{ContextView}
 use Rattle.batch_plans.specs.declared.plan.Plan.{Plan}
 use Rattle.batch_plans.specs.declared.replies.Batch.{Batch}

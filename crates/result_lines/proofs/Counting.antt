@@ -13,8 +13,9 @@ use Rattle.call_places.specs.declared.entries.Place.{Place}
 use Rattle.call_places.specs.declared.entries.Mark.{Mark}
 use Rattle.hpke_context.specs.Answers.{Item, Answer, Cipher, due, next, answer, advances}
 use Rattle.hpke_context.specs.Contexts.{ContextView}
-use Rattle.context_books.specs.Batches.{Ask, Batch, Spot, spots, items_in, context_in, with_context, item_in_call, item_of, items_of, item_or_none, lane_of, block, asked, all_asked, on, own_places, IsServed}
-use Rattle.context_books.specs.Histories.{marks_at, own_spots, LegalHistory}
+use Rattle.context_books.specs.Batches.{Ask, Batch, Spot, spots, items_in, context_in, with_context, item_in_call, item_of, items_of, item_or_none, lane_of, block, asked, on, own_places, IsServed}
+use Rattle.context_books.specs.Merging.{all_asked, own_spots}
+use Rattle.context_books.specs.Histories.{marks_at, LegalHistory}
 use Rattle.context_books.specs.Legal.{Legal, due_after, before, is_same_place}
 use Rattle.context_books.proofs.Legals.{lane_is}
 use Rattle.context_books.proofs.Members.{filter_in, value_at}
@@ -27,7 +28,8 @@ use Rattle.batch_plans.specs.declared.plan.CallLine.{CallLine}
 use Rattle.batch_plans.specs.declared.plan.CallLine.TheVariants as calls
 use Rattle.batch_plans.specs.declared.replies.CallRefusal.{CallRefusal}
 use Rattle.batch_plans.specs.Limits as limits
-use Rattle.batch_plans.specs.Limits.{items_from, IsWithinLimits, most_opening}
+use Rattle.batch_plans.specs.Limits.{items_from, most_opening}
+use Rattle.batch_plans.specs.Within.{IsWithinLimits}
 use Rattle.context_books.specs.Standing.{call_refusal}
 use Rattle.context_books.specs.Asks.{asked_by, ask_unless, ask_of, batch_of}
 use Rattle.context_books.proofs.Done.{lane_asks, length-messages}

@@ -7,7 +7,8 @@ use Rattle.field_text.specs.Cuts.{lines_of}
 use Rattle.field_text.proofs.Cutting.{some_piece}
 use Rattle.result_lines.specs.declared.stamps.Stamps.{Stamps}
 use Rattle.result_lines.specs.Forms.{mark_of_line}
-use Rattle.result_lines.specs.Places.{LinesView, next_line, line_from, nothing_from, ended, MarksFound, mark_before, marks_from, marks_of, marked, mark_from, mark_at}
+use Rattle.result_lines.specs.Places.{LinesView, next_line, line_from, nothing_from, ended, MarksFound, mark_before, marks_from, marks_of}
+use Rattle.result_lines.specs.Readings.{marked, mark_from, mark_at}
 
 -- ---- one line
 

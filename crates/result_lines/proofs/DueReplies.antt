@@ -20,7 +20,8 @@ use Rattle.batch_plans.specs.declared.plan.CallLine.{CallLine}
 use Rattle.batch_plans.specs.declared.plan.CallLine.TheVariants as calls
 use Rattle.batch_plans.specs.declared.replies.CallRefusal.{CallRefusal}
 use Rattle.batch_plans.specs.Calls.{context_of}
-use Rattle.batch_plans.specs.Limits.{items_from, IsWithinLimits}
+use Rattle.batch_plans.specs.Limits.{items_from}
+use Rattle.batch_plans.specs.Within.{IsWithinLimits}
 use Rattle.batch_plans.specs.ReplyText.{all_lines, numbered}
 use Rattle.context_books.specs.Standing.{standing_at, refusal_on, call_refusal}
 use Rattle.context_books.specs.Asks.{asked_by, cipher_at}

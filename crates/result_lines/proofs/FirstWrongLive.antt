@@ -11,7 +11,7 @@ use Rattle.context_books.specs.Histories.{HasLowerStamp, places}
 use Rattle.context_books.specs.Legal.{Legal}
 use Rattle.context_books.proofs.Marks.{legal_alone}
 use Rattle.context_books.proofs.Truths.{and_left, and_right, both_true}
-use Rattle.batch_plans.specs.Limits.{IsWithinLimits}
+use Rattle.batch_plans.specs.Within.{IsWithinLimits}
 use Rattle.batch_plans.specs.Names.{line_count}
 use Rattle.batch_plans.specs.declared.plan.Plan.{Plan}
 use Rattle.batch_plans.specs.declared.replies.KeyReply.{KeyReply}

@@ -23,7 +23,8 @@ use Rattle.context_books.proofs.Members.{got, contains_in, in_map, map_in, pairs
 use Rattle.context_books.specs.Lists.{In}
 use Rattle.context_books.proofs.Truths.{and_left, and_right, both_true, lt_true, true_lt}
 use Rattle.batch_plans.specs.Calls.{context_of}
-use Rattle.batch_plans.specs.Limits.{IsWithinLimits, most_opening, items_from}
+use Rattle.batch_plans.specs.Limits.{most_opening, items_from}
+use Rattle.batch_plans.specs.Within.{IsWithinLimits}
 use Rattle.batch_plans.specs.declared.plan.Plan.{Plan}
 use Rattle.batch_plans.specs.declared.plan.CallLine.{CallLine}
 use Rattle.batch_plans.specs.declared.plan.CallLine.TheVariants as calls

@@ -15,7 +15,8 @@ use Rattle.context_books.specs.Legal.{Legal, number_of}
 use Rattle.context_books.proofs.Checking.{guessed_iff}
 use Rattle.context_books.proofs.Members.{got, value_at}
 use Rattle.context_books.proofs.Truths.{and_right, le_true}
-use Rattle.batch_plans.specs.Limits.{IsWithinLimits, most_opening}
+use Rattle.batch_plans.specs.Limits.{most_opening}
+use Rattle.batch_plans.specs.Within.{IsWithinLimits}
 use Rattle.batch_plans.specs.declared.plan.Plan.{Plan}
 use Rattle.batch_plans.specs.declared.plan.CallLine.{CallLine}
 use Rattle.batch_plans.specs.declared.replies.Batch.{Batch}

@@ -11,12 +11,12 @@ use Rattle.call_places.specs.declared.entries.Entry.{Entry}
 use Rattle.call_places.specs.declared.entries.Mark.{Mark}
 use Rattle.call_places.specs.declared.entries.Place.{Place}
 use Rattle.call_places.specs.declared.entries.Step.TheVariants.{Note}
-use Rattle.call_places.specs.Entries.{IsBefore}
-use Rattle.context_books.specs.Batches.{Ask, Batch, Spot, block, items_in, place, lane_of, asked, all_asked}
+use Rattle.call_places.specs.Orders.{IsBefore}
+use Rattle.context_books.specs.Batches.{Ask, Batch, Spot, block, items_in, place, lane_of, asked}
+use Rattle.context_books.specs.Merging.{all_asked, own_spots}
 use Rattle.context_books.specs.Legal.{StandTogether, Legal}
 use Rattle.context_books.specs.Checks.{is_legal_history}
-use Rattle.context_books.specs.Entries.{entry_places}
-use Rattle.context_books.specs.Histories.{mark, places, marks_at, own_spots, HasLowerStamp, LegalHistory}
+use Rattle.context_books.specs.Histories.{entry_places, mark, places, marks_at, HasLowerStamp, LegalHistory}
 use Rattle.context_books.proofs.CheckingHistory.{legal_history_iff}
 use Rattle.context_books.proofs.Marks.{place_at, Rising}
 use Rattle.context_books.proofs.Members.{contains_in, in_contains, in_map, got, value_at, contains_at, rises_pairs, pairs_at}
@@ -28,7 +28,7 @@ use Rattle.context_books.proofs.Truths.{and_left}
 use Rattle.batch_plans.specs.declared.plan.Plan.{Plan}
 use Rattle.batch_plans.specs.declared.plan.CallLine.{CallLine}
 use Rattle.batch_plans.specs.Limits as limits
-use Rattle.batch_plans.specs.Limits.{IsWithinLimits}
+use Rattle.batch_plans.specs.Within.{IsWithinLimits}
 use Rattle.batch_plans.proofs.Rooms.{has_item}
 use Rattle.batch_plans.specs.ReplyText.{numbered}
 use Rattle.batch_plans.specs.LiveText.{tells_live}

@@ -20,9 +20,11 @@ use Rattle.batch_plans.specs.declared.replies.CallRefusal.{CallRefusal}
 use Rattle.batch_plans.specs.declared.replies.CallRefusal.TheVariants.{NoContext}
 use Rattle.batch_plans.specs.Calls.{context_of}
 use Rattle.batch_plans.specs.Room.{served_batches, served_or}
-use Rattle.batch_plans.specs.Limits.{first_name, items_of, IsWithinLimits}
+use Rattle.batch_plans.specs.Limits.{first_name, items_of}
+use Rattle.batch_plans.specs.Within.{IsWithinLimits}
 use Rattle.batch_plans.specs.Names.{line_count, at_position}
-use Rattle.batch_plans.specs.ReplyText.{all_lines, numbered, guess_line}
+use Rattle.batch_plans.specs.ReplyText.{all_lines, numbered}
+use Rattle.batch_plans.specs.AnswersText.{guess_line}
 use Rattle.batch_plans.specs.LiveText.{live_lines}
 use Rattle.context_books.specs.Standing.{call_refusal}
 use Rattle.context_books.specs.Asks.{ask_of}

@@ -9,7 +9,7 @@ use Rattle.context_books.specs.Batches.{lane_of}
 use Rattle.context_books.specs.Guesses.{guess_count}
 use Rattle.context_books.specs.Legal.{Legal}
 use Rattle.context_books.proofs.Members.{got}
-use Rattle.batch_plans.specs.Limits.{IsWithinLimits}
+use Rattle.batch_plans.specs.Within.{IsWithinLimits}
 use Rattle.batch_plans.specs.declared.plan.Plan.{Plan}
 use Rattle.batch_plans.specs.declared.plan.CallLine.{CallLine}
 use Rattle.batch_plans.specs.declared.replies.Batch.{Batch}

@@ -12,7 +12,8 @@ use Rattle.batch_plans.specs.declared.plan.Plan.{Plan}
 use Rattle.batch_plans.specs.declared.plan.CallLine.{CallLine}
 use Rattle.batch_plans.specs.declared.plan.CallLine.TheVariants as calls
 use Rattle.batch_plans.specs.Calls.{context_of}
-use Rattle.batch_plans.specs.Limits.{first_name, items_of, size_of, text_size, IsNumber, IsCallWithin, IsWithinLimits}
+use Rattle.batch_plans.specs.Limits.{first_name, items_of, size_of}
+use Rattle.batch_plans.specs.Within.{text_size, IsNumber, IsCallWithin, IsWithinLimits}
 use Rattle.batch_plans.specs.Names.{position, at_position}
 use Rattle.batch_plans.specs.ReplyText.{numbered}
 use Rattle.batch_plans.proofs.Numbering.{length-numbered}

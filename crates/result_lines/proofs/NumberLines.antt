@@ -24,7 +24,8 @@ use Rattle.batch_plans.specs.Limits.{most_opening}
 use Rattle.batch_plans.specs.declared.replies.Batch.{Batch}
 use Rattle.context_books.specs.Batches.{place}
 use Rattle.context_books.specs.Histories.{mark}
-use Rattle.batch_plans.specs.ReplyText.{guess_line, mark_line, stamp_words}
+use Rattle.batch_plans.specs.ReplyText.{mark_line, stamp_words}
+use Rattle.batch_plans.specs.AnswersText.{guess_line}
 use Rattle.result_lines.specs.declared.stamps.Stamps.{Stamps}
 use Rattle.result_lines.specs.declared.stamps.Stamps.TheVariants.{Unprinted, Places, PlacesAndNotes}
 use Rattle.result_lines.specs.Forms.{word_of, behind, batch_word, guess_in, coordinate, are_printed, most_stamp, mark_size, mark_in, guess_of_line, mark_of_line}

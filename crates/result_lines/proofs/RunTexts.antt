@@ -20,10 +20,12 @@ use Rattle.batch_plans.specs.declared.replies.ContextReply.{ContextReply}
 use Rattle.batch_plans.specs.declared.replies.CallRefusal.{CallRefusal}
 use Rattle.batch_plans.specs.declared.replies.CallRefusal.TheVariants.{NoContext}
 use Rattle.batch_plans.specs.Room.{served_batches, served_or}
-use Rattle.batch_plans.specs.Limits.{items_from, IsWithinLimits, items_of}
+use Rattle.batch_plans.specs.Limits.{items_from, items_of}
+use Rattle.batch_plans.specs.Within.{IsWithinLimits}
 use Rattle.batch_plans.specs.Lines.{batch_line}
 use Rattle.batch_plans.specs.ReplyText as texts
-use Rattle.batch_plans.specs.ReplyText.{all_lines, numbered, guess_line}
+use Rattle.batch_plans.specs.ReplyText.{all_lines, numbered}
+use Rattle.batch_plans.specs.AnswersText.{guess_line}
 use Rattle.context_books.specs.Standing.{call_refusal}
 use Rattle.context_books.specs.Asks.{asked_by, ask_unless, ask_of, cipher_at}
 use Rattle.context_books.specs.Runs.{Run, asks_of, journal_of, guesses_of, place_line, served_lines, lines_unless, call_lines, lane_call_lines, run_text, item_lines}

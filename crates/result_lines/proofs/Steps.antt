@@ -3,7 +3,8 @@ use Rattle.std.proofs.Common.{◌≡◌, ℕ, ◌+◌, ◌-◌, ◌<◌, ◌≤�
 use Rattle.std.proofs.Math.Seq.{drop-cons}
 use Rattle.result_lines.specs.declared.stop.Stop.{Stop}
 use Rattle.result_lines.specs.declared.stop.Stop.TheVariants as stops
-use Rattle.result_lines.specs.Places.{◌>>=◌, Stops}
+use Rattle.result_lines.specs.Places.{◌>>=◌}
+use Rattle.result_lines.specs.Readings.{Stops}
 
 -- the element of this number, and those behind it
 pub drop-next : {A : Type 0} (xs : List A) (i : ℕ) (d x : A) → i < length xs → x ≡ get_or xs i d

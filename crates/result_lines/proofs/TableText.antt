@@ -9,7 +9,7 @@ use Rattle.std.proofs.lemmas.Bool.Decides.{not_from_Decides}
 use Rattle.std.proofs.lemmas.Slice.Eq.{bytes_eq-Decides}
 use Rattle.call_places.specs.declared.entries.Entry.{Entry}
 use Rattle.call_places.specs.declared.entries.Mark.{Mark}
-use Rattle.call_places.specs.Entries.{StampsRise}
+use Rattle.call_places.specs.Orders.{StampsRise}
 use Rattle.hpke_context.specs.Contexts.{ContextView}
 use Rattle.field_text.specs.declared.reasons.Reason.{Reason}
 use Rattle.field_text.specs.Cuts.{lines_of}
@@ -20,7 +20,8 @@ use Rattle.batch_plans.specs.declared.replies.Batch.{Batch}
 use Rattle.batch_plans.specs.declared.replies.KeyReply.{KeyReply}
 use Rattle.batch_plans.specs.declared.replies.ContextReply.{ContextReply}
 use Rattle.batch_plans.specs.Lines.{key_line, context_line}
-use Rattle.batch_plans.specs.ReplyText.{guess_line, all_lines, numbered, lane_lines, mark_line, journal_lines, version_line}
+use Rattle.batch_plans.specs.ReplyText.{all_lines, numbered, lane_lines, mark_line, journal_lines, version_line}
+use Rattle.batch_plans.specs.AnswersText.{guess_line}
 use Rattle.batch_plans.specs.LiveText.{added_journal_lines, note_line, table_lines, live_lines}
 use Rattle.context_books.specs.Live.{looked_up_plan}
 use Rattle.result_lines.specs.declared.stamps.Stamps.TheVariants.{PlacesAndNotes}

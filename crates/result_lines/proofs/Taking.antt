@@ -8,7 +8,7 @@ use Rattle.batch_plans.specs.ReplyText.{numbered}
 use Rattle.batch_plans.specs.LiveText.{note_line}
 use Rattle.result_lines.specs.declared.stop.Stop.{Stop}
 use Rattle.result_lines.specs.declared.stamps.Stamps.{Stamps}
-use Rattle.result_lines.specs.Places.{Stops}
+use Rattle.result_lines.specs.Readings.{Stops}
 use Rattle.result_lines.specs.Told.{ToldView, with_line, with_lines, with_reply, with_replies, with_call, with_calls, with_journal, with_journals}
 use Rattle.result_lines.specs.ToldLive.{with_added_journal, with_added_journals}
 use Rattle.result_lines.proofs.Steps.{goes_on, stops_at, count_goes_on, count_stops_at}

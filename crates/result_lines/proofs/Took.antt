@@ -18,7 +18,8 @@ use Rattle.batch_plans.specs.declared.replies.KeyReply.{KeyReply}
 use Rattle.batch_plans.specs.declared.replies.ContextReply.{ContextReply}
 use Rattle.batch_plans.specs.declared.replies.CallRefusal.{CallRefusal}
 use Rattle.batch_plans.specs.Lines.{key_line, context_line}
-use Rattle.batch_plans.specs.ReplyText.{guess_line, all_lines, numbered, lane_lines, mark_line, journal_lines, version_line, reply_lines, has_stamps}
+use Rattle.batch_plans.specs.ReplyText.{all_lines, numbered, lane_lines, mark_line, journal_lines, version_line, reply_lines, has_stamps}
+use Rattle.batch_plans.specs.AnswersText.{guess_line}
 use Rattle.context_books.specs.Standing.{call_refusal}
 use Rattle.result_lines.specs.declared.told.GuessLine.{GuessLine}
 use Rattle.result_lines.specs.declared.stamps.Stamps.{Stamps}

@@ -13,3 +13,4 @@ pub mod LiveVerdicts
 pub mod Computed
 pub mod OneRun
 pub mod VerdictText
+pub mod Readings

@@ -5,7 +5,7 @@ use Rattle.std.specs.List.{AllPairs}
 use Rattle.call_places.specs.declared.entries.Entry.{Entry}
 use Rattle.hpke_context.specs.Contexts.{ContextView}
 use Rattle.context_books.specs.Batches.{place}
-use Rattle.context_books.specs.Entries.{entry_places}
+use Rattle.context_books.specs.Histories.{entry_places}
 use Rattle.context_books.specs.Legal.{IsInLaneOrder}
 use Rattle.batch_plans.specs.declared.plan.Plan.{Plan}
 use Rattle.batch_plans.specs.declared.plan.CallLine.{CallLine}

@@ -11,7 +11,8 @@ use Rattle.batch_plans.specs.declared.plan.CallLine.{CallLine}
 use Rattle.batch_plans.specs.declared.replies.Batch.{Batch}
 use Rattle.batch_plans.specs.declared.replies.KeyReply.{KeyReply}
 use Rattle.batch_plans.specs.declared.replies.ContextReply.{ContextReply}
-use Rattle.batch_plans.specs.ReplyText.{guess_line, reply_lines}
+use Rattle.batch_plans.specs.ReplyText.{reply_lines}
+use Rattle.batch_plans.specs.AnswersText.{guess_line}
 use Rattle.context_books.specs.Standing.{call_refusal}
 use Rattle.result_lines.specs.declared.told.GuessLine.{GuessLine}
 use Rattle.result_lines.specs.declared.stamps.Stamps.{Stamps}

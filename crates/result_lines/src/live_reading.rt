@@ -1,11 +1,12 @@
 //! A whole result whose lanes add and retire contexts.
 
 ghost use Rattle.std.specs.Prelude.{◌≡◌, ◌≤◌, ℕ, List, length, map, take, drop};
-ghost use Rattle.batch_plans.specs.Limits.{most_input, IsWithinLimits};
+ghost use Rattle.batch_plans.specs.Limits.{most_input};
+ghost use Rattle.batch_plans.specs.Within.{IsWithinLimits};
 ghost use Rattle.batch_plans.specs.Names.{line_count as lines_in};
 ghost use Rattle.batch_plans.specs.LiveText.{note_line as note_line_of, table_lines};
 ghost use Rattle.context_books.specs.Live.{looked_up_plan};
-ghost use Rattle.result_lines.specs.Places.{Tells};
+ghost use Rattle.result_lines.specs.Readings.{Tells};
 ghost use Rattle.result_lines.specs.Told.{with_lines, with_setup, nothing_yet};
 ghost use Rattle.result_lines.specs.ToldLive.{with_added_journals, with_all_journals, told_live_by};
 

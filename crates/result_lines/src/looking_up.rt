@@ -1,13 +1,12 @@
 //! The calls of a plan as they were served, by the notes of its table.
 
-ghost use Rattle.std.specs.Prelude.{◌≡◌, ◌<◌, ℕ, ◌==◌, ◌||◌, ◌&&◌, nat_lt, false, length};
-ghost use Rattle.std.specs.Prelude.{if◌then◌else◌};
-ghost use Rattle.std.specs.Prelude.{slice_index_or, IfOk};
+ghost use Rattle.std.specs.Prelude.{◌≡◌, ◌<◌, ℕ, ◌==◌, ◌||◌, ◌&&◌, nat_lt, false, length, if◌then◌else◌, slice_index_or, IfOk};
 ghost use Rattle.context_books.specs.Batches.{place};
 ghost use Rattle.context_books.specs.Legal.{is_same_place};
 ghost use Rattle.batch_plans.specs.LiveText.{tells_live as tells_live_of};
 ghost use Rattle.batch_plans.specs.Calls.{context_of as context_of_call};
-ghost use Rattle.batch_plans.specs.Limits.{IsWithinLimits, first_name};
+ghost use Rattle.batch_plans.specs.Limits.{first_name};
+ghost use Rattle.batch_plans.specs.Within.{IsWithinLimits};
 ghost use Rattle.batch_plans.specs.Names.{at_position};
 ghost use Rattle.batch_plans.specs.ReplyText.{numbered};
 ghost use Rattle.context_books.specs.Live.{was_live, looked_up as looked_up_call, looked_up_plan};

@@ -7,7 +7,7 @@ ghost use Rattle.hpke_context.specs.Contexts.{ContextView};
 ghost use Rattle.batch_plans.specs.declared.plan.Plan.{Plan};
 ghost use Rattle.batch_plans.specs.declared.replies.KeyReply.{KeyReply};
 ghost use Rattle.batch_plans.specs.declared.replies.ContextReply.{ContextReply};
-ghost use Rattle.batch_plans.specs.Limits.{IsWithinLimits};
+ghost use Rattle.batch_plans.specs.Within.{IsWithinLimits};
 ghost use Rattle.context_books.specs.Live.{IsAllowedLive, live_run_text, live_run_along};
 ghost use Rattle.context_books.specs.Runs.{IsAllowed, run_text, run_along};
 ghost use Rattle.result_lines.specs.Tables.{table_told};

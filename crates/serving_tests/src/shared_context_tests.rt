@@ -1,7 +1,7 @@
 //! Lanes that share a context in threads of their own, and messages from a sender to a recipient.
 
 ghost use Rattle.std.specs.Prelude.{◌≡◌, ◌+◌, ◌-◌, ◌<◌, ◌≤◌, [], All, IfOk, OnOk, length, sum, vec_len};
-ghost use Rattle.hpke_context.specs.Contexts.{HasCipher, CanSeal, CanOpen};
+ghost use Rattle.hpke_context.specs.Calls.{HasCipher, CanSeal, CanOpen};
 ghost use Rattle.call_places.specs.Spans.{ItemIsInPool};
 ghost use Rattle.context_books.specs.Openings.{IsTableFor};
 ghost use Rattle.turn_lock.specs.Passes.{AllOf};

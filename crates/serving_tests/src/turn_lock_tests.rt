@@ -2,7 +2,7 @@
 
 ghost use Rattle.std.specs.Prelude.{◌≡◌, ◌+◌, ◌<◌, ◌≤◌, ◌++◌, [], ◌∷◌, ◌⊎◌, length, vec_len, All, IfOk, OnOk};
 ghost use Rattle.call_places.specs.declared.entries.Step.TheVariants.{Sealed};
-ghost use Rattle.call_places.specs.Entries.{last_of};
+ghost use Rattle.call_places.specs.Orders.{last_of};
 ghost use Rattle.turn_lock.specs.Passes.{AllOf};
 ghost use Rattle.serving_tests.specs.Passes.{IsNew};
 

@@ -2,7 +2,7 @@
 
 ghost use Rattle.std.specs.Prelude.{◌≡◌, ◌+◌, ◌<◌, ◌≤◌, ◌^◌, [], All, IfOk, length, sum};
 ghost use Rattle.call_places.specs.Entries.{stamps_of};
-ghost use Rattle.hpke_context.specs.Contexts.{CanSeal, CanOpen};
+ghost use Rattle.hpke_context.specs.Calls.{CanSeal, CanOpen};
 ghost use Rattle.turn_lock.specs.Passes.{fresh_from, AllOf, IsShown, NoOthers};
 ghost use Rattle.call_places.specs.Spans.{ItemIsInPool};
 ghost use Rattle.context_books.specs.Openings.{opening_steps, opening_misses, IsTableFor};

@@ -1,7 +1,8 @@
 //! What a shared context does outside its lock, by what doesn't change.
 
 ghost use Rattle.std.specs.Prelude.{◌≡◌, ◌↔◌, ◌+◌, ◌-◌, ◌<◌, ◌≤◌, ◌^◌, IsTrue, IsOk, OnOk, OnErr, length};
-ghost use Rattle.hpke_context.specs.Contexts.{HasCipher, cipher_of, export_limit, exported_by};
+ghost use Rattle.hpke_context.specs.Contexts.{cipher_of, export_limit, exported_by};
+ghost use Rattle.hpke_context.specs.Calls.{HasCipher};
 
 use crate::contexts::SharedContext;
 use hpke_context::CallFault;

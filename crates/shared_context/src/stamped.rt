@@ -2,7 +2,7 @@
 
 ghost use Rattle.std.specs.Prelude.{ℕ, ◌≡◌, ◌↔◌, ◌+◌, ◌<◌, ◌≤◌, ◌^◌, ◌++◌, ◌∷◌, [], All, length, slice_index, sum};
 ghost use Rattle.call_places.specs.Entries.{own, seq_of};
-ghost use Rattle.hpke_context.specs.Contexts.{HasCipher};
+ghost use Rattle.hpke_context.specs.Calls.{HasCipher};
 ghost use Rattle.context_books.specs.Entries.{entry, entries_from};
 ghost use Rattle.call_places.specs.Spans.{ItemIsInPool};
 ghost use Rattle.context_books.specs.Books.{drawn_step};

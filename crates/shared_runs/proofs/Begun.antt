@@ -8,7 +8,7 @@ use Rattle.turn_lock.specs.Passes.{PassListView, fresh_from}
 use Rattle.hpke_context.specs.Contexts.{ContextView}
 use Rattle.shared_context.specs.Calls.{SharedView}
 use Rattle.batch_plans.specs.declared.plan.Plan.{Plan}
-use Rattle.batch_plans.specs.Limits.{IsWithinLimits}
+use Rattle.batch_plans.specs.Within.{IsWithinLimits}
 use Rattle.context_books.specs.Standing.{standing_at}
 use Rattle.context_books.specs.Quotas.{lane_quota, quotas_on, all_quotas}
 use Rattle.context_books.proofs.Counts.{all_quotas_few, quotas_at}

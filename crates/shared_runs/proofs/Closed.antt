@@ -10,7 +10,8 @@ use Rattle.std.proofs.lemmas.Option.{get_or_from_slice_get}
 use Rattle.std.proofs.lemmas.List.Sums.{sum-map, sum_by-cons}
 use Rattle.call_places.specs.declared.entries.Entry.{Entry}
 use Rattle.call_places.specs.declared.listed.Terms.{Terms}
-use Rattle.call_places.specs.Entries.{own, stamps_of, StampsRise}
+use Rattle.call_places.specs.Entries.{own, stamps_of}
+use Rattle.call_places.specs.Orders.{StampsRise}
 use Rattle.turn_lock.specs.Passes.{PassView, PassListView, IsShown, NoOthers}
 use Rattle.stamp_counter.specs.Seats.{SeatView}
 use Rattle.hpke_context.specs.Contexts.{ContextView}
@@ -20,7 +21,8 @@ use Rattle.lane_workers.specs.Showing.{Closes}
 use Rattle.batch_plans.specs.declared.plan.Plan.{Plan}
 use Rattle.batch_plans.specs.Calls.{context_of}
 use Rattle.batch_plans.specs.Room.{items_on}
-use Rattle.context_books.specs.Standing.{AreOfLines, standing_at, refusal_on, export_limits}
+use Rattle.context_books.specs.Standing.{standing_at, refusal_on}
+use Rattle.context_books.specs.ContextLines.{AreOfLines, export_limits}
 use Rattle.context_books.specs.Quotas.{lane_quota, quotas_on}
 use Rattle.context_books.proofs.Counts.{refused_call, other_context}
 use Rattle.lane_workers.specs.Handing.{list_at}

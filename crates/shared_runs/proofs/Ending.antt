@@ -20,7 +20,7 @@ use Rattle.batch_plans.specs.declared.plan.CallLine.{CallLine}
 use Rattle.batch_plans.specs.declared.replies.LaneAnswers.{LaneAnswers}
 use Rattle.batch_plans.specs.Room.{all_items_on, journal_room}
 use Rattle.batch_plans.specs.Replies.{IsPrintable}
-use Rattle.context_books.specs.Standing.{export_limits}
+use Rattle.context_books.specs.ContextLines.{export_limits}
 use Rattle.context_books.specs.Quotas.{lane_quota, quotas_on}
 use Rattle.lane_workers.specs.Gathered.{no_answers, AllLanesServed, AllClosed}
 use Rattle.lane_workers.specs.Served.{seen_of}

@@ -10,7 +10,7 @@ use Rattle.shared_context.specs.Stamped.{IsNote}
 use Rattle.batch_plans.specs.declared.replies.LaneAnswers.{LaneAnswers}
 use Rattle.batch_plans.specs.Room.{lane_room, call_room}
 use Rattle.batch_plans.proofs.Rooms.{lane_within, lane_is_small}
-use Rattle.context_books.specs.Standing.{export_limits}
+use Rattle.context_books.specs.ContextLines.{export_limits}
 use Rattle.context_books.specs.LaneCalls.{lane_calls}
 use Rattle.lane_workers.specs.Handing.{list_at, TakesEach}
 use Rattle.lane_workers.specs.Returned.{IsGiven}

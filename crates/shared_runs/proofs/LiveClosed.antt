@@ -5,7 +5,8 @@ use Rattle.std.specs.List.{All, range_with_len}
 use Rattle.std.proofs.lemmas.Option.{slice_get_cases, slice_get-get_or}
 use Rattle.std.proofs.lemmas.List.Sorted.{IsPermutation-append_comm, IsPermutation-trans}
 use Rattle.call_places.specs.declared.entries.Entry.{Entry}
-use Rattle.call_places.specs.Entries.{stamps_of, StampsRise}
+use Rattle.call_places.specs.Entries.{stamps_of}
+use Rattle.call_places.specs.Orders.{StampsRise}
 use Rattle.call_places.specs.Notes as notes
 use Rattle.turn_lock.specs.Passes.{PassView, IsShown, NoOthers}
 use Rattle.stamp_counter.specs.Seats.{SeatView}

@@ -8,7 +8,7 @@ use Rattle.batch_plans.specs.declared.plan.Plan.{Plan}
 use Rattle.batch_plans.specs.declared.replies.LaneAnswers.{LaneAnswers}
 use Rattle.batch_plans.specs.Names.{at_position, all_live}
 use Rattle.batch_plans.specs.Room.{lane_room}
-use Rattle.context_books.specs.Standing.{export_limits}
+use Rattle.context_books.specs.ContextLines.{export_limits}
 use Rattle.context_books.specs.LaneCalls.{lane_calls}
 use Rattle.lane_workers.specs.declared.works.LaneWork.{LaneWork}
 use Rattle.lane_workers.specs.declared.live_lane.LiveLane.{LiveLane}

@@ -8,7 +8,8 @@ use Rattle.hpke_context.specs.Contexts.{ContextView}
 use Rattle.batch_plans.specs.declared.plan.Plan.{Plan}
 use Rattle.batch_plans.specs.declared.plan.CallLine.{CallLine}
 use Rattle.batch_plans.specs.declared.plan.CallLine.TheVariants as calls
-use Rattle.batch_plans.specs.Limits.{items_of, all_items, IsCallWithin, IsWithinLimits}
+use Rattle.batch_plans.specs.Limits.{items_of, all_items}
+use Rattle.batch_plans.specs.Within.{IsCallWithin, IsWithinLimits}
 use Rattle.context_books.specs.Live.{Noting, noting}
 use Rattle.lane_workers.specs.LiveServed.{note_place, noted_from}
 use Rattle.shared_runs.specs.Noting.{note_count, notes_of, note_quota, note_quotas}

@@ -5,7 +5,7 @@ use Rattle.std.proofs.lemmas.List.{get_or-map}
 use Rattle.call_places.specs.declared.listed.Terms.{Terms}
 use Rattle.stamp_counter.specs.Seats.{CounterView}
 use Rattle.batch_plans.specs.declared.plan.Plan.{Plan}
-use Rattle.batch_plans.specs.Limits.{IsWithinLimits}
+use Rattle.batch_plans.specs.Within.{IsWithinLimits}
 use Rattle.context_books.specs.Quotas.{lane_quota}
 use Rattle.context_books.proofs.ItemPlaces.{quota_is}
 use Rattle.lane_workers.specs.declared.works.LaneWork.{LaneWork}

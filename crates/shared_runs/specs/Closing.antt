@@ -2,7 +2,8 @@
 use Rattle.std.specs.Prelude.{ℕ, ◌≡◌, ◌+◌, ◌≤◌, List, [], ◌++◌, length, sum, flat_map, slice_index_or, IsPermutation, Option, Some, None}
 use Rattle.std.specs.List.{All, range_with_len}
 use Rattle.call_places.specs.declared.entries.Entry.{Entry}
-use Rattle.call_places.specs.Entries.{stamps_of, StampsRise}
+use Rattle.call_places.specs.Entries.{stamps_of}
+use Rattle.call_places.specs.Orders.{StampsRise}
 use Rattle.turn_lock.specs.Passes.{PassView, PassListView, AllOf, IsShown, NoOthers}
 use Rattle.stamp_counter.specs.Seats.{SeatView}
 use Rattle.context_books.specs.Books.{BookView}

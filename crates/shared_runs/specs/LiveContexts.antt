@@ -6,7 +6,7 @@ use Rattle.hpke_context.specs.Contexts.{ContextView}
 use Rattle.turn_lock.specs.Passes.{fresh_from}
 use Rattle.stamp_counter.specs.Seats.{CounterView}
 use Rattle.batch_plans.specs.declared.plan.Plan.{Plan}
-use Rattle.batch_plans.specs.Limits.{IsWithinLimits}
+use Rattle.batch_plans.specs.Within.{IsWithinLimits}
 use Rattle.batch_plans.specs.Names.{line_count, all_live}
 use Rattle.context_books.specs.Standing.{standing_at}
 use Rattle.lane_workers.specs.declared.live_lane.LiveLane.{LiveLane}

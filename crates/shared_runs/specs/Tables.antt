@@ -6,8 +6,8 @@ use Rattle.stamp_counter.specs.Seats.{SeatView, CounterView}
 use Rattle.shared_context.specs.Stamped.{IsNote}
 use Rattle.shared_context.specs.Calls.{SharedView}
 use Rattle.batch_plans.specs.declared.plan.Plan.{Plan}
-use Rattle.batch_plans.specs.Limits.{IsWithinLimits}
-use Rattle.context_books.specs.Standing.{AreOfLines}
+use Rattle.batch_plans.specs.Within.{IsWithinLimits}
+use Rattle.context_books.specs.ContextLines.{AreOfLines}
 use Rattle.lane_workers.specs.declared.works.LaneWork.{LaneWork}
 use Rattle.lane_workers.specs.Groups.{IsFresh, IsDone}
 use Rattle.lane_workers.specs.Handing.{list_at}

@@ -1,9 +1,9 @@
 //! Contexts that lanes share, with the table of the names that they add and retire.
 
 ghost use Rattle.std.specs.Prelude.{◌≡◌, ◌<◌, List, All, IfOk, length};
-ghost use Rattle.batch_plans.specs.Limits.{IsWithinLimits};
+ghost use Rattle.batch_plans.specs.Within.{IsWithinLimits};
 ghost use Rattle.batch_plans.specs.Names.{all_live};
-ghost use Rattle.context_books.specs.Standing.{AreOfLines};
+ghost use Rattle.context_books.specs.ContextLines.{AreOfLines};
 ghost use Rattle.lane_workers.specs.LiveLanes.{AddsOneOf};
 ghost use Rattle.lane_workers.specs.Turns.{views};
 ghost use Rattle.shared_runs.specs.LiveContexts.{AddsStand, AreLive, HasGivenLive};

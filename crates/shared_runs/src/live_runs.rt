@@ -2,11 +2,12 @@
 
 ghost use Rattle.std.specs.Prelude.{ℕ, ◌≡◌, ◌↔◌, ◌+◌, ◌<◌, ◌≤◌, None, IfOk, IsSome, length};
 ghost use Rattle.std.specs.List.{All};
-ghost use Rattle.batch_plans.specs.Limits.{IsWithinLimits};
+ghost use Rattle.batch_plans.specs.Within.{IsWithinLimits};
 ghost use Rattle.batch_plans.specs.Names.{all_live, line_count};
 ghost use Rattle.batch_plans.specs.Room.{room_for};
-ghost use Rattle.batch_plans.specs.ReplyText.{IsAnswered};
-ghost use Rattle.context_books.specs.Standing.{AreOfLines, export_limits, standing_at};
+ghost use Rattle.batch_plans.specs.AnswersText.{IsAnswered};
+ghost use Rattle.context_books.specs.Standing.{standing_at};
+ghost use Rattle.context_books.specs.ContextLines.{AreOfLines, export_limits};
 ghost use Rattle.lane_workers.specs.LiveGathered.{AreOfALiveRun};
 ghost use Rattle.lane_workers.specs.LiveLanes.{AddsAre, AddsOneOf, add_refusal};
 

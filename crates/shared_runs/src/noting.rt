@@ -1,7 +1,8 @@
 //! How many notes each lane may make in the table of names.
 
 ghost use Rattle.std.specs.Prelude.{◌≡◌, ◌↔◌, ◌-◌, ◌<◌, ◌≤◌, ◌^◌, All, IfOk, IsTrue, length, sum, sum_by};
-ghost use Rattle.batch_plans.specs.Limits.{IsWithinLimits, first_name, most_contexts};
+ghost use Rattle.batch_plans.specs.Limits.{first_name, most_contexts};
+ghost use Rattle.batch_plans.specs.Within.{IsWithinLimits};
 ghost use Rattle.lane_workers.specs.LiveLanes.{AddsOneOf};
 ghost use Rattle.shared_runs.specs.Noting.{notes_of, note_quota, note_quotas};
 

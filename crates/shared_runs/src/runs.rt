@@ -1,10 +1,10 @@
 //! The run of a plan whose contexts stay.
 
 ghost use Rattle.std.specs.Prelude.{◌≡◌, ◌<◌, ◌≤◌, IfOk, length};
-ghost use Rattle.batch_plans.specs.Limits.{IsWithinLimits};
+ghost use Rattle.batch_plans.specs.Within.{IsWithinLimits};
 ghost use Rattle.batch_plans.specs.Room.{room_for};
-ghost use Rattle.batch_plans.specs.ReplyText.{IsAnswered};
-ghost use Rattle.context_books.specs.Standing.{AreOfLines, export_limits};
+ghost use Rattle.batch_plans.specs.AnswersText.{IsAnswered};
+ghost use Rattle.context_books.specs.ContextLines.{AreOfLines, export_limits};
 ghost use Rattle.lane_workers.specs.Gathered.{AreOfARun};
 
 use crate::serving::{begin, end};

@@ -3,8 +3,8 @@
 ghost use Rattle.std.specs.Prelude.{ℕ, ◌≡◌, ◌+◌, ◌<◌, ◌≤◌, ◌++◌, ◌∷◌, [], List, Option, length, IfOk};
 ghost use Rattle.turn_lock.specs.Passes.{PassView};
 ghost use Rattle.stamp_counter.specs.Seats.{fresh_seat};
-ghost use Rattle.batch_plans.specs.Limits.{IsWithinLimits};
-ghost use Rattle.context_books.specs.Standing.{AreOfLines};
+ghost use Rattle.batch_plans.specs.Within.{IsWithinLimits};
+ghost use Rattle.context_books.specs.ContextLines.{AreOfLines};
 ghost use Rattle.lane_workers.specs.Turns.{views};
 ghost use Rattle.shared_runs.specs.Tables.{IsTable, HasStamps, HasGiven, IsHanded};
 ghost use Rattle.shared_runs.specs.Collected.{ArePassesOf, AreBack};

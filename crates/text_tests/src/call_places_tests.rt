@@ -1,5 +1,5 @@
 ghost use Rattle.std.specs.Prelude.{◌≡◌, []};
-ghost use Rattle.call_places.specs.Entries.{last_of};
+ghost use Rattle.call_places.specs.Orders.{last_of};
 
 use crate::expected::{assert_at, assert_same};
 use call_places::{

@@ -3,7 +3,7 @@
 ghost use Rattle.std.specs.Prelude.{length, IsTrue};
 ghost use Rattle.std.specs.List.{All};
 ghost use Rattle.batch_plans.specs.Replies.{IsInRange, IsPrintable};
-ghost use Rattle.batch_plans.specs.ReplyText.{IsAnswered};
+ghost use Rattle.batch_plans.specs.AnswersText.{IsAnswered};
 
 use batch_plans::{Answers, LaneAnswers, Plan, Reply};
 

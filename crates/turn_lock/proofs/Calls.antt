@@ -4,7 +4,8 @@ use mathlib.Core.Logic.{dite}
 use native.Mathlib.Decide.{ℕ_discrete}
 use Rattle.std.proofs.lemmas.Bool.Decides.{nat_tests}
 use Rattle.call_places.specs.declared.entries.Entry.{Entry}
-use Rattle.call_places.specs.Entries.{own, last_of, IsOwn, CallsWithin, PlacesRise}
+use Rattle.call_places.specs.Entries.{own, IsOwn, CallsWithin, PlacesRise}
+use Rattle.call_places.specs.Orders.{last_of}
 use Rattle.turn_lock.specs.Passes.{next_after}
 use Rattle.turn_lock.specs.Seats.{next_from}
 use Rattle.turn_lock.proofs.Prefixes.{own-append}

@@ -2,7 +2,7 @@
 use Rattle.std.proofs.Common.{◌≡◌, ℕ, ◌+◌, ◌^◌, ◌<◌, List, [], ◌∷◌, ◌++◌, sym, ap, ◌∙◌, subst, refl, arith, length-append, length}
 use mathlib.Core.List.{IsPrefix}
 use Rattle.call_places.specs.declared.entries.Entry.{Entry}
-use Rattle.call_places.specs.Entries.{own}
+use Rattle.call_places.specs.Entries.{own, CallsWithin}
 use Rattle.turn_lock.specs.declared.views.View.{View}
 use Rattle.turn_lock.specs.declared.views.Phase.TheVariants.{Idle, Waiting, Holding}
 use Rattle.call_places.specs.declared.listed.Terms.{Terms}
@@ -10,7 +10,6 @@ use Rattle.turn_lock.specs.Views.{part}
 use Rattle.turn_lock.specs.Steps.{TookTicket, Looked, GaveValue}
 use Rattle.atomic_table.specs.Table.{Me, rest}
 use Rattle.std.specs.Prelude.{Option, Some, None}
-use Rattle.call_places.specs.Entries.{CallsWithin}
 use Rattle.turn_lock.specs.Passes.{AddedByOthers}
 use Rattle.turn_lock.specs.Seats.{IsIdle, IsHolding, seen_of, seen_in, terms_of}
 use Rattle.turn_lock.proofs.Prefixes.{own-append}

@@ -4,7 +4,8 @@ use mathlib.Core.List.{IsPrefix}
 use Rattle.atomic_table.specs.Seated.{TableId}
 use Rattle.call_places.specs.declared.entries.Entry.{Entry}
 use Rattle.call_places.specs.declared.listed.Terms.{Terms}
-use Rattle.call_places.specs.Entries.{own, last_of, IsOwn, CallsWithin, PlacesRise}
+use Rattle.call_places.specs.Entries.{own, IsOwn, CallsWithin, PlacesRise}
+use Rattle.call_places.specs.Orders.{last_of}
 
 -- which lock it is, and the terms of its value, which never change
 pub record LockId : Type 0 where

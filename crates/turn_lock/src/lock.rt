@@ -2,7 +2,7 @@
 
 ghost use Rattle.std.specs.Prelude.{◌≡◌, ◌+◌, ◌<◌, ◌≤◌, ◌++◌, [], List, Some, IfOk, All, length, vec_capacity};
 ghost use Rattle.call_places.specs.declared.entries.Entry.{Entry};
-ghost use Rattle.call_places.specs.Entries.{last_of};
+ghost use Rattle.call_places.specs.Orders.{last_of};
 ghost use Rattle.turn_lock.specs.Passes.{IsHeldBy, AddedByOthers, MayAdd, next_after, fresh_from, AllOf, IsShown, NoOthers};
 ghost use Rattle.turn_lock.specs.Seats.{next_from, MayTake, HasTried};
 ghost use Rattle.turn_lock.specs.Steps.{first_view, TookTicket};

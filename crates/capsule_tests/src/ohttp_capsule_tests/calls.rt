@@ -1,7 +1,7 @@
 //! The calls, with ample memory.
 
 ghost use Rattle.std.specs.Prelude.{◌≤◌, ◌^◌, length, IsTrue};
-ghost use Rattle.hpke_context.specs.Contexts.{encrypts};
+ghost use Rattle.hpke_context.specs.Calls.{encrypts};
 
 use byte_strings::ByteList;
 use hkdf_labelled::Suite;

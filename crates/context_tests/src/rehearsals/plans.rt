@@ -1,7 +1,7 @@
 //! Small batches over published messages, and their rehearsals.
 
 ghost use Rattle.std.specs.Prelude.{◌≡◌, ◌≤◌, ◌∷◌, [], IfOk, IsTrue, length};
-ghost use Rattle.batch_plans.specs.Limits.{IsPlain, IsWithinLimits};
+ghost use Rattle.batch_plans.specs.Within.{IsPlain, IsWithinLimits};
 ghost use Rattle.context_tests.specs.SmallPlans.{line_of, two_lines, are_small};
 
 use crate::messages::context_of;

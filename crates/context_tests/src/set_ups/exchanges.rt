@@ -1,6 +1,6 @@
 //! Whole exchanges against other implementations of the KEM.
 
-ghost use Rattle.batch_plans.specs.Limits.{IsWithinLimits};
+ghost use Rattle.batch_plans.specs.Within.{IsWithinLimits};
 
 use crate::expected::{assert_at, assert_same};
 use crate::set_ups::plans::{base_line, plan_of, set_up_with, span_of};

@@ -1,7 +1,8 @@
 //! Plans within the limits, of the zero seed and with no lanes.
 
 ghost use Rattle.std.specs.Prelude.{◌≡◌, ◌≤◌, All};
-ghost use Rattle.batch_plans.specs.Limits.{IsField, most_field, IsKeyWithin, IsEncWithin, IsKindWithin, IsContextWithin, IsWithinLimits};
+ghost use Rattle.batch_plans.specs.Limits.{most_field};
+ghost use Rattle.batch_plans.specs.Within.{IsField, IsKeyWithin, IsEncWithin, IsKindWithin, IsContextWithin, IsWithinLimits};
 
 use batch_plans::{ContextKind, ContextLine, EncField, KeyLine, PlainList, Plan};
 use call_places::Span;

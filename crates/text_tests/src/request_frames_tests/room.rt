@@ -1,7 +1,7 @@
 //! The refusals of a plan's calls, and the room for its replies.
 
 ghost use Rattle.std.specs.Prelude.{◌≡◌, length};
-ghost use Rattle.batch_plans.specs.Limits.{IsWithinLimits};
+ghost use Rattle.batch_plans.specs.Within.{IsWithinLimits};
 
 use crate::expected::assert_same;
 use call_places::Span;

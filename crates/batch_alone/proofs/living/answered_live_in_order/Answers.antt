@@ -1,5 +1,5 @@
 use Rattle.std.proofs.Common.{◌≡◌}
-use Rattle.batch_plans.specs.LiveText.{live_text}
+use Rattle.batch_plans.specs.AnswersText.{live_text}
 use Rattle.context_table.specs.ReplyTo.{IsLiveReply}
 use Rattle.batch_alone.specs.LiveRuns.{IsALiveRun}
 use Rattle.batch_alone.proofs.Lived.{both_ok, is_live_reply}

@@ -4,7 +4,7 @@ use Rattle.call_places.specs.declared.spans.Span.{Span}
 use Rattle.batch_plans.specs.declared.plan.CallLine.{CallLine}
 use Rattle.batch_plans.specs.declared.plan.CallLine.TheVariants.{Seal}
 use Rattle.batch_plans.specs.declared.replies.Reply.{Reply}
-use Rattle.batch_plans.specs.ReplyText.{UsesUp}
+use Rattle.batch_plans.specs.AnswersText.{UsesUp}
 use Rattle.batch_alone.specs.Own.{own_reply, put_at, with_own}
 use Rattle.batch_alone.proofs.Putting.{next_call, stands, next_stands}
 use Rattle.batch_alone.proofs.own_replies.put_replies.Goals as goal

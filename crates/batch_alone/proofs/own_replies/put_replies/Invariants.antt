@@ -2,7 +2,7 @@ use Rattle.std.proofs.Common.{◌≡◌, ◌≤◌, ◌++◌, ℕ, List, false, 
 use Rattle.std.specs.Prelude.{slice_index_or}
 use Rattle.batch_plans.specs.declared.plan.CallLine.{CallLine}
 use Rattle.batch_plans.specs.declared.replies.Batch.{Batch}
-use Rattle.batch_plans.specs.ReplyText.{UsesUp}
+use Rattle.batch_plans.specs.AnswersText.{UsesUp}
 use Rattle.batch_alone.specs.Own.{own_reply, with_own}
 use Rattle.batch_alone.proofs.own_replies.put_replies.Given as goal
 

@@ -1,6 +1,6 @@
 use Rattle.std.proofs.Common.{[]}
 use Rattle.std.proofs.lemmas.Result.{IfOk-weaker}
-use Rattle.batch_plans.specs.ReplyText.{answers_text}
+use Rattle.batch_plans.specs.AnswersText.{answers_text}
 use Rattle.context_table.specs.ReplyTo.{IsReply}
 use Rattle.batch_serving.specs.Text.{IsRehearsal}
 use Rattle.batch_serving.proofs.Replied.{rehearsal_replies}

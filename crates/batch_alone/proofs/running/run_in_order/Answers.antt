@@ -1,5 +1,5 @@
 use Rattle.std.proofs.Common.{Err, ap, subst, sym}
-use Rattle.batch_plans.specs.ReplyText.{answers_text}
+use Rattle.batch_plans.specs.AnswersText.{answers_text}
 use Rattle.request_frames.specs.Batch.{batch}
 use Rattle.context_table.specs.ReplyTo.{IsReply}
 use Rattle.batch_serving.specs.Text.{AnswersBy}

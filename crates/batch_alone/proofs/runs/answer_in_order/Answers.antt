@@ -2,7 +2,7 @@ use Rattle.std.proofs.Common.{◌≡◌, sym, ap, ◌∙◌}
 use Rattle.batch_plans.specs.declared.replies.Answers.{Answers}
 use Rattle.batch_plans.specs.Names.{all_live}
 use Rattle.batch_plans.specs.Room.{room_for}
-use Rattle.context_books.specs.Standing.{export_limits}
+use Rattle.context_books.specs.ContextLines.{export_limits}
 use Rattle.batch_alone.proofs.Rooms.{room_same}
 use Rattle.batch_alone.proofs.runs.answer_in_order.Goals as goal
 

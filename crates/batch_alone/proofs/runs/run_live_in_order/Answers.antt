@@ -4,8 +4,8 @@ use Rattle.call_places.specs.declared.entries.Entry.{Entry}
 use Rattle.call_places.specs.declared.entries.Mark.{Mark}
 use Rattle.batch_plans.specs.declared.plan.CallLine.{CallLine}
 use Rattle.batch_plans.specs.declared.plan.Plan.{Plan}
-use Rattle.batch_plans.specs.Limits.{IsWithinLimits}
-use Rattle.batch_plans.specs.ReplyText.{IsAnswered}
+use Rattle.batch_plans.specs.Within.{IsWithinLimits}
+use Rattle.batch_plans.specs.AnswersText.{IsAnswered}
 use Rattle.context_books.specs.Live.{looked_up_plan}
 use Rattle.context_core.specs.Rehearsals.{rehearsed, AreAnswersOf}
 use Rattle.result_lines.proofs.LookedLimits.{looked_lanes}

@@ -1,5 +1,5 @@
 use Rattle.std.proofs.Common.{◌≡◌}
-use Rattle.batch_plans.specs.LiveText.{live_text}
+use Rattle.batch_plans.specs.AnswersText.{live_text}
 use Rattle.lane_workers.specs.LiveGathered.{AreOfALiveRun}
 use Rattle.shared_runs.proofs.Handed.{IfOk-both}
 use Rattle.context_table.specs.ReplyTo.{IsLiveReply}

@@ -1,5 +1,5 @@
 use Rattle.std.proofs.Common.{◌≡◌}
-use Rattle.batch_plans.specs.ReplyText.{answers_text}
+use Rattle.batch_plans.specs.AnswersText.{answers_text}
 use Rattle.lane_workers.specs.Gathered.{AreOfARun}
 use Rattle.shared_runs.proofs.Handed.{IfOk-both}
 use Rattle.context_table.specs.ReplyTo.{IsReply}

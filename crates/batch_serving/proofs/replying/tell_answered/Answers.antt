@@ -1,5 +1,5 @@
 use Rattle.std.proofs.Common.{subst, sym}
-use Rattle.batch_plans.specs.ReplyText.{answers_text}
+use Rattle.batch_plans.specs.AnswersText.{answers_text}
 use Rattle.batch_serving.specs.Effects.{SaysReply, Writes}
 use Rattle.batch_serving.proofs.Writing.{unwritten}
 use Rattle.batch_serving.proofs.replying.tell_answered.Goals as goal

@@ -1,6 +1,6 @@
 use Rattle.std.proofs.Common.{Ok, subst}
 use Rattle.std.specs.Prelude.{IfOk}
-use Rattle.batch_plans.specs.LiveText.{live_text}
+use Rattle.batch_plans.specs.AnswersText.{live_text}
 use Rattle.context_table.specs.ReplyTo.{IsLiveReply}
 use Rattle.batch_serving.specs.Text.{AnswersBy}
 use Rattle.batch_serving.proofs.Writing.{replied, unwritten}

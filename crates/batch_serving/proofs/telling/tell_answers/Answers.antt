@@ -1,5 +1,5 @@
 use Rattle.std.proofs.Common.{refl, subst, sym}
-use Rattle.batch_plans.specs.ReplyText.{answers_text}
+use Rattle.batch_plans.specs.AnswersText.{answers_text}
 use Rattle.batch_serving.specs.declared.outcomes.Outcome.TheVariants.{Done}
 use Rattle.batch_serving.specs.Effects.{Says, Writes}
 use Rattle.batch_serving.proofs.Endings.{OfInput}

@@ -1,6 +1,6 @@
 use Rattle.std.proofs.Common.{◌≡◌, List, take, map}
 use Rattle.batch_plans.specs.declared.plan.ContextLine.{ContextLine}
-use Rattle.context_books.specs.Standing.{AreOfLines}
+use Rattle.context_books.specs.ContextLines.{AreOfLines}
 use Rattle.context_books.specs.Quotas.{counts_of}
 use Rattle.context_books.proofs.counting.all_counts.Given as goal
 

@@ -1,7 +1,7 @@
 use Rattle.std.proofs.Common.{◌≡◌, ◌≤◌, length, map, vec_len, vec_capacity}
 use Rattle.std.specs.List.{range_with_len}
 use Rattle.batch_plans.specs.declared.plan.Plan.{Plan}
-use Rattle.context_books.specs.Standing.{AreOfLines}
+use Rattle.context_books.specs.ContextLines.{AreOfLines}
 use Rattle.context_books.specs.Quotas.{quotas_on}
 use Rattle.context_books.proofs.counting.all_quotas.Given as goal
 

@@ -1,6 +1,6 @@
 use Rattle.std.proofs.Common.{◌+◌, ap, arith, get_or}
 use Rattle.batch_plans.proofs.Counts.{items_on-le}
-use Rattle.context_books.specs.Standing.{export_limits}
+use Rattle.context_books.specs.ContextLines.{export_limits}
 use Rattle.context_books.proofs.Columns.{there, one_counted, none_counted}
 use Rattle.context_books.proofs.counting.count_call.Goals as goal
 

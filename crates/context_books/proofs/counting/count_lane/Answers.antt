@@ -2,7 +2,7 @@ use Rattle.std.proofs.Common.{◌<◌, length, arith}
 use Rattle.call_places.specs.declared.spans.Item.{Item}
 use Rattle.batch_plans.specs.declared.plan.CallLine.TheVariants.{Seal}
 use Rattle.batch_plans.proofs.Counts.{counts_fit}
-use Rattle.context_books.specs.Standing.{export_limits}
+use Rattle.context_books.specs.ContextLines.{export_limits}
 use Rattle.batch_plans.specs.Room.{items_on}
 use Rattle.std.proofs.lemmas.List.Sums.{sum_by_more}
 use Rattle.context_books.proofs.counting.count_lane.Goals as goal

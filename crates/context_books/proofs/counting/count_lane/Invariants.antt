@@ -2,7 +2,7 @@ use Rattle.std.proofs.Common.{◌≡◌, ◌<◌, ◌+◌, ℕ, List, length, ta
 use Rattle.std.specs.List.{sum_by}
 use Rattle.batch_plans.specs.declared.plan.ContextLine.{ContextLine}
 use Rattle.batch_plans.specs.Room.{items_on}
-use Rattle.context_books.specs.Standing.{AreOfLines, export_limits}
+use Rattle.context_books.specs.ContextLines.{AreOfLines, export_limits}
 use Rattle.context_books.proofs.counting.count_lane.Given as goal
 
 abbrev pub invariant-calls : goal.invariant-calls

@@ -1,7 +1,8 @@
 use Rattle.std.proofs.Common.{length, sym, ap, ◌∙◌, subst, arith, [], ◌∷◌}
 use Rattle.call_places.specs.Spans.{IsInPool, span_bytes}
 use Rattle.hpke_context.specs.Contexts.{exported_by}
-use Rattle.batch_plans.specs.Limits.{items_of, IsCallWithin}
+use Rattle.batch_plans.specs.Limits.{items_of}
+use Rattle.batch_plans.specs.Within.{IsCallWithin}
 use Rattle.batch_plans.specs.Room.{served_room}
 use Rattle.batch_plans.specs.Lines.{exported_line}
 use Rattle.context_books.specs.Writing.{PutsReplies}

@@ -4,7 +4,8 @@ use Rattle.std.proofs.lemmas.Grind.{common_steps}
 use Rattle.call_places.specs.Spans.{IsInPool, span_bytes}
 use Rattle.hpke_context.specs.Answers.{Seal, answer}
 use Rattle.hpke_context.specs.Contexts.{cipher_of}
-use Rattle.batch_plans.specs.Limits.{items_of, IsCallWithin}
+use Rattle.batch_plans.specs.Limits.{items_of}
+use Rattle.batch_plans.specs.Within.{IsCallWithin}
 use Rattle.batch_plans.specs.Room.{served_room}
 use Rattle.context_books.specs.Runs.{answer_line}
 use Rattle.context_books.specs.Writing.{due_at, PutsReplies}

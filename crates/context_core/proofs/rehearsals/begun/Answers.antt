@@ -2,7 +2,7 @@ use Rattle.std.proofs.Common.{◌≡◌, ◌<◌, ℕ, ◌++◌, List, length, t
 use Rattle.std.proofs.lemmas.List.{take-append-le, take_all}
 use Rattle.batch_plans.specs.declared.replies.LaneAnswers.{LaneAnswers}
 use Rattle.batch_plans.specs.Progress.{begun}
-use Rattle.context_books.specs.Standing.{export_limits}
+use Rattle.context_books.specs.ContextLines.{export_limits}
 use Rattle.context_core.specs.declared.lanes.Lane.{Lane}
 use Rattle.context_core.proofs.Begun.{begun_follows, pools_small}
 use Rattle.context_core.proofs.Ended.{lane_count, refill_is}

@@ -5,10 +5,10 @@ use Rattle.call_places.specs.declared.entries.Mark.{Mark}
 use Rattle.batch_plans.specs.declared.replies.Answers.{Answers}
 use Rattle.batch_plans.specs.declared.replies.LaneAnswers.{LaneAnswers}
 use Rattle.batch_plans.specs.Replies.{IsPrintable}
-use Rattle.batch_plans.specs.ReplyText.{lanes_lines, UsesUp}
+use Rattle.batch_plans.specs.AnswersText.{lanes_lines, UsesUp}
 use Rattle.context_books.specs.LaneCalls.{lane_calls}
 use Rattle.context_core.specs.Core.{core}
-use Rattle.context_books.specs.Standing.{export_limits}
+use Rattle.context_books.specs.ContextLines.{export_limits}
 use Rattle.context_books.specs.Asks.{batch_of, cipher_at}
 use Rattle.context_core.specs.declared.lanes.Lane.{Lane}
 use Rattle.context_core.specs.Books.{book_at}

@@ -1,7 +1,7 @@
 use Rattle.std.proofs.Common.{[], ◌∷◌, ◌++◌, map, take, Option, ap, sym, ◌∙◌}
 use Rattle.std.proofs.lemmas.List.{map_more}
 use Rattle.hpke_context.specs.Contexts.{ContextView}
-use Rattle.context_books.specs.Standing.{limit_of}
+use Rattle.context_books.specs.ContextLines.{limit_of}
 use Rattle.context_table.proofs.setups.export_limits.Goals as goal
 
 pub contexts-preserved : goal.contexts-preserved

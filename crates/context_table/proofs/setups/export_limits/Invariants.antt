@@ -1,5 +1,5 @@
 use Rattle.std.proofs.Common.{◌≡◌, take, map}
-use Rattle.context_books.specs.Standing.{limit_of}
+use Rattle.context_books.specs.ContextLines.{limit_of}
 use Rattle.context_table.proofs.setups.export_limits.Given as goal
 
 abbrev pub invariant-contexts : goal.invariant-contexts

@@ -1,5 +1,5 @@
 use Rattle.std.proofs.Common.{subst, sym}
-use Rattle.context_books.specs.Standing.{AreOfLines}
+use Rattle.context_books.specs.ContextLines.{AreOfLines}
 use Rattle.context_table.proofs.Scheduling.{of_lines}
 use Rattle.context_table.proofs.setups.set_up.Goals as goal
 

@@ -5,7 +5,7 @@ use Rattle.std.proofs.lemmas.List.{get_or_past}
 use Rattle.std.proofs.lemmas.List.FromFn.{get_or-range_with_len}
 use Rattle.hex.specs.Hex.{IsBytes}
 use Rattle.call_places.specs.Spans.{span_bytes}
-use Rattle.batch_plans.specs.Lines.{reply_line}
+use Rattle.batch_plans.specs.AnswersText.{reply_line}
 use Rattle.demo_runs.specs.Demo.{sealed_text}
 use Rattle.demo_runs.proofs.Lines.{lines_same}
 use Rattle.demo_runs.proofs.opening.is_opened.Goals as goal

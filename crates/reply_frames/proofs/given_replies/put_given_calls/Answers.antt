@@ -5,8 +5,7 @@ use Rattle.call_places.specs.declared.spans.Span.{Span}
 use Rattle.batch_plans.specs.declared.plan.CallLine.TheVariants.{Seal}
 use Rattle.batch_plans.specs.declared.replies.Reply.{Reply}
 use Rattle.field_text.proofs.Held.{Puts-same}
-use Rattle.batch_plans.specs.Lines.{reply_line}
-use Rattle.batch_plans.specs.ReplyText.{reply_count, batch_count}
+use Rattle.batch_plans.specs.AnswersText.{reply_line, reply_count, batch_count}
 use Rattle.reply_frames.proofs.Chains.{◌⨾◌}
 use Rattle.reply_frames.proofs.Leaves.{Leaves-next, Leaves-nothing}
 use Rattle.reply_frames.proofs.LanesLeft.{calls_from, calls-next, calls-end, answered-parts}

@@ -1,4 +1,4 @@
-use Rattle.batch_plans.specs.ReplyText.{guess_line}
+use Rattle.batch_plans.specs.AnswersText.{guess_line}
 use Rattle.reply_frames.proofs.Leaves.{Leaves}
 use Rattle.reply_frames.proofs.LinesLeft.{each_from}
 use Rattle.reply_frames.proofs.lane_replies.put_guesses.Given as goal

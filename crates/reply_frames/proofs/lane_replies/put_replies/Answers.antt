@@ -1,6 +1,6 @@
 use Rattle.std.proofs.Common.{refl}
 use Rattle.batch_plans.specs.declared.replies.Reply.TheVariants.{Blank}
-use Rattle.batch_plans.specs.Lines.{reply_line}
+use Rattle.batch_plans.specs.AnswersText.{reply_line}
 use Rattle.reply_frames.proofs.Leaves.{Leaves-whole, Leaves-next, Leaves-nothing}
 use Rattle.reply_frames.proofs.LinesLeft.{each-next, each-end}
 use Rattle.reply_frames.proofs.lane_replies.put_replies.Goals as goal

@@ -1,4 +1,4 @@
-use Rattle.batch_plans.specs.Lines.{reply_line}
+use Rattle.batch_plans.specs.AnswersText.{reply_line}
 use Rattle.reply_frames.proofs.Leaves.{Leaves}
 use Rattle.reply_frames.proofs.LinesLeft.{each_from}
 use Rattle.reply_frames.proofs.lane_replies.put_replies.Given as goal

@@ -13,7 +13,8 @@ use Rattle.batch_plans.specs.declared.replies.Answers.{Answers}
 use Rattle.batch_plans.specs.Names.{line_count}
 use Rattle.field_text.proofs.Held.{Puts-same}
 use Rattle.batch_plans.specs.ReplyText.{version_line, setup_lines, setup_text, numbered, all_lines, lane_lines, journal_lines}
-use Rattle.batch_plans.specs.LiveText.{lanes_given, added_journal_lines, table_lines, live_lines, live_text}
+use Rattle.batch_plans.specs.LiveText.{added_journal_lines, table_lines, live_lines}
+use Rattle.batch_plans.specs.AnswersText.{lanes_given, live_text}
 use Rattle.reply_frames.proofs.Chains.{◌⨾◌}
 use Rattle.reply_frames.proofs.LanesLeft.{lanes_of_given}
 use Rattle.reply_frames.proofs.live_printing.put_live.Goals as goal

@@ -8,7 +8,8 @@ use Rattle.batch_plans.specs.declared.plan.Plan.{Plan}
 use Rattle.batch_plans.specs.declared.replies.LaneAnswers.{LaneAnswers}
 use Rattle.batch_plans.specs.declared.replies.Answers.{Answers}
 use Rattle.field_text.proofs.Held.{Puts-same}
-use Rattle.batch_plans.specs.ReplyText.{version_line, setup_lines, setup_text, numbered, all_lines, lane_lines, lanes_lines, journal_lines, has_stamps, reply_lines, answers_text}
+use Rattle.batch_plans.specs.ReplyText.{version_line, setup_lines, setup_text, numbered, all_lines, lane_lines, journal_lines, has_stamps, reply_lines}
+use Rattle.batch_plans.specs.AnswersText.{lanes_lines, answers_text}
 use Rattle.reply_frames.proofs.Chains.{◌⨾◌}
 use Rattle.reply_frames.proofs.LanesLeft.{lanes_of_all}
 use Rattle.reply_frames.proofs.printing.put_answers.Goals as goal

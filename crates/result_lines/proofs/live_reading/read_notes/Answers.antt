@@ -1,6 +1,6 @@
 use Rattle.std.proofs.Common.{List, ℕ, refl, sym, ap, ◌∙◌, subst}
 use Rattle.std.proofs.lemmas.Result.{err_from_is_err_and}
-use Rattle.result_lines.specs.Places.{Stops}
+use Rattle.result_lines.specs.Readings.{Stops}
 use Rattle.result_lines.specs.Told.{with_line}
 use Rattle.result_lines.proofs.Taking.{notes_go_on, notes_stop}
 use Rattle.result_lines.proofs.live_reading.read_notes.Goals as goal

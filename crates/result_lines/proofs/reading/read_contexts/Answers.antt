@@ -1,7 +1,7 @@
 use Rattle.std.proofs.Common.{List, ℕ, sym, ap, ◌∙◌, subst}
 use Rattle.std.proofs.lemmas.Result.{err_from_is_err_and}
 use Rattle.batch_plans.specs.Lines.{context_line}
-use Rattle.result_lines.specs.Places.{Stops}
+use Rattle.result_lines.specs.Readings.{Stops}
 use Rattle.result_lines.specs.Told.{with_line}
 use Rattle.result_lines.proofs.Taking.{lines_go_on, lines_stop}
 use Rattle.result_lines.proofs.reading.read_contexts.Goals as goal

@@ -9,7 +9,7 @@ use Rattle.batch_plans.specs.declared.replies.Answers.{Answers}
 use Rattle.batch_plans.specs.declared.replies.LaneAnswers.{LaneAnswers}
 use Rattle.batch_plans.specs.Names.{at_position, all_live}
 use Rattle.batch_plans.specs.Room.{lane_room, journal_room, room_for}
-use Rattle.context_books.specs.Standing.{AreOfLines, export_limits}
+use Rattle.context_books.specs.ContextLines.{AreOfLines, export_limits}
 use Rattle.hpke_context.specs.Contexts.{ContextView}
 use Rattle.lane_workers.specs.LiveGathered.{AreOfALiveRun}
 use Rattle.lane_workers.specs.LiveLanes.{AddsAre}

@@ -6,7 +6,7 @@ use Rattle.batch_plans.specs.declared.plan.CallLine.{CallLine}
 use Rattle.batch_plans.specs.declared.plan.Plan.{Plan}
 use Rattle.batch_plans.specs.declared.replies.Answers.{Answers}
 use Rattle.batch_plans.specs.Room.{lane_room, journal_room, room_for}
-use Rattle.context_books.specs.Standing.{AreOfLines, export_limits}
+use Rattle.context_books.specs.ContextLines.{AreOfLines, export_limits}
 use Rattle.lane_workers.specs.Gathered.{AreOfARun}
 use Rattle.lane_workers.specs.Groups.{IsFresh}
 use Rattle.shared_runs.specs.Serving.{InOrder}

@@ -8,7 +8,7 @@ use Rattle.context_books.specs.Books.{BookView}
 use Rattle.batch_plans.specs.declared.replies.Answers.{Answers}
 use Rattle.batch_plans.specs.declared.replies.LaneAnswers.{LaneAnswers}
 use Rattle.batch_plans.specs.Room.{lane_room, journal_room}
-use Rattle.context_books.specs.Standing.{export_limits}
+use Rattle.context_books.specs.ContextLines.{export_limits}
 use Rattle.shared_runs.specs.Closing.{entries_of}
 use Rattle.shared_runs.proofs.Closed.{book_at}
 use Rattle.shared_runs.proofs.Handed.{written_back}

@@ -1,6 +1,6 @@
 use Rattle.std.proofs.Common.{◌≡◌, ◌+◌, ◌++◌, ◌∷◌, [], length, sym, ap, ◌∙◌, subst, arith, append_assoc, length-append, rules}
 use Rattle.batch_plans.specs.Room.{lane_room}
-use Rattle.context_books.specs.Standing.{export_limits}
+use Rattle.context_books.specs.ContextLines.{export_limits}
 use Rattle.context_books.specs.LaneCalls.{lane_calls}
 use Rattle.shared_runs.specs.Serving.{InOrder}
 use Rattle.shared_runs.proofs.Ends.{below_count, made_of, all_made, none_in_order, one_in_order}

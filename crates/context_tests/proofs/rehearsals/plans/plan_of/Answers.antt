@@ -3,7 +3,7 @@ use Rattle.call_places.specs.declared.spans.Item.{Item}
 use Rattle.batch_plans.specs.declared.plan.CallLine.{CallLine}
 use Rattle.batch_plans.specs.declared.plan.ContextLine.{ContextLine}
 use Rattle.batch_plans.specs.declared.plan.KeyLine.{KeyLine}
-use Rattle.batch_plans.specs.Limits.{IsWithinLimits}
+use Rattle.batch_plans.specs.Within.{IsWithinLimits}
 use Rattle.context_tests.specs.declared.rehearsals.plans.TheConstants.{ITEMS}
 use Rattle.context_tests.specs.SmallPlans.{are_small, two_lines}
 use Rattle.context_tests.proofs.SmallPlans.{plain_plan, small_plan}

@@ -1,6 +1,6 @@
 use Rattle.std.proofs.Common.{◌<◌, ℕ, get_or}
 use Rattle.batch_plans.specs.declared.plan.ContextLine.{ContextLine}
-use Rattle.batch_plans.specs.Limits.{IsContextWithin}
+use Rattle.batch_plans.specs.Within.{IsContextWithin}
 use Rattle.context_tests.proofs.set_ups.plans.assert_contexts.Given as goal
 
 abbrev pub invariant-loop-line : goal.invariant-loop-line

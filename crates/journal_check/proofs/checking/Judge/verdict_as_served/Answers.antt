@@ -1,6 +1,6 @@
 use Rattle.std.proofs.Common.{List, length, subst, sym, ap, ◌∙◌}
 use Rattle.std.proofs.lemmas.Result.{IfOk-weaker}
-use Rattle.batch_plans.specs.Limits.{IsWithinLimits}
+use Rattle.batch_plans.specs.Within.{IsWithinLimits}
 use Rattle.batch_plans.specs.declared.plan.CallLine.{CallLine}
 use Rattle.result_lines.specs.LiveVerdicts.{live_told}
 use Rattle.result_lines.proofs.LookedLimits.{looked_within, looked_lanes}

@@ -1,7 +1,7 @@
 use Rattle.std.proofs.Common.{ℕ, All, List, length, sym, refl, subst, arith}
 use Rattle.std.proofs.lemmas.Grind.{common_steps}
 use Rattle.call_places.specs.Spans.{ItemIsInPool}
-use Rattle.hpke_context.specs.Contexts.{HasCipher}
+use Rattle.hpke_context.specs.Calls.{HasCipher}
 use Rattle.lane_workers.proofs.calls.Service.finish.Goals as goal
 
 pub finish_opening-requires-clause-cipher : goal.finish_opening-requires-clause-cipher

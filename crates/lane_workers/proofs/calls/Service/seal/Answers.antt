@@ -1,7 +1,8 @@
 use Rattle.std.proofs.Common.{◌≡◌, ◌<◌, ◌≤◌, ◌+◌, ◌-◌, ◌^◌, List, [], ◌∷◌, ℕ, length, refl, sym, ap, ◌∙◌, subst, arith}
 use Rattle.call_places.specs.Spans.{IsInPool, span_bytes}
 use Rattle.hpke_context.specs.Answers.{Seal, answer}
-use Rattle.hpke_context.specs.Contexts.{ContextView, HasCipher, cipher_of}
+use Rattle.hpke_context.specs.Contexts.{ContextView, cipher_of}
+use Rattle.hpke_context.specs.Calls.{HasCipher}
 use Rattle.batch_plans.specs.declared.plan.CallLine.TheVariants as calls
 use Rattle.context_books.specs.declared.book.Draw.{Draw}
 use Rattle.context_books.specs.declared.book.Draw.TheVariants.{Number}

@@ -1,6 +1,7 @@
 use Rattle.std.proofs.Common.{List, length, sum, sym, ap, ◌∙◌, subst, arith, rules}
 use Rattle.call_places.specs.declared.entries.Entry.{Entry}
-use Rattle.call_places.specs.Entries.{stamps_of, StampsBelow, StampsRise}
+use Rattle.call_places.specs.Entries.{stamps_of, StampsBelow}
+use Rattle.call_places.specs.Orders.{StampsRise}
 use Rattle.call_places.specs.Notes.{live_at, AreLive}
 use Rattle.call_places.specs.Quotas.{AreLeft}
 use Rattle.call_places.proofs.Quotas.{all_left}

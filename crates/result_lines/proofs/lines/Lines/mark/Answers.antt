@@ -1,6 +1,6 @@
 use Rattle.result_lines.proofs.Cursors.{mark_taken}
 use Rattle.std.proofs.Common.{sym, ap, ◌∙◌}
-use Rattle.result_lines.specs.Places.{mark_at}
+use Rattle.result_lines.specs.Readings.{mark_at}
 use Rattle.result_lines.proofs.lines.Lines.mark.Goals as goal
 
 pub returns-clause-some : goal.returns-clause-some

@@ -1,7 +1,7 @@
 use Rattle.std.proofs.Common.{◌+◌, ◌<◌, Some, length, sym, ap, ◌∙◌, subst, arith}
 use Rattle.batch_plans.specs.declared.plan.Plan.{Plan}
 use Rattle.batch_plans.specs.Room.{lane_room}
-use Rattle.context_books.specs.Standing.{export_limits}
+use Rattle.context_books.specs.ContextLines.{export_limits}
 use Rattle.context_books.specs.LaneCalls.{lane_calls}
 use Rattle.lane_workers.specs.Returned.{IsGiven}
 use Rattle.lane_workers.specs.Turns.{views}

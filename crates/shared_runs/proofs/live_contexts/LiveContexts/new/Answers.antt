@@ -6,7 +6,7 @@ use Rattle.turn_lock.specs.Passes.{fresh_from}
 use Rattle.stamp_counter.specs.Seats.{SeatView}
 use Rattle.batch_plans.specs.declared.plan.Plan.{Plan}
 use Rattle.batch_plans.specs.declared.plan.CallLine.{CallLine}
-use Rattle.batch_plans.specs.Limits.{IsWithinLimits}
+use Rattle.batch_plans.specs.Within.{IsWithinLimits}
 use Rattle.batch_plans.specs.Names.{at_position, all_live}
 use Rattle.batch_plans.proofs.Positions.{all_live_within}
 use Rattle.lane_workers.specs.LiveLanes.{AddsOneOf}

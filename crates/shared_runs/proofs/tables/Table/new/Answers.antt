@@ -7,7 +7,7 @@ use Rattle.turn_lock.specs.Passes.{PassListView}
 use Rattle.hpke_context.specs.Contexts.{ContextView}
 use Rattle.batch_plans.specs.declared.plan.Plan.{Plan}
 use Rattle.context_books.proofs.Counts.{quotas_few, lanes_few, quotas_at, quotas_count}
-use Rattle.context_books.specs.Standing.{AreOfLines}
+use Rattle.context_books.specs.ContextLines.{AreOfLines}
 use Rattle.lane_workers.specs.Turns.{shared_at, views}
 use Rattle.shared_runs.specs.Sharing.{IsSharedBy, SharesEach}
 use Rattle.context_books.specs.Quotas.{quotas_on, all_quotas}

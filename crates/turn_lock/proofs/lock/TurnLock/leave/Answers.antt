@@ -1,6 +1,7 @@
 use Rattle.std.proofs.Common.{List, ℕ, arith, sym, refl, ap, ◌∙◌, subst}
 use Rattle.call_places.specs.declared.entries.Entry.{Entry}
-use Rattle.call_places.specs.Entries.{last_of, own, CallsWithin}
+use Rattle.call_places.specs.Entries.{own, CallsWithin}
+use Rattle.call_places.specs.Orders.{last_of}
 use Rattle.turn_lock.specs.Passes.{MayAdd, next_after, HeldView}
 use Rattle.turn_lock.specs.Seats.{next_from}
 use Rattle.turn_lock.specs.Steps.{GaveValue}
