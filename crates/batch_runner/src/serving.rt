@@ -30,7 +30,7 @@ use std::sync::Wait;
 use std::thread::Threads;
 
 // Does with an input what a command says.
-fn answer_input<R: Threads + Wait + Sync, K: Sink, G: Gate + Sync>(
+fn answer<R: Threads + Wait + Sync, K: Sink, G: Gate + Sync>(
     rt: &R,
     alloc: Global,
     input: &[u8],
@@ -61,28 +61,7 @@ fn answer_input<R: Threads + Wait + Sync, K: Sink, G: Gate + Sync>(
     }
 }
 
-// Reads an input and does with it what a command says.
-fn answer<R: Threads + Wait + Sync, S: Source, K: Sink, G: Gate + Sync>(
-    rt: &R,
-    alloc: Global,
-    command: &Command,
-    source: &mut S,
-    sink: &mut K,
-    gate: &G,
-) -> Outcome
-    requires within { IsWithin command.now }
-    requires reads { ReadsInput command.now }
-    ensures { Serves S.left S.faults K.written K.faults source.old source.new
-        sink.old sink.new command.now result }
-{
-    match read_input(alloc, source) {
-        Ok(input) => answer_input(rt, alloc, &input, command, sink, gate),
-        Err(ReadStop::Fault) => Outcome::ReadFault,
-        Err(ReadStop::OutOfMemory) => Outcome::OutOfMemory,
-    }
-}
-
-// Does what a command says.
+// Does what a command says. All but `demo` read an input first.
 fn obey<R: Threads + Wait + Sync, S: Source, K: Sink, G: Gate + Sync>(
     rt: &R,
     alloc: Global,
@@ -97,18 +76,18 @@ fn obey<R: Threads + Wait + Sync, S: Source, K: Sink, G: Gate + Sync>(
     ensures unread { (seed messages lanes : ℕ) → command.now ≡ Command.Demo seed messages lanes
         → (source.new ≡ source.old) × (result ≢ Outcome.ReadFault) }
 {
-    match command {
-        Command::Demo {
-            seed,
-            messages,
-            lanes,
-        } => demonstrate(rt, alloc, *seed, *messages, *lanes, sink, gate),
-        Command::Run { .. } => answer(rt, alloc, command, source, sink, gate),
-        Command::Live { .. } => answer(rt, alloc, command, source, sink, gate),
-        Command::Rehearse { .. } => answer(rt, alloc, command, source, sink, gate),
-        Command::Check { .. } => answer(rt, alloc, command, source, sink, gate),
-        Command::CheckLive { .. } => answer(rt, alloc, command, source, sink, gate),
-        Command::Capsules { .. } => answer(rt, alloc, command, source, sink, gate),
+    if let Command::Demo {
+        seed,
+        messages,
+        lanes,
+    } = command
+    {
+        return demonstrate(rt, alloc, *seed, *messages, *lanes, sink, gate);
+    }
+    match read_input(alloc, source) {
+        Ok(input) => answer(rt, alloc, &input, command, sink, gate),
+        Err(ReadStop::Fault) => Outcome::ReadFault,
+        Err(ReadStop::OutOfMemory) => Outcome::OutOfMemory,
     }
 }
 

@@ -15,6 +15,7 @@ use Rattle.batch_serving.specs.declared.outcomes.Outcome.{Outcome}
 use Rattle.batch_serving.specs.declared.outcomes.Outcome.TheVariants.{Done, WriteFault, OutOfMemory}
 use Rattle.batch_serving.specs.Effects.{Says, SaysFault, SaysReply, Writes, end_of}
 use Rattle.batch_serving.specs.Text.{AnswersBy, IsTold}
+use Rattle.batch_serving.proofs.Endings.{OfInput}
 
 -- the text of the answers replies to what was read
 said_reply : {P A E : Type 0} (IsReplyTo : P → List ℕ → Type 0) (plan : P) (text_of : A → List ℕ)
@@ -46,6 +47,18 @@ module _ {K : Type 0} (written : K → Option (List ℕ)) (faults : K → ℕ) (
     no_fault = (λ a. absurd (a refl));
     unwritten = (λ e. cc);
   }
+
+  -- the text of a run that is done
+  pub done_told : (result : Printed) (text : List ℕ) (outcome : Outcome) → outcome ≡ end_of result Done
+      → (result ≡ Whole → Appends (written old) (written new) text)
+      → (result ≡ Whole → faults new ≡ faults old)
+      → (result ≡ Failed → AppendsPrefix (written old) (written new) text)
+      → (result ≡ Failed → Rose (faults old) (faults new))
+      → Writes written faults old new (Says Done text) outcome
+  done_told result text outcome ends whole clean cut failed =
+      subst (Writes written faults old new (Says Done text)) (sym ends)
+      (printed (Says Done text) result Done text (refl, refl) (λ e. subst OfInput e tt) (λ e. subst OfInput e tt)
+      whole clean cut failed)
 
   -- what is due by one rule is due by another
   pub due_as : (IsDue Also : Outcome → List ℕ → Type 0) (outcome : Outcome)

@@ -1,19 +1,9 @@
-use Rattle.std.proofs.Common.{refl, subst, sym}
 use Rattle.batch_plans.specs.AnswersText.{live_text}
-use Rattle.batch_serving.specs.declared.outcomes.Outcome.TheVariants.{Done}
-use Rattle.batch_serving.specs.Effects.{Says, Writes}
-use Rattle.batch_serving.proofs.Endings.{OfInput}
-use Rattle.batch_serving.proofs.Writing.{printed}
+use Rattle.batch_serving.proofs.Writing.{done_told}
 use Rattle.batch_serving.proofs.telling.tell_live.Goals as goal
 
 pub returns : goal.returns
 returns g c =
     let p = c.print_live.ensures in
-    let written = g.K.Sink.written in
-    let faults = g.K.Sink.faults in
-    let old = c.args.sink.now in
-    let new = c.print_live.new.sink in
-    let IsDue = (Says Done (live_text c.args.plan.now c.args.answers.now)) in
-    subst (Writes written faults old new IsDue) (sym c.end_of.ensures)
-    (printed written faults old new IsDue c.print_live.result Done (live_text c.args.plan.now c.args.answers.now) (refl, refl)
-    (λ e. subst OfInput e tt) (λ e. subst OfInput e tt) p.whole p.no_fault p.cut p.failed)
+    done_told g.K.Sink.written g.K.Sink.faults c.args.sink.now c.print_live.new.sink c.print_live.result
+    (live_text c.args.plan.now c.args.answers.now) c.end_of.result c.end_of.ensures p.whole p.no_fault p.cut p.failed
