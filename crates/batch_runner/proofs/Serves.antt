@@ -2,16 +2,26 @@
 use Rattle.std.proofs.Common.{◌≡◌, ◌≤◌, ℕ, List, [], Option, Some, None, length, ◌∙◌, inl, inr, refl, subst, sym, arith}
 use Rattle.std.specs.Prelude.{◌≢◌}
 use Rattle.std.specs.Io.KnownBytes.{Appends, Consumes}
-use Rattle.batch_io.specs.Faults.{Rose}
 use Rattle.batch_words.specs.declared.commands.Command.{Command}
-use Rattle.batch_words.specs.declared.commands.Command.TheVariants.{Demo}
+use Rattle.batch_words.specs.declared.commands.Command.TheVariants.{Run, Live, Rehearse, Check, CheckLive, Capsules, Demo}
 use Rattle.batch_serving.specs.declared.outcomes.Outcome.{Outcome}
-use Rattle.batch_serving.specs.declared.outcomes.Outcome.TheVariants.{Usage, ReadFault, OutOfMemory}
+use Rattle.batch_serving.specs.declared.outcomes.Outcome.TheVariants.{Usage, ReadFault}
 use Rattle.batch_serving.specs.Effects.{Serves, Writes}
 use Rattle.batch_serving.specs.Input.{IsInput, input_limit}
 use Rattle.batch_serving.specs.Text.{Demonstrates, IsReadBy, MayEnd, ReadsInput}
 use Rattle.batch_serving.proofs.Ends.{ends_as_told, of_input, read_by}
 use Rattle.batch_serving.proofs.Endings.{IsUsage, OfInput, faults_or_not}
+
+-- every command but `demo` reads its input
+pub reads_input : (command : Command)
+    → ((seed messages lanes : ℕ) → command ≡ Demo seed messages lanes → ⊥) → ReadsInput command
+reads_input (Demo seed messages lanes) other = absurd (other seed messages lanes refl)
+reads_input (Run workers mult) other = tt
+reads_input (Live workers mult) other = tt
+reads_input (Rehearse schedule) other = tt
+reads_input (Check mult) other = tt
+reads_input (CheckLive mult) other = tt
+reads_input (Capsules mult) other = tt
 
 module _ {K : Type 0} (written : K → Option (List ℕ)) (faults : K → ℕ) (sink sink_new : K)
     (command : Command) (input : List ℕ) (outcome : Outcome)
@@ -71,38 +81,6 @@ module _ {S K : Type 0} (left : S → Option (List ℕ)) (misses : S → ℕ)
   serves_demo source sink sink_new seed messages lanes outcome w =
       serves written faults sink sink_new (Demo seed messages lanes) [] outcome w left misses source source
       refl ([], none_taken (left source), omega arith) refl (λ all text told end. end)
-
-  module _ (source source_new : S) (sink : K) (command : Command)
-      (taken : (front : List ℕ) × Consumes (left source) (left source_new) front × (length front ≤ input_limit))
-    where
-      -- no input, and nothing is written
-      pub serves_fault : Rose (misses source) (misses source_new)
-          → Serves left misses written faults source source_new sink sink command ReadFault
-      serves_fault rose = record {
-        whole = (λ a b m. absurd (a refl));
-        cut = (λ e. cc);
-        unwritten = (λ e. refl);
-        read_fault = (λ e. rose);
-        write_fault = (λ e. cc);
-        no_read_fault = (λ a. absurd (a refl));
-        no_write_fault = (λ a. refl);
-        taken = taken;
-        complete = (λ all told no_fault b. absurd (no_fault rose));
-      }
-
-      pub serves_nothing : misses source_new ≡ misses source
-          → Serves left misses written faults source source_new sink sink command OutOfMemory
-      serves_nothing clean = record {
-        whole = (λ a b m. absurd (m refl));
-        cut = (λ e. cc);
-        unwritten = (λ e. refl);
-        read_fault = (λ e. cc);
-        write_fault = (λ e. cc);
-        no_read_fault = (λ a. clean);
-        no_write_fault = (λ a. refl);
-        taken = taken;
-        complete = (λ all told a b. inr refl);
-      }
 
 -- ---- what a run tells that served its command
 

@@ -1,32 +1,41 @@
-use Rattle.std.proofs.Common.{Err, ap, subst}
+use Rattle.std.proofs.Common.{subst, sym}
+use Rattle.request_frames.specs.Batch.{batch}
 use Rattle.batch_serving.specs.Effects.{Writes}
-use Rattle.batch_serving.specs.Text.{MayEnd}
-use Rattle.batch_runner.proofs.Serves.{serves_fault, serves_input, serves_nothing}
+use Rattle.batch_serving.specs.Text.{AnswersBy, IsRehearsal, MayEnd}
 use Rattle.batch_runner.proofs.serving.answer.Goals as goal
 
-pub returns-in-Ok : goal.returns-in-Ok
-returns-in-Ok g c =
-    let command = c.args.command.now in
+pub returns-in-Run : goal.returns-in-Run
+returns-in-Run g c =
+    subst (λ one. Writes g.K.Sink.written g.K.Sink.faults c.args.sink.now c.run_batch.new.sink
+    (MayEnd one c.args.input.now) c.run_batch.result) (sym c.in-Run.is) c.run_batch.ensures
+
+pub returns-in-Live : goal.returns-in-Live
+returns-in-Live g c =
+    subst (λ one. Writes g.K.Sink.written g.K.Sink.faults c.args.sink.now c.answer_live.new.sink
+    (MayEnd one c.args.input.now) c.answer_live.result) (sym c.in-Live.is) c.answer_live.ensures
+
+pub returns-in-Rehearse : goal.returns-in-Rehearse
+returns-in-Rehearse g c =
     let written = g.K.Sink.written in
     let faults = g.K.Sink.faults in
     let old = c.args.sink.now in
-    let new = c.answer_input.new.sink in
-    serves_input written faults old new command c.in-Ok.input.items c.answer_input.result
-    (subst (λ input. Writes written faults old new (MayEnd command input) c.answer_input.result)
-    c.deref.ensures.value c.answer_input.ensures)
-    g.S.Source.left g.S.Source.faults c.args.source.now c.read_input.new.source c.requires.reads
-    c.in-Ok.ensures.input (c.in-Ok.ensures.no_fault (λ e. cc))
+    let new = c.rehearse_batch.new.sink in
+    subst (λ one. Writes written faults old new (MayEnd one c.args.input.now) c.rehearse_batch.result)
+    (sym c.in-Rehearse.is)
+    (subst (λ steps. Writes written faults old new (AnswersBy (IsRehearsal steps) (batch c.args.input.now))
+    c.rehearse_batch.result) c.as_slice.ensures c.rehearse_batch.ensures)
 
-pub returns-in-Err-Fault : goal.returns-in-Err-Fault
-returns-in-Err-Fault g c =
-    let read = c.in-Err-Fault.ensures in
-    serves_fault g.S.Source.left g.S.Source.faults g.K.Sink.written g.K.Sink.faults c.args.source.now
-    c.read_input.new.source c.args.sink.now c.args.command.now read.taken
-    (read.fault (ap (λ fault. Err fault) c.in-Err-Fault.field-0-is))
+pub returns-in-Check : goal.returns-in-Check
+returns-in-Check g c =
+    subst (λ one. Writes g.K.Sink.written g.K.Sink.faults c.args.sink.now c.judge.new.sink
+    (MayEnd one c.args.input.now) c.judge.result) (sym c.in-Check.is) c.judge.ensures
 
-pub returns-in-Err-OutOfMemory : goal.returns-in-Err-OutOfMemory
-returns-in-Err-OutOfMemory g c =
-    let read = c.in-Err-OutOfMemory.ensures in
-    let want = c.in-Err-OutOfMemory.field-0-is in
-    serves_nothing g.S.Source.left g.S.Source.faults g.K.Sink.written g.K.Sink.faults c.args.source.now
-    c.read_input.new.source c.args.sink.now c.args.command.now read.taken (read.no_fault (λ e. cc))
+pub returns-in-CheckLive : goal.returns-in-CheckLive
+returns-in-CheckLive g c =
+    subst (λ one. Writes g.K.Sink.written g.K.Sink.faults c.args.sink.now c.judge_live.new.sink
+    (MayEnd one c.args.input.now) c.judge_live.result) (sym c.in-CheckLive.is) c.judge_live.ensures
+
+pub returns-in-Capsules : goal.returns-in-Capsules
+returns-in-Capsules g c =
+    subst (λ one. Writes g.K.Sink.written g.K.Sink.faults c.args.sink.now c.exchange.new.sink
+    (MayEnd one c.args.input.now) c.exchange.result) (sym c.in-Capsules.is) c.exchange.ensures
