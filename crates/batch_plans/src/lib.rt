@@ -2,7 +2,7 @@
 //!
 //! A [`Plan`] is a whole batch: its seed, its key lines and context lines (RFC 9180, 5.1), and its
 //! lanes of calls (RFC 9180, 5.2 and 5.3). The bytes of its fields, except the seed's, are spans of
-//! one pool. `IsWithinLimits` of `specs/Limits.antt` holds for every plan that a text spells.
+//! one pool. `IsWithinLimits` of `specs/Within.antt` holds for every plan that a text spells.
 //!
 //! A [`CallLine`] is taken apart in one place: [`kind_of`], [`context_of`], [`items_of`], [`size_of`]
 //! and [`keeps_guess`] say what a call is and has, whatever its form.
@@ -15,9 +15,9 @@
 //! The text that a batch is answered with is defined here as a list of its lines, a format of this
 //! program's own (docs/FORMAT.md). `specs/Words.antt` has the words of refusals and reasons,
 //! `specs/Lines.antt` the lines of keys, contexts, replies and guesses, `specs/ReplyText.antt` the
-//! whole text, `answers_text`, for version 1 and version 2, and which of a lane's replies belong to
-//! which call; `specs/LiveText.antt` has that of a plan whose lanes add and retire contexts,
-//! `live_text`.
+//! whole text, for version 1 and version 2, and `specs/LiveText.antt` that of a plan whose lanes add
+//! and retire contexts. `specs/AnswersText.antt` has the text of given answers, and which of a lane's
+//! replies belong to which call.
 //!
 //! A contract sees each list as the list of its items. Not here: which text spells a plan, which
 //! answers a plan may have, how they are printed, and what a served call does.

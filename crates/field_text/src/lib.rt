@@ -5,11 +5,11 @@
 //! [`read_whole`] and [`read_front`] read the lines that a [`Draft`] knows, by `specs/Lines.antt`:
 //! what the text spells, or its first bad line and that line's first [`Reason`]. A contract sees
 //! [`Pieces`] as the list of the pieces of a line that are still to be read. Each field is a
-//! definition in `specs/Fields.antt`, and each method answers just what the definition gives. The
+//! definition in `specs/Fields.antt`, and each method answers just what that gives (`Readings`). The
 //! bytes of a field go to the end of one pool, and the field's value is their
 //! [`Span`](call_places::Span).
 //!
-//! What is printed goes through a [`Buffer`], by `specs/Printing.antt`: each call puts its piece of
+//! What is printed goes through a [`Buffer`], by `specs/Buffers.antt`: each call puts its piece of
 //! the text, and [`Buffer::finish`] says whether the sink took the whole text or a prefix of it.
 //!
 //! Each call is linear in the bytes that it reads or puts: a line is cut once, and hex digits are
