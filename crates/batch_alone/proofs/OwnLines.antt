@@ -67,9 +67,6 @@ answer_refusal (Some (Opened_at number text)) = refl
 answer_refusal (Some (Failed_at number)) = refl
 answer_refusal (Some At_limit) = refl
 
-refused_refusal : (why : CallRefusal) → is_refusal (refused_line why) ≡ true
-refused_refusal why = refl
-
 heads : {X : Type 0} (x y : X) (xs ys : List X) → x ∷ xs ≡ y ∷ ys → x ≡ y
 heads x y xs ys e = cc
 

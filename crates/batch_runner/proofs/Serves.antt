@@ -1,16 +1,16 @@
 -- A run that has read its input, or failed to, and wrote what came of it.
-use Rattle.std.proofs.Common.{◌≡◌, ◌≤◌, ℕ, List, [], Option, Some, None, length, ◌∙◌, inl, inr, refl, subst, sym, arith}
+use Rattle.std.proofs.Common.{◌≡◌, ◌≤◌, ℕ, List, [], Option, Some, None, length, inl, inr, refl, subst, arith}
 use Rattle.std.specs.Prelude.{◌≢◌}
 use Rattle.std.specs.Io.KnownBytes.{Appends, Consumes}
 use Rattle.batch_words.specs.declared.commands.Command.{Command}
 use Rattle.batch_words.specs.declared.commands.Command.TheVariants.{Run, Live, Rehearse, Check, CheckLive, Capsules, Demo}
 use Rattle.batch_serving.specs.declared.outcomes.Outcome.{Outcome}
-use Rattle.batch_serving.specs.declared.outcomes.Outcome.TheVariants.{Usage, ReadFault}
+use Rattle.batch_serving.specs.declared.outcomes.Outcome.TheVariants.{ReadFault}
 use Rattle.batch_serving.specs.Effects.{Serves, Writes}
 use Rattle.batch_serving.specs.Input.{IsInput, input_limit}
 use Rattle.batch_serving.specs.Text.{Demonstrates, IsReadBy, MayEnd, ReadsInput}
 use Rattle.batch_serving.proofs.Ends.{ends_as_told, of_input, read_by}
-use Rattle.batch_serving.proofs.Endings.{IsUsage, OfInput, faults_or_not}
+use Rattle.batch_serving.proofs.Endings.{OfInput, faults_or_not}
 
 -- every command but `demo` reads its input
 pub reads_input : (command : Command)
@@ -94,10 +94,3 @@ module _ {S K : Type 0} (left : S → Option (List ℕ)) (misses : S → ℕ)
       × (text : List ℕ) × MayEnd command input outcome text
       × Appends (written sink) (written sink_new) text
   whole_text is = s.whole (λ a. subst OfInput a is) (λ b. subst OfInput b is) (λ m. subst OfInput m is)
-
-  -- the words were in the grammar
-  pub not_usage : outcome ≢ Usage
-  not_usage e =
-      let end = s.whole (λ a. subst IsUsage (sym e ∙ a) tt) (λ b. subst IsUsage (sym e ∙ b) tt)
-      (λ m. subst IsUsage (sym e ∙ m) tt) in
-      subst OfInput e (of_input command end.0 outcome end.2 end.3)

@@ -1,12 +1,12 @@
 -- How clap goes on and stops, word by word, for a command with these rules and no subcommand.
-use Rattle.std.proofs.Common.{◌≡◌, false, refl, sym, ap, ap₂, subst, List, [], ◌∷◌}
+use Rattle.std.proofs.Common.{◌≡◌, false, sym, ap, ap₂, subst, List, [], ◌∷◌}
 use Rattle.std.specs.Prelude.{is_some, fold}
 use Rattle.clap.specs.Kinds.{Kinds, or_else}
-use Rattle.clap.specs.Walk.{Row, Rule, Text, Walk, finished, nothing_held, settled, walk_from, walked}
-use Rattle.clap.specs.Simple.{App, Shape, built, entered, filled_from, matches_of}
-use Rattle.clap.specs.Faults.{check_fault, defaults_fault, entered_fault, fault_of, settle_fault, turn_fault, walk_fault}
+use Rattle.clap.specs.Walk.{Row, Rule, Text, Walk, finished, settled, walked}
+use Rattle.clap.specs.Simple.{App, Shape, built, entered}
+use Rattle.clap.specs.Faults.{check_fault, defaults_fault, entered_fault, settle_fault, turn_fault, walk_fault}
 use Rattle.clap.specs.declared.error.kind.ErrorKind.{ErrorKind}
-use Rattle.batch_words.specs.Parses.{app_with, bare_app}
+use Rattle.batch_words.specs.Parses.{bare_app}
 
 -- a command once it is built
 abbrev pub shape : List Rule → Shape
@@ -34,14 +34,6 @@ faults_from rules w words = faults_after rules (walk_fault (shape rules) [] w wo
 
 abbrev pub rows_from : List Rule → Walk → List Text → List Row
 rows_from rules w words = finished rules (end_of rules w words).held
-
-pub faults_are : (rules : List Rule) (words : List Text)
-    → fault_of (app_with rules) words ≡ faults_from (filled_from 1 rules) (walk_from nothing_held) words
-faults_are rules words = refl
-
-pub rows_are : (rules : List Rule) (words : List Text)
-    → matches_of (app_with rules) words ≡ rows_from (filled_from 1 rules) (walk_from nothing_held) words
-rows_are rules words = refl
 
 -- ---- what the words come to
 

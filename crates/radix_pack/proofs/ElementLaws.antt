@@ -195,9 +195,6 @@ AreMultiplesOf3-decode set bytes half k =
       | inr l ↦ ap (λ z. unsigned_abs z % 3) (get_or_past (map g digits) k (pos 0) (omega (arith, length-map digits g)))
     ]
 
-pub length-decode : (bytes : List ℕ) (p m : ℕ) → AreRadices (replicate p m) → length (decode bytes (replicate p m)) ≡ p
-length-decode bytes p m a = (AreBelow-decode bytes (replicate p m) a).0 ∙ length-replicate p m
-
 -- ---- the digits of the code
 
 -- one more digit

@@ -1,7 +1,6 @@
 -- The loop that takes low bytes away while the radix is at least the limit.
 use Rattle.std.proofs.Common.{◌≡◌, ℕ, zero, suc, ◌+◌, ◌*◌, ◌/◌, ◌%◌, ◌^◌, ◌<◌, ◌≤◌, min, length, List, [], ◌∷◌, ◌++◌, arith, ap, sym, ◌∙◌, refl, append_assoc, zero-add, inl, inr}
 use Rattle.std.proofs.lemmas.Bool.{cases_lt, lt-ltb, le-ltb}
-use Rattle.std.proofs.lemmas.List.{append-nil}
 use Rattle.std.proofs.Math.Nat.{pow-suc}
 use Rattle.std.proofs.lemmas.Nat.{mul-lt}
 use Rattle.radix_pack.specs.Radix.{bytes_in, radix_in, low_bytes, above_bytes, number, pair_bytes, pair_radix, last_bytes}
@@ -90,13 +89,6 @@ pub Writing-more : (limit : ℕ) (bytes : List ℕ) (last_value last_radix value
 Writing-more limit bytes last_value last_radix value radix out e h s =
     writing_more s.turns limit bytes last_value last_radix value radix out e h s.bytes_are s.value_is s.radix_is
 
-pub Writing-all : (limit : ℕ) (bytes : List ℕ) (last_value last_radix value radix : ℕ) (out : List ℕ) → radix < limit → Writing limit bytes last_value last_radix value radix out → (out ≡ bytes) × (value ≡ last_value) × (radix ≡ last_radix)
-Writing-all limit bytes last_value last_radix value radix out h s = (
-  sym (append-nil out) ∙ ap (λ n. out ++ low_bytes n value) (sym (bytes_done s.turns limit radix h)) ∙ s.bytes_are,
-  ap (λ n. above_bytes n value) (sym (bytes_done s.turns limit radix h)) ∙ s.value_is,
-  sym (radix_done s.turns limit radix h) ∙ s.radix_is,
-)
-
 -- ---- what the two turns give
 
 pub length-low_bytes : (count r : ℕ) → length (low_bytes count r) ≡ count
@@ -159,10 +151,6 @@ pair_radix_least m n h k = radix_least 2 16384 (m * n) (one_product m n h k)
 pub pair_above_below : (m n r : ℕ) → r < m * n → above_bytes (pair_bytes m n) r < pair_radix m n
 unfolding pair_radix pair_bytes
 pair_above_below m n r h = above_below 2 16384 (m * n) r h
-
-pub pair_bytes_most : (m n : ℕ) → pair_bytes m n ≤ 2
-unfolding pair_bytes
-pair_bytes_most m n = two_bytes_most 16384 (m * n)
 
 pub last_bytes_most : (m : ℕ) → last_bytes m ≤ 2
 unfolding last_bytes

@@ -1,6 +1,6 @@
 -- Numbers that are their own residues, and the nearest multiple of 3.
 use Rattle.std.proofs.Common.{◌≡◌, ℕ, ◌-◌, ◌/◌, ◌%◌, ◌<◌, ◌≤◌, ℤ, pos, List, map, arith, ap, sym, ◌∙◌, refl}
-use Rattle.std.specs.Prelude.{◌+ℤ◌, ◌-ℤ◌, unsigned_abs}
+use Rattle.std.specs.Prelude.{◌+ℤ◌, unsigned_abs}
 use Rattle.std.proofs.lemmas.Int.{ints}
 use Rattle.std.proofs.lemmas.List.{get_or-map, length-map}
 use Rattle.ring_core.specs.Product.{coefficients, centred, IsCentred}
@@ -59,10 +59,3 @@ IsWithin-residues xs ys e k =
       ap unsigned_abs (ap (λ (t : List ℤ). coefficients t k) e ∙ map_at (λ z. centred 3 z) xs refl k),
       centred_three (coefficients xs k),
     )
-
--- by a remainder of a number that a multiple of 3 made positive
-pub centred_by : (z : ℤ) (n : ℕ) → pos n ≡ z +ℤ pos 32770 → pos (n % 3) -ℤ pos 1 ≡ centred 3 z
-centred_by z n e =
-    let r = remainder_of 3 (z +ℤ pos 1) (omega arith) in
-    let same : r.rest ≡ n % 3 = one_remainder 3 r.rest (n % 3) r.by (pos (n / 3) -ℤ pos 10923) r.low (omega arith) (omega (arith, ints, e, r.whole)) in
-    omega (arith, ints, r.is, same)

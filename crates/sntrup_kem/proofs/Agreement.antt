@@ -1,6 +1,6 @@
 -- Both ends get the same session key, and other ciphertexts the rejection key.
 use Rattle.std.proofs.Common.{◌≡◌, ℕ, ◌+◌, ◌*◌, ℤ, List, length, take, arith, ap, sym, ◌∙◌, bytes_eq}
-use Rattle.std.proofs.lemmas.Bool.{cond-true, cond-false, false_from_ne_true}
+use Rattle.std.proofs.lemmas.Bool.{cond-true}
 use Rattle.std.proofs.lemmas.List.{take_at}
 use Rattle.std.proofs.lemmas.Slice.Eq.{bytes_eq-Decides}
 use Rattle.ring_core.specs.Sets.{Set}
@@ -11,7 +11,7 @@ use Rattle.sntrup_core.specs.Laws.{IsShort}
 use Rattle.sntrup_kem.specs.Sizes.{small_size, rounded_size, rho_words}
 use Rattle.sntrup_kem.specs.Hashes.{hash_confirm, hash_session, key_hash}
 use Rattle.sntrup_kem.specs.Kem.{IsGenerated, word_bytes, drawn_rho, drawn_r, ginv_part, rho_part, cache_part, ciphertext, hidden, enc_of, session_of, plaintext, decrypted_r, hidden_again, decapsulated}
-use Rattle.sntrup_kem.specs.Laws.{DrawsShort, BothEndsAgree, HoldsItsPublicKey, AgreesToSession, RejectsOthers}
+use Rattle.sntrup_kem.specs.Laws.{DrawsShort, BothEndsAgree, HoldsItsPublicKey, AgreesToSession}
 use Rattle.sntrup_kem.proofs.Parts.{Parts, parts_of}
 use Rattle.sntrup_kem.proofs.Rounds.{IsSet, plaintext_back, length-ciphertext, IsShort-drawn_r}
 use Rattle.sntrup_kem.proofs.Drawing.{length-word_bytes, length-front}
@@ -23,11 +23,6 @@ length-drawn_rho set word place =
 pub agrees_to_session : (set : Set) → AgreesToSession set
 agrees_to_session set sk enc e =
     cond-true (bytes_eq (hidden_again set sk enc) enc) (hash_session 1 (small_encode set.p (decrypted_r set sk enc)) enc) (hash_session 0 (rho_part set sk) enc) ((bytes_eq-Decides (hidden_again set sk enc) enc).1 e)
-
-pub rejects_others : (set : Set) → RejectsOthers set
-rejects_others set sk enc n =
-    cond-false (bytes_eq (hidden_again set sk enc) enc) (hash_session 1 (small_encode set.p (decrypted_r set sk enc)) enc) (hash_session 0 (rho_part set sk) enc)
-    (false_from_ne_true (bytes_eq (hidden_again set sk enc) enc) (λ t. n ((bytes_eq-Decides (hidden_again set sk enc) enc).0 t)))
 
 -- the parts of a secret key that was generated
 parts_generated : (set : Set) (word : ℕ → ℕ) (place j : ℕ) (pk sk : List ℕ) → (g : IsGenerated set word place j pk sk) → Parts set sk (small_encode set.p g.f) (small_encode set.p g.ginv) pk (key_hash pk)

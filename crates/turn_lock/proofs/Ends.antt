@@ -1,7 +1,7 @@
 -- How the rule begins, how two views become one, and what stands at the end.
 use Rattle.std.proofs.Common.{◌≡◌, ◌≢◌, ◌⊎◌, inl, inr, ⊎_elim, ℕ, zero, suc, ◌+◌, ◌<◌, ◌≤◌, List, [], ◌∷◌, length, set, sym, refl, ap, ◌∙◌, subst, arith, true, false, Bool, ◌||◌, if◌then◌else◌, length-append}
 use Rattle.std.specs.Prelude.{Option, Some}
-use mathlib.Core.Option.{some, none, some-injective, some-ne-none}
+use mathlib.Core.Option.{some, some-injective, some-ne-none}
 use mathlib.Core.Option as maybe
 use mathlib.Core.Logic.{dite}
 use native.Mathlib.Decide.{ℕ_discrete, dec_le}
@@ -23,10 +23,6 @@ use Rattle.turn_lock.proofs.Steps.{at_append, each_set, idle_ne}
 
 off : false ≡ true → ⊥
 off e = cc
-
-or_cases : (a b : Bool) → (a || b) ≡ true → (a ≡ true) ⊎ (b ≡ true)
-or_cases true b e = inl refl
-or_cases false b e = inr e
 
 module _ {S : Type 0} (entries : S → List Entry) (terms : S → Terms) (passes : ℕ) (t : Terms) where
   pub begins : (x : S) → entries x ≡ [] → terms x ≡ t → 0 < passes → passes < 65536 → Kept entries terms passes t (opening (0 ∷ 0 ∷ 0 ∷ []) (Some x ∷ []) (first_view t))
