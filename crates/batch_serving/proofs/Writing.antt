@@ -1,5 +1,5 @@
 -- What was written, by the texts that are due.
-use Rattle.std.proofs.Common.{◌≡◌, ℕ, List, Option, Result, Ok, Err, refl, subst, sym}
+use Rattle.std.proofs.Common.{◌≡◌, ℕ, List, Option, Result, Ok, Err, ap, refl, subst, sym}
 use Rattle.std.specs.Prelude.{◌≢◌, IfOk}
 use Rattle.std.specs.Io.KnownBytes.{Appends}
 use Rattle.batch_io.specs.Faults.{Rose}
@@ -81,13 +81,15 @@ module _ {K : Type 0} (written : K → Option (List ℕ)) (faults : K → ℕ) (
       (λ due said s. (s.0, subst (IsReplyTo plan) (sym s.1) is))
 
   -- the reply to what was read, where it was answered
-  pub reply_told : {P A E : Type 0} (IsReplyTo : P → List ℕ → Type 0) (plan : P) (text_of : A → List ℕ)
-      (answered : Result A E) (outcome : Outcome) → IfOk answered (λ a. IsReplyTo plan (text_of a))
+  pub reply_told : {P A E : Type 0} (IsReplyTo : P → List ℕ → Type 0) (read : Result P BadBatch) (plan : P)
+      (text_of : A → List ℕ) (answered : Result A E) (outcome : Outcome) → read ≡ Ok plan
+      → IfOk answered (λ a. IsReplyTo plan (text_of a))
       → Writes written faults old new (SaysReply text_of answered) outcome
-      → Writes written faults old new (AnswersBy IsReplyTo (Ok plan)) outcome
-  reply_told IsReplyTo plan text_of answered outcome is =
-      due_as (SaysReply text_of answered) (AnswersBy IsReplyTo (Ok plan)) outcome
-      (said_reply IsReplyTo plan text_of answered is)
+      → Writes written faults old new (AnswersBy IsReplyTo read) outcome
+  reply_told IsReplyTo read plan text_of answered outcome is_read is w =
+      subst (λ r. Writes written faults old new (AnswersBy IsReplyTo r) outcome) (sym is_read)
+      (due_as (SaysReply text_of answered) (AnswersBy IsReplyTo (Ok plan)) outcome
+      (said_reply IsReplyTo plan text_of answered is) w)
 
   -- what is told of an input that couldn't be read
   pub fault_told : (IsDue : Outcome → List ℕ → Type 0) (fault : ReadBatchFault) (outcome : Outcome)
@@ -101,15 +103,17 @@ module _ {K : Type 0} (written : K → Option (List ℕ)) (faults : K → ℕ) (
       go (read_faults.Bad b) is due text said = told b is due text said
       go read_faults.OutOfMemory is due text said = absurd said
 
-  pub bad_told : {P : Type 0} (IsReplyTo : P → List ℕ → Type 0) (read : Result P BadBatch)
+  pub bad_told : {A P : Type 0} (IsReplyTo : P → List ℕ → Type 0) (read : Result P BadBatch)
       (fault : ReadBatchFault) (outcome : Outcome)
-      → ((line : ℕ) (reason : Reason) → fault ≡ read_faults.Bad (record { line = line; reason = reason })
+      → ((line : ℕ) (reason : Reason)
+      → ◌≡◌ {A = Result A ReadBatchFault} (Err fault) (Err (read_faults.Bad (record { line = line; reason = reason })))
       → read ≡ bad line reason)
       → Writes written faults old new (SaysFault fault) outcome
       → Writes written faults old new (AnswersBy IsReplyTo read) outcome
   bad_told IsReplyTo read fault outcome is =
       fault_told (AnswersBy IsReplyTo read) fault outcome
-      (λ b e due text told. subst (λ r. AnswersBy IsReplyTo r due text) (sym (is b.line b.reason e)) told)
+      (λ b e due text told. subst (λ r. AnswersBy IsReplyTo r due text)
+      (sym (is b.line b.reason (ap (λ f. Err f) e))) told)
 
 -- nothing is written for want of memory
 pub unwritten : {K : Type 0} (written : K → Option (List ℕ)) (faults : K → ℕ) (sink : K)

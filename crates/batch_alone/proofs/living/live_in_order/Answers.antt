@@ -1,4 +1,4 @@
-use Rattle.std.proofs.Common.{◌∙◌, Ok, Err, ap, subst, sym}
+use Rattle.std.proofs.Common.{◌∙◌, Ok, ap, subst, sym}
 use Rattle.batch_plans.specs.declared.plan.Plan.{Plan}
 use Rattle.request_frames.specs.Live.{live}
 use Rattle.context_table.specs.ReplyTo.{IsLiveReply}
@@ -17,5 +17,4 @@ returns-in-Ok g c =
 pub returns-in-Err : goal.returns-in-Err
 returns-in-Err g c =
     bad_told g.K.Sink.written g.K.Sink.faults c.args.sink.now c.tell_fault.new.sink IsLiveReply
-    (live c.args.input.now) c.in-Err.fault c.tell_fault.result
-    (λ line reason e. c.in-Err.ensures.bad line reason (ap (λ fault. Err fault) e)) c.tell_fault.ensures
+    (live c.args.input.now) c.in-Err.fault c.tell_fault.result c.in-Err.ensures.bad c.tell_fault.ensures

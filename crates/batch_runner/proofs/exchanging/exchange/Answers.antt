@@ -1,4 +1,4 @@
-use Rattle.std.proofs.Common.{Err, ap, subst, sym}
+use Rattle.std.proofs.Common.{subst, sym}
 use Rattle.capsule_frames.specs.Capsules.{capsules}
 use Rattle.capsule_frames.specs.Replies.{IsCapsuleReply}
 use Rattle.batch_serving.specs.Text.{AnswersBy}
@@ -14,5 +14,4 @@ returns-in-Ok g c =
 pub returns-in-Err : goal.returns-in-Err
 returns-in-Err g c =
     bad_told g.K.Sink.written g.K.Sink.faults c.args.sink.now c.tell_fault.new.sink IsCapsuleReply
-    (capsules c.args.input.now) c.in-Err.fault c.tell_fault.result
-    (λ line reason e. c.in-Err.ensures.bad line reason (ap (λ fault. Err fault) e)) c.tell_fault.ensures
+    (capsules c.args.input.now) c.in-Err.fault c.tell_fault.result c.in-Err.ensures.bad c.tell_fault.ensures

@@ -1,4 +1,4 @@
-use Rattle.std.proofs.Common.{Err, ap, subst, sym}
+use Rattle.std.proofs.Common.{subst, sym}
 use Rattle.request_frames.specs.Live.{live}
 use Rattle.context_table.specs.ReplyTo.{IsLiveReply}
 use Rattle.batch_serving.specs.Text.{AnswersBy}
@@ -9,10 +9,9 @@ use Rattle.batch_runner.proofs.living.answer_live.Goals as goal
 pub returns-in-Ok : goal.returns-in-Ok
 returns-in-Ok g c =
     subst (λ read. Writes g.K.Sink.written g.K.Sink.faults c.args.sink.now c.tell_live_run-outcome.new.sink
-    (AnswersBy (IsLiveReply) read) c.tell_live_run-outcome.result) (sym c.in-Ok.ensures.plan) c.tell_live_run-outcome.ensures
+    (AnswersBy IsLiveReply read) c.tell_live_run-outcome.result) (sym c.in-Ok.ensures.plan) c.tell_live_run-outcome.ensures
 
 pub returns-in-Err : goal.returns-in-Err
 returns-in-Err g c =
-    bad_told g.K.Sink.written g.K.Sink.faults c.args.sink.now c.tell_fault.new.sink (IsLiveReply)
-    (live c.args.input.now) c.in-Err.fault c.tell_fault.result
-    (λ line reason e. c.in-Err.ensures.bad line reason (ap (λ fault. Err fault) e)) c.tell_fault.ensures
+    bad_told g.K.Sink.written g.K.Sink.faults c.args.sink.now c.tell_fault.new.sink IsLiveReply
+    (live c.args.input.now) c.in-Err.fault c.tell_fault.result c.in-Err.ensures.bad c.tell_fault.ensures
