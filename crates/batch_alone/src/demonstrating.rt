@@ -7,7 +7,7 @@ ghost use Rattle.batch_serving.specs.Effects.{Writes};
 ghost use Rattle.batch_serving.specs.Text.{Demonstrates};
 
 use batch_io::Sink;
-use batch_serving::{Outcome, tell_report};
+use batch_serving::{Outcome, tell_demonstration};
 use context_core::laws::every_rehearsal_is_allowed;
 use context_core::rehearse_by;
 use demo_runs::{
@@ -71,8 +71,5 @@ pub(crate) fn demonstrate<C: Crew, K: Sink>(
     requires lanes { (0 < lanes) × (lanes ≤ 16) }
     ensures { Writes K.written K.faults sink.old sink.new (Demonstrates seed messages) result }
 {
-    match demo(crew, alloc, seed, messages, lanes) {
-        Ok(report) => tell_report(&report, sink),
-        Err(_) => Outcome::OutOfMemory,
-    }
+    tell_demonstration(demo(crew, alloc, seed, messages, lanes), sink)
 }

@@ -7,7 +7,7 @@ ghost use Rattle.batch_serving.specs.Effects.{Writes};
 ghost use Rattle.batch_serving.specs.Text.{Demonstrates};
 
 use batch_io::{Gate, Sink};
-use batch_serving::{Outcome, tell_report};
+use batch_serving::{Outcome, tell_demonstration};
 use demo_runs::{
     DemoBatch, DemoReport, Sealing, ServedBatch, begin_opening, begin_sealing, ciphertexts, report,
     report_without_key,
@@ -77,8 +77,5 @@ pub(crate) fn demonstrate<R: Threads + Wait + Sync, K: Sink, G: Gate + Sync>(
     requires lanes { (0 < lanes) × (lanes ≤ 16) }
     ensures { Writes K.written K.faults sink.old sink.new (Demonstrates seed messages) result }
 {
-    match demo(rt, alloc, seed, messages, lanes, gate) {
-        Ok(report) => tell_report(&report, sink),
-        Err(_) => Outcome::OutOfMemory,
-    }
+    tell_demonstration(demo(rt, alloc, seed, messages, lanes, gate), sink)
 }

@@ -31,6 +31,6 @@ pub use laws::written_replies_are_legal;
 pub use multipliers::Named;
 pub use outcomes::{Outcome, status};
 pub use reading::{ReadStop, read_input};
-pub use replying::{tell_answered, tell_exchange, tell_live_run};
+pub use replying::{tell_answered, tell_demonstration, tell_exchange, tell_live_run};
 pub use setting_up::{Begun, begin};
-pub use telling::{tell_fault, tell_report};
+pub use telling::tell_fault;

@@ -1,17 +1,19 @@
 //! What was answered, written as a reply if there was memory for it.
 
-ghost use Rattle.std.specs.Prelude.{IfOk, Ok};
+ghost use Rattle.std.specs.Prelude.{◌≤◌, ℕ, IfOk, Ok};
 ghost use Rattle.batch_plans.specs.AnswersText.{answers_text, IsAnswered, live_text};
 ghost use Rattle.context_table.specs.ReplyTo.{IsLiveReply};
 ghost use Rattle.capsule_frames.specs.Replies.{AreReplies, IsCapsuleReply};
+ghost use Rattle.demo_runs.specs.Demo.{IsDemo};
 ghost use Rattle.batch_serving.specs.Effects.{SaysReply, Writes};
-ghost use Rattle.batch_serving.specs.Text.{AnswersBy};
+ghost use Rattle.batch_serving.specs.Text.{AnswersBy, Demonstrates};
 
 use crate::outcomes::Outcome;
-use crate::telling::{tell_answers, tell_capsules, tell_live};
+use crate::telling::{tell_answers, tell_capsules, tell_live, tell_report};
 use batch_io::Sink;
 use batch_plans::{Answers, Plan};
 use capsule_frames::{CapsuleAnswers, CapsulePlan};
+use demo_runs::DemoReport;
 use std::alloc::AllocError;
 
 /// Writes the replies to a plan.
@@ -72,6 +74,18 @@ pub fn tell_exchange<K: Sink>(
             drop(answers);
             outcome
         }
+        Err(_) => Outcome::OutOfMemory,
+    }
+}
+
+/// Writes the report of a demonstration.
+pub fn tell_demonstration<K: Sink>(demo: Result<DemoReport, AllocError>, sink: &mut K) -> Outcome
+    requires { IfOk demo (λ report. report.opened ≤ report.messages) }
+    ensures { (seed messages : ℕ) → IfOk demo (IsDemo seed messages)
+        → Writes K.written K.faults sink.old sink.new (Demonstrates seed messages) result }
+{
+    match demo {
+        Ok(report) => tell_report(&report, sink),
         Err(_) => Outcome::OutOfMemory,
     }
 }

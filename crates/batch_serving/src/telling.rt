@@ -74,7 +74,7 @@ pub(crate) fn tell_verdict<K: Sink>(verdict: Verdict, sink: &mut K) -> Outcome
 
 /// Writes the report of a demonstration.
 #[inline(never)]
-pub fn tell_report<K: Sink>(report: &DemoReport, sink: &mut K) -> Outcome
+pub(crate) fn tell_report<K: Sink>(report: &DemoReport, sink: &mut K) -> Outcome
     requires { report.now.opened ≤ report.now.messages }
     ensures { Writes K.written K.faults sink.old sink.new
         (Says Outcome.Done (report_text report.now)) result }

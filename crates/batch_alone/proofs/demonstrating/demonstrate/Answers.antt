@@ -1,23 +1,4 @@
-use Rattle.demo_runs.specs.Demo.{report_text}
-use Rattle.batch_serving.specs.declared.outcomes.Outcome.TheVariants.{Done}
-use Rattle.batch_serving.specs.Effects.{Says}
-use Rattle.batch_serving.specs.Text.{Demonstrates}
-use Rattle.batch_serving.proofs.Writing.{due_as, unwritten}
 use Rattle.batch_alone.proofs.demonstrating.demonstrate.Goals as goal
 
-pub returns-in-Ok : goal.returns-in-Ok
-returns-in-Ok g c =
-    let report = c.in-Ok.report in
-    due_as g.K.Sink.written g.K.Sink.faults c.args.sink.now c.tell_report.new.sink
-    (Says Done (report_text report)) (Demonstrates c.args.seed c.args.messages) c.tell_report.result
-    (λ due text says. record {
-      report = report;
-      is = c.in-Ok.ensures.report;
-      outcome_is = says.0;
-      text_is = says.1;
-    }) c.tell_report.ensures
-
-pub returns-in-Err : goal.returns-in-Err
-returns-in-Err g c =
-    unwritten g.K.Sink.written g.K.Sink.faults c.args.sink.now
-    (Demonstrates c.args.seed c.args.messages)
+pub returns : goal.returns
+returns g c = c.tell_demonstration.ensures c.args.seed c.args.messages c.demo.ensures.report
