@@ -1,13 +1,13 @@
 -- Marks of one journal: from a legal history to each of its journals.
 use Rattle.std.proofs.Common.{◌≡◌, ℕ, zero, suc, ◌+◌, ◌<◌, ◌≤◌, List, [], ◌∷◌, ◌++◌, length, sym, refl, ap, ◌∙◌, subst, arith, Some, None, inl, inr}
-use Rattle.std.specs.Prelude.{slice_get, slice_index_or}
+use Rattle.std.specs.Prelude.{slice_get, slice_index_or, Contains}
 use Rattle.std.proofs.lemmas.List.{length-map}
 use Rattle.call_places.specs.declared.entries.Place.{Place}
 use Rattle.call_places.specs.declared.entries.Mark.{Mark}
 use Rattle.call_places.specs.Orders.{IsBefore}
 use Rattle.context_books.specs.Batches.{Batch, block, place}
 use Rattle.context_books.specs.Legal.{StandTogether, Legal}
-use Rattle.context_books.specs.Histories.{mark, places, marks_at, HasLowerStamp, LegalHistory}
+use Rattle.context_books.specs.Histories.{mark, places, marks_at, HasLowerStamp, LegalMarks, LegalHistory}
 use Rattle.context_books.proofs.Members.{in_contains, got, value_at, contains_at, RisesBy, rises_pairs, pairs_at}
 use Rattle.context_books.specs.Lists.{In}
 use Rattle.context_books.proofs.Places.{either_before}
@@ -62,10 +62,11 @@ stand_together (m ∷ ms) lane call (suc n) first r h = elim (h 0 (omega arith))
       ]) in (m.place ∷ t.0, t.1, ap (λ ps. m.place ∷ ps) t.2))
 ]
 
-pub legal_alone : (batch : Batch) (journals : List (List Mark)) (context : ℕ) → LegalHistory batch journals → Legal batch context (places (marks_at journals context))
-legal_alone batch journals context t =
-    let ms = marks_at journals context in
-    let here = t.each context in
+-- what is legal of the marks of one context is legal of their places
+pub marks_alone : (batch : Batch) (context : ℕ) (ms : List Mark) → LegalMarks batch context ms
+    → ((m k : Mark) → Contains ms m → Contains ms k → m.place.lane ≡ k.place.lane → IsBefore m.place k.place → HasLowerStamp m k)
+    → Legal batch context (places ms)
+marks_alone batch context ms here order =
     record {
       served = here.served;
       once = here.once;
@@ -81,7 +82,7 @@ legal_alone batch journals context t =
             | inr e ↦ absurd (here.once i j d low few (p ∙ e ∙ sym q))
             | inl o ↦ elim o [
               | inl b ↦ b
-              | inr b ↦ absurd (let f : k.0.stamp < m.0.stamp = t.in_order context context k.0 m.0 (contains_at ms j k.0 k.1) (contains_at ms i m.0 m.1) (sym same) b in omega arith)
+              | inr b ↦ absurd (let f : k.0.stamp < m.0.stamp = order k.0 m.0 (contains_at ms j k.0 k.1) (contains_at ms i m.0 m.1) (sym same) b in omega arith)
             ]
           ] in
           subst (λ x. IsBefore x (slice_index_or (places ms) j d)) (sym p) (subst (IsBefore m.0.place) (sym q) before);
@@ -90,3 +91,7 @@ legal_alone batch journals context t =
           stand_together ms lane call n c.0 (rises_pairs HasLowerStamp ms here.rise)
           (λ i few. subst (λ k. In (mark (place lane call k) (c.0 + i)) ms) (let e : i ≡ 0 + i = omega arith in e) (in_contains ms (mark (place lane call i) (c.0 + i)) (c.1 i few)));
     }
+
+pub legal_alone : (batch : Batch) (journals : List (List Mark)) (context : ℕ) → LegalHistory batch journals → Legal batch context (places (marks_at journals context))
+legal_alone batch journals context t =
+    marks_alone batch context (marks_at journals context) (t.each context) (t.in_order context context)
