@@ -2,7 +2,7 @@
 -- are for a grammar that has them besides, and whose calls name such contexts.
 use Rattle.std.specs.Prelude.{ℕ, ◌+◌, List, [], ◌∷◌, ◌++◌, length, Result}
 use Rattle.field_text.specs.declared.reasons.Reason.{Reason}
-use Rattle.field_text.specs.Fields.{next, exactly}
+use Rattle.field_text.specs.Fields.{◌>>=◌, next, exactly}
 use Rattle.batch_plans.specs.declared.plan.Plan.{Plan}
 use Rattle.batch_plans.specs.declared.plan.CallLine.TheVariants.{Add, Retire}
 use Rattle.batch_plans.specs.Limits.{most_contexts}
