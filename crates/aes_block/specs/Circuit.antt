@@ -2,7 +2,7 @@
 -- The S-box as a circuit (Boyar and Peralta's, of 115 gates) without its four complements, so that the
 -- constant of the affine map is left out: d is the element that a list too short gives, x is the sum of
 -- bits and a their product.
-use Rattle.std.specs.Prelude.{ℕ, List, [], ◌∷◌, slice_index_or}
+use Rattle.std.specs.Prelude.{List, [], ◌∷◌, slice_index_or}
 
 unfoldable pub outer_sums : {A : Type 0} → A → (A → A → A) → (A → A → A) → List A → List A
 outer_sums d x a q =

@@ -1,6 +1,5 @@
 -- Lists of places and spots: the part of one lane, the part on one context.
 use Rattle.std.proofs.Common.{◌≡◌, ◌≢◌, ℕ, zero, suc, ◌+◌, ◌==◌, Bool, true, false, cond, List, [], ◌∷◌, ◌++◌, length, sym, refl, ap, ◌∙◌, arith, append_assoc, eq-eqb, ne_eqb}
-use Rattle.std.specs.Prelude.{filter, slice_get, slice_set}
 use Rattle.std.proofs.lemmas.List.Elements.{filter-append}
 use Rattle.call_places.specs.declared.entries.Place.{Place}
 use Rattle.context_books.specs.Batches.{Ask, items_in, context_in, Spot, spots, block, place, asked, on, own_places}

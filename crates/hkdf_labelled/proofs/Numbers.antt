@@ -1,5 +1,5 @@
 -- The AEAD of a number has that number.
-use Rattle.std.proofs.Common.{◌≡◌, ℕ, ◌==◌, Bool, cond, false, true, Option, None, Some, refl, sym, ap, ◌∙◌, arith}
+use Rattle.std.proofs.Common.{◌≡◌, ℕ, ◌==◌, Bool, cond, false, true, Option, None, Some, refl, sym, ap, ◌∙◌}
 use Rattle.std.proofs.lemmas.Bool.{eqb-true}
 use Rattle.hkdf_labelled.specs.Suites.{aead_id, aead_named}
 use Rattle.hkdf_labelled.specs.declared.suites.Aead.{Aead}

@@ -3,16 +3,14 @@ use Rattle.std.proofs.Common.{◌≡◌, ℕ, zero, suc, ◌+◌, ◌-◌, ◌*�
 use Rattle.std.specs.Prelude.{unsigned_abs}
 use Rattle.std.specs.Int.{w8}
 use Rattle.std.specs.Int.Bits.{xor_assoc, xor_self, xor_zero_r}
-use Rattle.std.specs.Int.RustNames.{FitsSigned}
 use Rattle.std.proofs.lemmas.Bool.{cases_lt}
-use Rattle.std.proofs.lemmas.Int.{ints, to_z-of_z, fits_signed_from_abs}
+use Rattle.std.proofs.lemmas.Int.{to_z-of_z, fits_signed_from_abs}
 use Rattle.std.proofs.lemmas.List.{length-map, same_lists, get_or_default, get_or-drop}
 use Rattle.std.proofs.lemmas.Nat.{and_le_r, and_mask, xor_comm, xor_of_8}
 use Rattle.std.proofs.lemmas.Simd.{length-chunk, get_or-chunk, get_or-put_chunk_below, get_or-put_chunk_at, Each1-from_get_or}
 use lib.Lanes.{zip2, chunk, put_chunk, Each1}
 use lib.ListN.{replicate, get_or}
 use mir.Val.{Fits}
-use Rattle.ring_core.specs.Product.{coefficients}
 use Rattle.ring_core.specs.Bounds.{IsWithin}
 
 pub xor_back : (a b : ℕ) → bit_xor (bit_xor a b) b ≡ a

@@ -9,7 +9,7 @@ use native.Mathlib.Decide.{ℕ_discrete}
 use native.Mathlib.Nat.{mod-eq_of_lt}
 use lib.ListN.{get_elem?}
 use prog.Atomic.{either}
-use Rattle.atomic_table.specs.Table.{State, Me, Act, keeps, takes, gives, Allows, Splits, Joins}
+use Rattle.atomic_table.specs.Table.{State, Me, keeps, takes, gives, Allows, Splits}
 use Rattle.atomic_table.proofs.Lists.{at_set, at_snoc, set_here, set_else, set_again, at_longer}
 use Rattle.call_places.specs.declared.entries.Entry.{Entry}
 use Rattle.call_places.specs.Entries.{own, IsOwn}

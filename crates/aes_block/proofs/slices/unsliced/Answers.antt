@@ -1,4 +1,4 @@
-use Rattle.std.proofs.Common.{◌≡◌, ◌<◌, ◌∷◌, [], ◌∙◌, ℕ, List, get_or, arith}
+use Rattle.std.proofs.Common.{◌≡◌, ◌∷◌, [], ◌∙◌, ℕ, List, get_or}
 use Rattle.aes_block.specs.Sliced.{moved, lane_of}
 use Rattle.aes_block.proofs.States.{eight}
 use Rattle.aes_block.proofs.Turning.{block_is}

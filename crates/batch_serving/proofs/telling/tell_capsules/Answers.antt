@@ -1,4 +1,4 @@
-use Rattle.std.proofs.Common.{◌≡◌, ℕ, List, ap, subst}
+use Rattle.std.proofs.Common.{ℕ, List, ap, subst}
 use Rattle.capsule_frames.specs.Text.{capsules_text}
 use Rattle.batch_serving.specs.declared.outcomes.Outcome.TheVariants.{Done}
 use Rattle.batch_serving.specs.Effects.{Says, Writes}

@@ -1,4 +1,4 @@
-use Rattle.std.proofs.Common.{ℤ, List, length, pos, ◌≡◌, ◌++◌, sym, subst}
+use Rattle.std.proofs.Common.{ℤ, List, length, sym, subst}
 use Rattle.ring_core.specs.Bounds.{IsWithin}
 use Rattle.sntrup_core.proofs.Masks.{within_padded}
 use Rattle.sntrup_core.proofs.choosing.padded.Goals as goal
