@@ -2,17 +2,15 @@
 
 ghost use Rattle.std.specs.Prelude.{◌≤◌, length, vec_len, IfOk};
 
-use crate::expected::assert_same;
+use crate::expected::{array_of, assert_same};
 use aes_gcm::MayCheck;
 use batch_io::MemorySink;
 use capsule_frames::{print_capsules, read_capsules, serve_capsules, serve_capsules_alone};
 use field_text::Printed;
-use hex::FromHex;
 use ring_core::Plain;
 use sha2::{Digest, Sha256};
 use std::alloc::Global;
 use std::process::Abort;
-use std::test::Fail;
 use std::thread::Threads;
 
 // The seed of 32 zero bytes.
@@ -28,7 +26,7 @@ struct ReplyCase {
 }
 
 // Own, by tools/vectors/capsule_replies.py (Python 3.11.7, cryptography 48.0.0).
-const REPLIES: [ReplyCase; 12] = [
+static REPLIES: [ReplyCase; 12] = [
     ReplyCase {
         what: "a whole exchange",
         key: b"keygen\n",
@@ -127,80 +125,85 @@ fn hash_of_reply<R: Threads + Abort + Sync>(
     Sha256::digest(sink.bytes())
 }
 
-#[test]
-fn replies_are_those_of_another_program(rt: HostRuntime) -> Result<(), Fail> {
-    for case in &REPLIES {
-        let what = case.what;
-        let mut text = Vec::from_slice(rt.alloc(), HEAD)?;
-        text.extend_from_slice(case.key)?;
-        text.extend_from_slice(case.lines)?;
-        text.extend_from_slice(b"end\n")?;
-        let want = <[u8; 32]>::from_hex(case.sha256)?;
-        for alone in [false, true] {
-            let got = hash_of_reply(&rt, rt.alloc(), &text, alone);
-            assert_same(&rt, got, want, what);
-        }
+// Adds the bytes so many times.
+fn put(rt: &impl Abort, text: &mut Vec<u8>, bytes: &[u8], times: usize) {
+    for _ in 0..times {
+        text.extend_from_slice(bytes).expect(rt, "memory");
     }
-    Ok(())
+}
+
+fn assert_reply<R: Threads + Abort + Sync>(rt: &R, alloc: Global, case: &ReplyCase) {
+    let mut text = Vec::new(alloc);
+    for part in [HEAD, case.key, case.lines, b"end\n"] {
+        put(rt, &mut text, part, 1);
+    }
+    let want: [u8; 32] = array_of(rt, case.sha256);
+    for alone in [false, true] {
+        let got = hash_of_reply(rt, alloc, &text, alone);
+        assert_same(rt, got, want, case.what);
+    }
+}
+
+#[test]
+fn replies_are_those_of_another_program(rt: HostRuntime) {
+    for case in &REPLIES {
+        assert_reply(&rt, rt.alloc(), case);
+    }
 }
 
 // 1,048,576 bytes `ab`.
-fn put_large(text: &mut Vec<u8>) -> Result<(), Fail> {
-    for _byte in 0..1_048_576 {
-        text.extend_from_slice(b"ab")?;
-    }
-    text.extend_from_slice(b"\n")?;
-    Ok(())
+fn put_large(rt: &impl Abort, text: &mut Vec<u8>) {
+    put(rt, text, b"ab", 1_048_576);
+    put(rt, text, b"\n", 1);
 }
 
-fn put_asks(text: &mut Vec<u8>) -> Result<(), Fail> {
-    text.extend_from_slice(b"ask 0 7 1 1 ")?;
-    put_large(text)?;
-    for _line in 1..256 {
-        text.extend_from_slice(b"ask 0 7 1 1 -\n")?;
-    }
-    Ok(())
+fn put_asks(rt: &impl Abort, text: &mut Vec<u8>) {
+    put(rt, text, b"ask 0 7 1 1 ", 1);
+    put_large(rt, text);
+    put(rt, text, b"ask 0 7 1 1 -\n", 255);
 }
 
-fn put_answers(alloc: Global, text: &mut Vec<u8>) -> Result<(), Fail> {
-    text.extend_from_slice(b"answer 0 7 @0 aaaaaaaaaaaaaaaaaaaaaaaaaaaaaaaa ")?;
-    put_large(text)?;
+fn put_answers(rt: &impl Abort, alloc: Global, text: &mut Vec<u8>) {
+    put(
+        rt,
+        text,
+        b"answer 0 7 @0 aaaaaaaaaaaaaaaaaaaaaaaaaaaaaaaa ",
+        1,
+    );
+    put_large(rt, text);
     for number in 1..256 {
-        let line = format!(in alloc; "answer 0 7 @{number} aaaaaaaaaaaaaaaaaaaaaaaaaaaaaaaa -\n")?;
-        text.extend_from_slice(line.as_bytes())?;
+        let line = format!(in alloc; "answer 0 7 @{number} aaaaaaaaaaaaaaaaaaaaaaaaaaaaaaaa -\n");
+        put(rt, text, line.expect(rt, "memory").as_bytes(), 1);
     }
-    Ok(())
 }
 
-fn put_takes(alloc: Global, text: &mut Vec<u8>) -> Result<(), Fail> {
+fn put_takes(rt: &impl Abort, alloc: Global, text: &mut Vec<u8>) {
     for number in 0..256 {
-        let line = format!(in alloc; "take {number} @{number}\n")?;
-        text.extend_from_slice(line.as_bytes())?;
+        let line = format!(in alloc; "take {number} @{number}\n").expect(rt, "memory");
+        put(rt, text, line.as_bytes(), 1);
     }
-    Ok(())
 }
 
 // 256 exchanges, the first with texts of 1,048,576 bytes, the others with none.
-fn large_batch(alloc: Global) -> Result<Vec<u8>, Fail> {
-    let mut text = Vec::from_slice(alloc, HEAD)?;
-    text.extend_from_slice(b"keygen\n")?;
-    put_asks(&mut text)?;
-    put_answers(alloc, &mut text)?;
-    put_takes(alloc, &mut text)?;
-    text.extend_from_slice(b"end\n")?;
-    Ok(text)
+fn large_batch(rt: &impl Abort, alloc: Global) -> Vec<u8> {
+    let mut text = Vec::new(alloc);
+    put(rt, &mut text, HEAD, 1);
+    put(rt, &mut text, b"keygen\n", 1);
+    put_asks(rt, &mut text);
+    put_answers(rt, alloc, &mut text);
+    put_takes(rt, alloc, &mut text);
+    put(rt, &mut text, b"end\n", 1);
+    text
 }
 
 // Own, by tools/vectors/capsule_replies.py large.
 #[test]
-fn the_largest_texts_and_256_lines_of_each_kind_are_answered(rt: HostRuntime) -> Result<(), Fail> {
-    let text = large_batch(rt.alloc())?;
+fn the_largest_texts_and_256_lines_of_each_kind_are_answered(rt: HostRuntime) {
+    let text = large_batch(&rt, rt.alloc());
     let got = hash_of_reply(&rt, rt.alloc(), &text, false);
-    assert_same(
+    let want = array_of(
         &rt,
-        got,
-        <[u8; 32]>::from_hex("7e0f38ef629822b925dfd66c09226ce5be1bc3a1e9e3206bd59c27fecffa6c95")?,
-        "the reply",
+        "7e0f38ef629822b925dfd66c09226ce5be1bc3a1e9e3206bd59c27fecffa6c95",
     );
-    Ok(())
+    assert_same(&rt, got, want, "the reply");
 }

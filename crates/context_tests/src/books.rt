@@ -3,14 +3,14 @@
 
 use crate::expected::{assert_at, assert_same};
 use crate::messages::{
-    CALL, FIRST_STAMP, LANE, Message, POOL, Settled, context_of, items_of, settle_three,
+    CALL, FIRST_STAMP, LANE, Message, Settled, context_of, items_of, pool_of, settle_three,
 };
 use call_places::{Entry, Listed, Place, Step};
 use context_books::{Book, Draw};
-use hex::FromHex;
 use key_schedule::Role;
+use std::alloc::Global;
 use std::process::Abort;
-use std::test::Fail;
+use std::thread::Threads;
 
 struct OpeningCase {
     name: &'static str,
@@ -97,18 +97,21 @@ fn expect_entries(rt: &impl Abort, entries: &[Entry], case: &OpeningCase) {
 }
 
 #[test]
-fn items_are_opened_one_after_another(rt: HostRuntime) -> Result<(), Fail> {
-    let pool = <[u8; 149]>::from_hex(POOL)?;
+fn items_are_opened_one_after_another(rt: HostRuntime) {
     for case in &OPENINGS {
-        let (limit, guess) = (case.limit, case.guess);
-        assert!(rt; 1 <= limit && guess <= limit);
-        let context = context_of(&rt, Role::Recipient, limit);
-        let items = items_of(case.messages);
-        let settled = settle_three(&rt, rt.alloc(), &context, &pool, &items, guess)?;
-        expect(&rt, &settled, case);
-        expect_entries(&rt, settled.entries.as_slice(), case);
+        assert_opening(&rt, rt.alloc(), case);
     }
-    Ok(())
+}
+
+fn assert_opening<R: Abort + Threads + Sync>(rt: &R, alloc: Global, case: &OpeningCase) {
+    let pool = pool_of(rt);
+    let (limit, guess) = (case.limit, case.guess);
+    assert!(rt; 1 <= limit && guess <= limit);
+    let context = context_of(rt, Role::Recipient, limit);
+    let items = items_of(case.messages);
+    let settled = settle_three(rt, alloc, &context, &pool, &items, guess);
+    expect(rt, &settled, case);
+    expect_entries(rt, settled.entries.as_slice(), case);
 }
 
 const SEALED: Entry = Entry {
@@ -132,22 +135,13 @@ const REFUSED: Entry = Entry {
 };
 
 #[test]
-fn numbers_are_drawn_up_to_the_limit(rt: HostRuntime) -> Result<(), Fail> {
-    let mut book = Book::new(rt.alloc(), 1, &[1, 1])?;
-    assert_same(
-        &rt,
-        book.draw(SEALED.place, 3),
-        Draw::Number(0),
-        "the last number",
-    );
-    assert_same(
-        &rt,
-        book.draw(REFUSED.place, 5),
-        Draw::Limit,
-        "past the limit",
-    );
+fn numbers_are_drawn_up_to_the_limit(rt: HostRuntime) {
+    let mut book = Book::new(rt.alloc(), 1, &[1, 1]).expect(&rt, "memory");
+    let drawn = book.draw(SEALED.place, 3);
+    assert_same(&rt, drawn, Draw::Number(0), "the last number");
+    let drawn = book.draw(REFUSED.place, 5);
+    assert_same(&rt, drawn, Draw::Limit, "past the limit");
     assert_same(&rt, book.seq(), 1, "sequence number");
     assert_same(&rt, book.entries(), &[SEALED, REFUSED][..], "entries");
     assert_same(&rt, book.last_entry(), Some(REFUSED), "last entry");
-    Ok(())
 }

@@ -1,6 +1,6 @@
 //! A context of RFC 9180, A.1.1, and messages that were sealed in it, opened by a new book.
 
-ghost use Rattle.std.specs.Prelude.{◌≡◌, ◌≤◌, All, IfOk, length, sum_by};
+ghost use Rattle.std.specs.Prelude.{◌≡◌, ◌≤◌, All, length, sum_by};
 ghost use Rattle.key_schedule.specs.declared.modes.Role.{Role};
 ghost use Rattle.hpke_context.specs.Contexts.{cipher_of};
 ghost use Rattle.hpke_context.specs.Calls.{HasCipher};
@@ -10,17 +10,16 @@ ghost use Rattle.context_books.specs.Openings.{IsTableFor, unseals};
 ghost use Rattle.batch_plans.specs.Room.{opened_room};
 ghost use Rattle.context_tests.specs.SmallPlans.{IsOfTests};
 
+use crate::expected::array_of;
 use aes_gcm::Checks;
 use call_places::{Entry, Item, Span, Step};
 use context_books::Book;
-use hex::FromHex;
 use hkdf_labelled::{Aead, Kdf, Prk, Suite};
 use hpke_context::Context;
 use key_schedule::{CipherSecrets, Role, Secrets};
 use speculative_open::GuessTable;
 use std::alloc::Global;
 use std::process::Abort;
-use std::test::Fail;
 use std::thread::Threads;
 
 pub(crate) const SUITE: Suite = Suite {
@@ -35,27 +34,31 @@ pub(crate) fn context_of(rt: &impl Abort, role: Role, limit: u64) -> Context
     ensures parts { IsOfTests role limit result }
     ensures cipher { HasCipher result }
 {
-    let key = <[u8; 16]>::from_hex("4531685d41d65f03dc48f6b8302c05b0");
-    let base_nonce = <[u8; 12]>::from_hex("56d890e5accaaf011cff4b7d");
-    let exporter = <[u8; 32]>::from_hex(
+    let exporter: [u8; 32] = array_of(
+        rt,
         "45ff1c2e220db587171952c0592d5f5ebe103f1561a2614e38f2ffd47e99e3f8",
     );
     let secrets = Secrets {
         cipher: CipherSecrets::Aes128 {
-            key: key.expect(rt, "hex"),
-            base_nonce: base_nonce.expect(rt, "hex"),
+            key: array_of(rt, "4531685d41d65f03dc48f6b8302c05b0"),
+            base_nonce: array_of(rt, "56d890e5accaaf011cff4b7d"),
         },
-        exporter: Prk::from_slice(&exporter.expect(rt, "hex")),
+        exporter: Prk::from_slice(&exporter),
     };
     Context::new(role, SUITE, secrets, limit)
 }
 
 /// Both aads and ciphertexts of RFC 9180, A.1.1.1, with the sequence numbers 0 and 1, and the second
 /// ciphertext with the last bit of its tag changed.
-pub(crate) const POOL: &str = "436f756e742d30436f756e742d31\
+const POOL: &str = "436f756e742d30436f756e742d31\
     f938558b5d72f1a23810b4be2ab4f84331acc02fc97babc53a52ae8218a355a96d8770ac83d07bea87e13c512a\
     af2d7e9ac9ae7e270f46ba1f975be53c09f8d875bdc8535458c2494e8a6eab251c03d0c22a56b8ca42c2063b84\
     af2d7e9ac9ae7e270f46ba1f975be53c09f8d875bdc8535458c2494e8a6eab251c03d0c22a56b8ca42c2063b85";
+
+/// Their bytes.
+pub(crate) fn pool_of(rt: &impl Abort) -> [u8; 149] {
+    array_of(rt, POOL)
+}
 
 /// Those messages.
 #[derive(Clone, Copy)]
@@ -82,25 +85,25 @@ pub(crate) fn item(message: Message) -> Item
 }
 
 /// The verdicts on items of a pool around a guess.
-pub(crate) fn table_for<R: Threads + Sync>(
+pub(crate) fn table_for<R: Abort + Threads + Sync>(
     rt: &R,
     alloc: Global,
     context: &Context,
     pool: &[u8],
     items: &[Item],
     guess: u64,
-) -> Result<GuessTable, Fail>
+) -> GuessTable
     requires spans { All (ItemIsInPool (length pool.now)) items.now }
     requires guess { guess ≤ context.now.limit }
     requires few { length items.now ≤ 4096 }
-    ensures { IfOk result (λ t. IsTableFor context.now pool.now items.now t) }
+    ensures { IsTableFor context.now pool.now items.now result }
 {
     let (Some(key), Some(base_nonce)) = (context.cipher(), context.base_nonce()) else {
-        return Err("a cipher".into());
+        panic!(rt; "a cipher");
     };
-    let mut table = GuessTable::with_room(alloc, items.len())?;
+    let mut table = GuessTable::with_room(alloc, items.len()).expect(rt, "memory");
     table.fill(rt, key, base_nonce, guess, context.limit(), pool, items);
-    Ok(table)
+    table
 }
 
 /// Where three messages stand in the pool.
@@ -134,23 +137,23 @@ pub(crate) struct Settled {
 }
 
 /// Opens three items by a new book, with the verdicts around a guess.
-pub(crate) fn settle_three<R: Threads + Sync>(
+pub(crate) fn settle_three<R: Abort + Threads + Sync>(
     rt: &R,
     alloc: Global,
     context: &Context,
     pool: &[u8],
     items: &[Item; 3],
     guess: u64,
-) -> Result<Settled, Fail>
+) -> Settled
     requires cipher { HasCipher context.now }
     requires limit { 1 ≤ context.now.limit }
     requires guess { guess ≤ context.now.limit }
     requires spans { All (ItemIsInPool (length pool.now)) items.now }
-    ensures { IfOk result (λ s. s.steps
-        ≡ steps_from (cipher_of context.now) s.first (unseals pool.now items.now)) }
+    ensures { result.steps
+        ≡ steps_from (cipher_of context.now) result.first (unseals pool.now items.now) }
 {
-    let table = table_for(rt, alloc, context, pool, items, guess)?;
-    let mut book = Book::new(alloc, context.limit(), &[3])?;
+    let table = table_for(rt, alloc, context, pool, items, guess);
+    let mut book = Book::new(alloc, context.limit(), &[3]).expect(rt, "memory");
     let first = book.seq();
     let mut steps = [Step::SealLimit; 3];
     let mut checks = Checks::new(rt);
@@ -165,12 +168,12 @@ pub(crate) fn settle_three<R: Threads + Sync>(
         &mut steps,
         &mut checks,
     );
-    Ok(Settled {
+    Settled {
         first,
         due: book.seq(),
         steps,
-        entries: Vec::from_slice(alloc, book.entries())?,
+        entries: Vec::from_slice(alloc, book.entries()).expect(rt, "memory"),
         missed,
         checked: checks.count(),
-    })
+    }
 }

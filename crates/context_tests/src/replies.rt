@@ -1,41 +1,39 @@
 //! Published messages and an export, through the pool of a lane's answers.
 
-ghost use Rattle.std.specs.Prelude.{◌≡◌, ◌≤◌, ◌<◌, ◌^◌, All, IfOk, length, sum_by};
+ghost use Rattle.std.specs.Prelude.{◌≡◌, ◌≤◌, ◌<◌, ◌^◌, All, length, sum_by};
 ghost use Rattle.batch_plans.specs.Room.{opened_room};
 ghost use Rattle.hpke_context.specs.Calls.{HasCipher};
 ghost use Rattle.call_places.specs.Spans.{ItemIsInPool};
 
-use crate::expected::assert_same;
-use crate::messages::{Message, POOL, context_of, items_of, settle_three};
+use crate::expected::{array_of, assert_same};
+use crate::messages::{Message, context_of, items_of, pool_of, settle_three};
 use batch_plans::{CallRefusal, LaneAnswers, LaneProgress, PlainList, Reply};
 use call_places::{Item, Span};
 use context_books::{Draw, export, finish_opening, finish_seal, refuse};
-use hex::FromHex;
 use hpke_context::Context;
 use key_schedule::Role;
 use std::alloc::Global;
 use std::process::Abort;
-use std::test::Fail;
 use std::thread::Threads;
 
 // pt of each table of RFC 9180, appendix A.
 const TEXT: &[u8; 29] = b"Beauty is truth, truth beauty";
 
 // A lane with room for so many bytes and replies.
-fn room_for(alloc: Global, bytes: usize, replies: usize) -> Result<LaneProgress, Fail>
+fn room_for(rt: &impl Abort, alloc: Global, bytes: usize, replies: usize) -> LaneProgress
     requires { bytes < 2 ^ 32 }
-    ensures pool { IfOk result (λ p. length p.pool ≡ bytes) }
-    ensures taken { IfOk result (λ p. p.taken ≡ 0) }
-    ensures left { IfOk result (λ p. p.left ≡ replies) }
-    ensures batches { IfOk result (λ p. p.batches_left ≡ 0) }
+    ensures pool { length result.pool ≡ bytes }
+    ensures taken { result.taken ≡ 0 }
+    ensures left { result.left ≡ replies }
+    ensures batches { result.batches_left ≡ 0 }
 {
-    let pool = vec![in alloc; 0u8; bytes]?;
-    let replies = vec![in alloc; Reply::Blank; replies]?;
-    Ok(LaneProgress::new(LaneAnswers {
+    let pool = vec![in alloc; 0u8; bytes].expect(rt, "memory");
+    let replies = vec![in alloc; Reply::Blank; replies].expect(rt, "memory");
+    LaneProgress::new(LaneAnswers {
         pool: PlainList::from_vec(pool),
         replies: PlainList::from_vec(replies),
         batches: PlainList::from_vec(Vec::new(alloc)),
-    }))
+    })
 }
 
 // RFC 9180, A.1.1.1, the ciphertexts of the sequence numbers 0 and 1; own: nothing for a seal at
@@ -46,7 +44,7 @@ const SEALED: &str = "\
     000000000000000000000000000000000000000000000000000000000000000000000000000000000000000000\
     3853fe2b4035195a573ffc53856e77058e15d9ea064de3e59f4961d0095250ee";
 
-const REPLIES: [Reply; 5] = [
+static REPLIES: [Reply; 5] = [
     Reply::Sealed {
         number: 0,
         text: Span { start: 0, len: 45 },
@@ -66,42 +64,36 @@ const REPLIES: [Reply; 5] = [
 ];
 
 #[test]
-fn seals_and_an_export_are_those_published(rt: HostRuntime) -> Result<(), Fail> {
+fn seals_and_an_export_are_those_published(rt: HostRuntime) {
     let context = context_of(&rt, Role::Sender, 2);
-    let mut progress = room_for(rt.alloc(), 167, 5)?;
+    let mut progress = room_for(&rt, rt.alloc(), 167, 5);
     finish_seal(&mut progress, &context, Draw::Number(0), b"Count-0", TEXT);
     finish_seal(&mut progress, &context, Draw::Number(1), b"Count-1", TEXT);
     finish_seal(&mut progress, &context, Draw::Limit, b"Count-2", TEXT);
     export(&mut progress, &context, b"", 32);
     refuse(&mut progress, CallRefusal::Role);
     let answers = progress.finish();
-    assert_same(
-        &rt,
-        answers.replies.as_slice(),
-        REPLIES.as_slice(),
-        "replies",
-    );
-    let bytes = <[u8; 167]>::from_hex(SEALED)?;
-    assert_same(&rt, answers.pool.as_slice(), bytes.as_slice(), "pool");
-    Ok(())
+    assert_same(&rt, answers.replies.as_slice(), &REPLIES[..], "replies");
+    let bytes: [u8; 167] = array_of(&rt, SEALED);
+    assert_same(&rt, answers.pool.as_slice(), &bytes[..], "pool");
 }
 
 // The replies to three items that a new book opens, with room for three texts.
 #[tactic(auto, using(context_books::proofs::Items::one_line_each))]
-fn opened<R: Threads + Sync>(
+fn opened<R: Abort + Threads + Sync>(
     rt: &R,
     alloc: Global,
     context: &Context,
     pool: &[u8],
     items: &[Item; 3],
-) -> Result<LaneAnswers, Fail>
+) -> LaneAnswers
     requires cipher { HasCipher context.now }
     requires limit { 1 ≤ context.now.limit }
     requires spans { All (ItemIsInPool (length pool.now)) items.now }
     requires room { sum_by opened_room items.now ≤ 87 }
 {
-    let settled = settle_three(rt, alloc, context, pool, items, 0)?;
-    let mut progress = room_for(alloc, 87, 3)?;
+    let settled = settle_three(rt, alloc, context, pool, items, 0);
+    let mut progress = room_for(rt, alloc, 87, 3);
     finish_opening(
         &mut progress,
         context,
@@ -110,7 +102,7 @@ fn opened<R: Threads + Sync>(
         settled.first,
         &settled.steps,
     );
-    Ok(progress.finish())
+    progress.finish()
 }
 
 struct OpeningCase {
@@ -158,12 +150,7 @@ const OPENINGS: [OpeningCase; 2] = [
 
 fn expect(rt: &impl Abort, answers: &LaneAnswers, case: &OpeningCase) {
     let name = case.name;
-    assert_same(
-        rt,
-        answers.replies.as_slice(),
-        case.replies.as_slice(),
-        name,
-    );
+    assert_same(rt, answers.replies.as_slice(), &case.replies[..], name);
     let bytes = answers.pool.as_slice();
     assert!(rt; bytes.len() == 87, "{name}");
     for (i, opened) in case.opened.iter().enumerate() {
@@ -173,15 +160,17 @@ fn expect(rt: &impl Abort, answers: &LaneAnswers, case: &OpeningCase) {
 }
 
 #[test]
-fn openings_are_replied_to_item_by_item(rt: HostRuntime) -> Result<(), Fail> {
-    let pool = <[u8; 149]>::from_hex(POOL)?;
+fn openings_are_replied_to_item_by_item(rt: HostRuntime) {
     for case in &OPENINGS {
-        let limit = case.limit;
-        assert!(rt; 1 <= limit);
-        let context = context_of(&rt, Role::Recipient, limit);
-        let items = items_of(case.messages);
-        let answers = opened(&rt, rt.alloc(), &context, &pool, &items)?;
-        expect(&rt, &answers, case);
+        assert_opening(&rt, rt.alloc(), case);
     }
-    Ok(())
+}
+
+fn assert_opening<R: Abort + Threads + Sync>(rt: &R, alloc: Global, case: &OpeningCase) {
+    let pool = pool_of(rt);
+    assert!(rt; 1 <= case.limit);
+    let context = context_of(rt, Role::Recipient, case.limit);
+    let items = items_of(case.messages);
+    let answers = opened(rt, alloc, &context, &pool, &items);
+    expect(rt, &answers, case);
 }

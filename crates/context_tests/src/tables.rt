@@ -1,16 +1,15 @@
 //! Published messages at guessed numbers, and windows that end at LIMIT.
 
-ghost use Rattle.std.specs.Prelude.{◌≡◌, ◌≤◌, All, IfOk, length};
+ghost use Rattle.std.specs.Prelude.{◌≡◌, ◌≤◌, All, length};
 ghost use Rattle.call_places.specs.Spans.{ItemIsInPool};
 
-use crate::expected::{assert_at, assert_same};
-use crate::messages::{Message, POOL, item};
+use crate::expected::{array_of, assert_at, assert_same};
+use crate::messages::{Message, item, pool_of};
 use aes_gcm::GcmKey;
 use call_places::{Item, Span};
-use hex::FromHex;
 use speculative_open::GuessTable;
 use std::alloc::Global;
-use std::test::Fail;
+use std::process::Abort;
 use std::thread::Threads;
 
 // key and base_nonce of RFC 9180, A.1.1.
@@ -19,23 +18,23 @@ const KEY: &str = "4531685d41d65f03dc48f6b8302c05b0";
 const BASE_NONCE: &str = "56d890e5accaaf011cff4b7d";
 
 // A table that was filled at LIMIT before.
-fn table_of<R: Threads + Sync>(
+fn table_of<R: Abort + Threads + Sync>(
     rt: &R,
     alloc: Global,
     guess: u64,
     limit: u64,
     pool: &[u8],
     items: &[Item],
-) -> Result<GuessTable, Fail>
+) -> GuessTable
     requires { All (ItemIsInPool (length pool.now)) items.now }
-    ensures { IfOk result (λ t. length t.rows ≡ length items.now) }
+    ensures { length result.rows ≡ length items.now }
 {
-    let key = GcmKey::new128(&<[u8; 16]>::from_hex(KEY)?);
-    let base_nonce = <[u8; 12]>::from_hex(BASE_NONCE)?;
-    let mut table = GuessTable::with_room(alloc, items.len())?;
+    let key = GcmKey::new128(&array_of(rt, KEY));
+    let base_nonce: [u8; 12] = array_of(rt, BASE_NONCE);
+    let mut table = GuessTable::with_room(alloc, items.len()).expect(rt, "memory");
     table.fill(rt, &key, &base_nonce, limit, limit, pool, items);
     table.fill(rt, &key, &base_nonce, guess, limit, pool, items);
-    Ok(table)
+    table
 }
 
 struct TableCase {
@@ -48,7 +47,7 @@ struct TableCase {
 const LAST: u64 = u64::MAX;
 
 // Item 0 is the first message, items 1 to 3 are the changed one, item 4 is the second.
-const TABLES: [TableCase; 5] = [
+static TABLES: [TableCase; 5] = [
     TableCase {
         source: "RFC 9180, A.1.1.1: each message opens at its own number alone",
         guess: 0,
@@ -114,8 +113,14 @@ const TABLES: [TableCase; 5] = [
 ];
 
 #[test]
-fn messages_open_at_their_numbers(rt: HostRuntime) -> Result<(), Fail> {
-    let pool = <[u8; 149]>::from_hex(POOL)?;
+fn messages_open_at_their_numbers(rt: HostRuntime) {
+    for case in &TABLES {
+        assert_looks(&rt, rt.alloc(), case);
+    }
+}
+
+fn assert_looks<R: Abort + Threads + Sync>(rt: &R, alloc: Global, case: &TableCase) {
+    let pool = pool_of(rt);
     let spoilt = item(Message::Spoilt);
     let items = [
         item(Message::First),
@@ -124,23 +129,19 @@ fn messages_open_at_their_numbers(rt: HostRuntime) -> Result<(), Fail> {
         spoilt,
         item(Message::Second),
     ];
-    for case in &TABLES {
-        let source = case.source;
-        let table = table_of(&rt, rt.alloc(), case.guess, case.limit, &pool, &items)?;
-        assert_same(&rt, table.guess(), case.guess, "guess");
-        for (i, n, verdict) in case.looks {
-            assert!(rt; *i < 5);
-            assert_at(&rt, table.look(*i, *n), *verdict, source, (*i, *n));
-        }
+    let table = table_of(rt, alloc, case.guess, case.limit, &pool, &items);
+    assert_same(rt, table.guess(), case.guess, "guess");
+    for (i, n, verdict) in case.looks {
+        assert!(rt; *i < 5);
+        assert_at(rt, table.look(*i, *n), *verdict, case.source, (*i, *n));
     }
-    Ok(())
 }
 
 // Four texts of 20,000 zeros and a message: work for several threads.
 #[test]
-fn rows_are_filled_in_pieces(rt: HostRuntime) -> Result<(), Fail> {
+fn rows_are_filled_in_pieces(rt: HostRuntime) {
     let mut pool = [0u8; 20_149];
-    pool[..149].copy_from_slice(&<[u8; 149]>::from_hex(POOL)?);
+    pool[..149].copy_from_slice(&pool_of(&rt));
     let zeros = Item {
         aad: Span { start: 0, len: 0 },
         text: Span {
@@ -149,10 +150,9 @@ fn rows_are_filled_in_pieces(rt: HostRuntime) -> Result<(), Fail> {
         },
     };
     let items = [zeros, zeros, zeros, zeros, item(Message::Second)];
-    let table = table_of(&rt, rt.alloc(), 0, 9, &pool, &items)?;
+    let table = table_of(&rt, rt.alloc(), 0, 9, &pool, &items);
     for i in 0..4usize {
         assert_at(&rt, table.look(i, 0), Some(false), "item", i);
     }
     assert_same(&rt, table.look(4, 1), Some(true), "a look at item 4");
-    Ok(())
 }

@@ -44,21 +44,22 @@ impl Places {
     }
 
     /// The small element.
-    pub fn small<S: Params>(&self, alloc: Global) -> Result<Small<S>, OutOfMemory>
-        ensures { IfOk result (λ a. a
-            ≡ placed S.set.p self.now.ones.now self.now.minus_ones.now) }
+    pub fn small<S: Params>(&self, rt: &impl Abort, alloc: Global) -> Small<S>
+        ensures { result ≡ placed S.set.p self.now.ones.now self.now.minus_ones.now }
     {
-        Ok(Small::from_vec(self.coefficients(alloc, S::P)?))
+        let list = self.coefficients(alloc, S::P).expect(rt, "memory");
+        Small::from_vec(list)
     }
 
     /// The same element of R/q.
-    pub fn rq<S: Params>(&self, alloc: Global) -> Result<Rq<S>, OutOfMemory>
-        ensures { IfOk result (λ a. a ≡ map (λ z. centred S.set.q z)
-            (placed S.set.p self.now.ones.now self.now.minus_ones.now)) }
+    pub fn rq<S: Params>(&self, rt: &impl Abort, alloc: Global) -> Rq<S>
+        ensures { result ≡ map (λ z. centred S.set.q z)
+            (placed S.set.p self.now.ones.now self.now.minus_ones.now) }
     {
-        let list = self.coefficients(alloc, S::P)?;
-        let wide: Vec<i32> = list.iter().map(|number| i32::from(*number)).collect(alloc)?;
-        Rq::from_coefficients(alloc, &wide)
+        let list = self.coefficients(alloc, S::P).expect(rt, "memory");
+        let wide = list.iter().map(|number| i32::from(*number)).collect(alloc);
+        let wide: Vec<i32> = wide.expect(rt, "memory");
+        Rq::from_coefficients(alloc, &wide).expect(rt, "memory")
     }
 }
 
@@ -71,7 +72,7 @@ pub struct Example {
 }
 
 /// Products over `Sntrup761`.
-pub const PRODUCTS_761: [Example; 5] = [
+pub static PRODUCTS_761: [Example; 5] = [
     Example {
         source: "own, by hand: x^760 x = x^761 = x + 1",
         a: Places {
@@ -150,7 +151,7 @@ pub const PRODUCTS_761: [Example; 5] = [
 ];
 
 /// Products over `Sntrup857`.
-pub const PRODUCTS_857: [Example; 2] = [
+pub static PRODUCTS_857: [Example; 2] = [
     Example {
         source: "own, by hand: x^856 x = x^857 = x + 1",
         a: Places {
@@ -188,17 +189,15 @@ fn assert_product_in_q<S: Params, M: Multiplier>(
     alloc: Global,
     mult: &M,
     example: &Example,
-) -> Result<(), OutOfMemory> {
-    let source = example.source;
-    let a: Rq<S> = example.a.rq(alloc)?;
-    let b: Small<S> = example.b.small(alloc)?;
-    let want: Small<S> = example.product.small(alloc)?;
-    let in_q = mult.mul_q_small(alloc, &a, &b)?;
+) {
+    let a: Rq<S> = example.a.rq(rt, alloc);
+    let b: Small<S> = example.b.small(rt, alloc);
+    let want: Small<S> = example.product.small(rt, alloc);
+    let in_q = mult.mul_q_small(alloc, &a, &b).expect(rt, "memory");
     for k in 0..S::P {
         let number = i32::from(want.coefficient(k));
-        assert_at(rt, in_q.coefficient(k), number, source, k);
+        assert_at(rt, in_q.coefficient(k), number, example.source, k);
     }
-    Ok(())
 }
 
 fn assert_product_in_3<S: Params, M: Multiplier>(
@@ -206,16 +205,15 @@ fn assert_product_in_3<S: Params, M: Multiplier>(
     alloc: Global,
     mult: &M,
     example: &Example,
-) -> Result<(), OutOfMemory> {
-    let source = example.source;
-    let a: Small<S> = example.a.small(alloc)?;
-    let b: Small<S> = example.b.small(alloc)?;
-    let want: Small<S> = example.product.small(alloc)?;
-    let in_3 = mult.mul_3(alloc, &a, &b)?;
+) {
+    let a: Small<S> = example.a.small(rt, alloc);
+    let b: Small<S> = example.b.small(rt, alloc);
+    let want: Small<S> = example.product.small(rt, alloc);
+    let in_3 = mult.mul_3(alloc, &a, &b).expect(rt, "memory");
     for k in 0..S::P {
-        assert_at(rt, in_3.coefficient(k), want.coefficient(k), source, k);
+        let number = want.coefficient(k);
+        assert_at(rt, in_3.coefficient(k), number, example.source, k);
     }
-    Ok(())
 }
 
 /// Asserts that a multiplier gives the product of each example in both rings.
@@ -224,20 +222,19 @@ pub fn assert_products<S: Params, M: Multiplier>(
     alloc: Global,
     mult: &M,
     examples: &[Example],
-) -> Result<(), OutOfMemory> {
+) {
     for example in examples {
-        assert_product_in_q::<S, M>(rt, alloc, mult, example)?;
-        assert_product_in_3::<S, M>(rt, alloc, mult, example)?;
+        assert_product_in_q::<S, M>(rt, alloc, mult, example);
+        assert_product_in_3::<S, M>(rt, alloc, mult, example);
     }
-    Ok(())
 }
 
 /// The same number at each of p places.
-pub fn filled(alloc: Global, number: i8, p: usize) -> Result<Vec<i8>, OutOfMemory>
+pub fn filled(rt: &impl Abort, alloc: Global, number: i8, p: usize) -> Vec<i8>
     requires { unsigned_abs number ≤ 1 }
-    ensures { IfOk result (λ v. IsWithin 1 v.items × (vec_len v ≡ p)) }
+    ensures { IsWithin 1 result.items × (vec_len result ≡ p) }
 {
-    vec![in alloc; number; p]
+    vec![in alloc; number; p].expect(rt, "memory")
 }
 
 // How many products of two coefficients meet at place k.
@@ -265,14 +262,14 @@ fn assert_dense_in_q<S: Params, M: Multiplier>(
     alloc: Global,
     mult: &M,
     ones: &Small<S>,
-) -> Result<(), OutOfMemory> {
-    let a: Rq<S> = Rq::from_coefficients(alloc, &vec![in alloc; S::Q / 2; S::P]?)?;
-    let in_q = mult.mul_q_small(alloc, &a, ones)?;
+) {
+    let largest = vec![in alloc; S::Q / 2; S::P].expect(rt, "memory");
+    let a: Rq<S> = Rq::from_coefficients(alloc, &largest).expect(rt, "memory");
+    let in_q = mult.mul_q_small(alloc, &a, ones).expect(rt, "memory");
     for k in 0..S::P {
         let want = times_largest::<S>(terms_at::<S>(k));
         assert_at(rt, in_q.coefficient(k), want, "dense, in R/q", k);
     }
-    Ok(())
 }
 
 fn assert_dense_in_3<S: Params, M: Multiplier>(
@@ -280,26 +277,20 @@ fn assert_dense_in_3<S: Params, M: Multiplier>(
     alloc: Global,
     mult: &M,
     ones: &Small<S>,
-) -> Result<(), OutOfMemory> {
-    let in_3 = mult.mul_3(alloc, ones, ones)?;
+) {
+    let in_3 = mult.mul_3(alloc, ones, ones).expect(rt, "memory");
     for k in 0..S::P {
         let want = [0i8, 1, -1][terms_at::<S>(k) % 3];
         assert_at(rt, in_3.coefficient(k), want, "dense, in R/3", k);
     }
-    Ok(())
 }
 
 /// Asserts the product of the largest coefficients (q - 1)/2 and ones, and that of ones and ones.
 ///
 /// Own, by hand: 2p - k products meet at place k, and p at place 0.
-pub fn assert_dense<S: Params, M: Multiplier>(
-    rt: &impl Abort,
-    alloc: Global,
-    mult: &M,
-) -> Result<(), OutOfMemory> {
-    let ones: Small<S> = Small::from_vec(filled(alloc, 1, S::P)?);
+pub fn assert_dense<S: Params, M: Multiplier>(rt: &impl Abort, alloc: Global, mult: &M) {
+    let ones: Small<S> = Small::from_vec(filled(rt, alloc, 1, S::P));
     assert_same(rt, ones.weight(), S::P, "weight");
-    assert_dense_in_q::<S, M>(rt, alloc, mult, &ones)?;
-    assert_dense_in_3::<S, M>(rt, alloc, mult, &ones)?;
-    Ok(())
+    assert_dense_in_q::<S, M>(rt, alloc, mult, &ones);
+    assert_dense_in_3::<S, M>(rt, alloc, mult, &ones);
 }

@@ -3,22 +3,20 @@ mod elements;
 mod small;
 
 use std::alloc::Global;
-use std::test::Fail;
+use std::process::Abort;
 
 // Equal pieces one after another: how many, and the bytes of one.
 type Runs = &'static [(usize, &'static str)];
 
 const TOOL: &str = "python3 tools/vectors/radix_encode.py";
 
-fn bytes_of(alloc: Global, runs: Runs) -> Result<Vec<u8>, Fail> {
+fn bytes_of(rt: &impl Abort, alloc: Global, runs: Runs) -> Vec<u8> {
     let mut bytes = Vec::new(alloc);
     for (count, piece) in runs {
-        let piece = hex::decode(alloc, *piece)?;
+        let piece = hex::decode(alloc, *piece).expect(rt, "hex");
         for _ in 0..*count {
-            for byte in &piece {
-                bytes.push(*byte)?;
-            }
+            bytes.extend_from_slice(&piece).expect(rt, "memory");
         }
     }
-    Ok(bytes)
+    bytes
 }

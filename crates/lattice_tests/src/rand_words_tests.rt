@@ -3,9 +3,8 @@ ghost use Rattle.std.specs.Prelude.{◌≡◌};
 use crate::expected::{assert_at, assert_same};
 use rand_words::{SeedStream, Words, short_random, small_random};
 use ring_core::{Params, Small, Sntrup761, Sntrup857};
-use std::alloc::{AllocError as OutOfMemory, Global};
+use std::alloc::Global;
 use std::process::Abort;
-use std::test::Fail;
 
 const ZERO_SEED: [u8; 32] = [0; 32];
 
@@ -17,7 +16,7 @@ struct StreamCase {
 // Own, by Python 3.11: tools/vectors/chacha20_words.py with the seed of 32 zero bytes, the stream
 // and 8. The script checks its block function on RFC 8439, 2.3.2. Stream 0 begins as the key stream
 // of RFC 8439, A.1, test vector 1.
-const STREAMS: [StreamCase; 2] = [
+static STREAMS: [StreamCase; 2] = [
     StreamCase {
         stream: 0,
         words: [
@@ -74,22 +73,20 @@ impl Words for Always {
 // A word in the middle third of 30 bits, which Small makes 0.
 const MIDDLE: u32 = 1 << 29;
 
-fn assert_zeros<S: Params>(rt: &impl Abort, alloc: Global) -> Result<(), OutOfMemory> {
+fn assert_zeros<S: Params>(rt: &impl Abort, alloc: Global) {
     let mut words = Always {
         word: MIDDLE,
         place: 0,
     };
-    let zeros: Small<S> = small_random(alloc, &mut words)?;
+    let zeros: Small<S> = small_random(alloc, &mut words).expect(rt, "memory");
     assert_same(rt, zeros.as_slice().len(), S::P, "coefficients of zero");
     assert_same(rt, zeros.weight(), 0, "weight of zero");
-    Ok(())
 }
 
 #[test]
-fn the_middle_third_gives_zeros(rt: HostRuntime) -> Result<(), Fail> {
-    assert_zeros::<Sntrup761>(&rt, rt.alloc())?;
-    assert_zeros::<Sntrup857>(&rt, rt.alloc())?;
-    Ok(())
+fn the_middle_third_gives_zeros(rt: HostRuntime) {
+    assert_zeros::<Sntrup761>(&rt, rt.alloc());
+    assert_zeros::<Sntrup857>(&rt, rt.alloc());
 }
 
 // The first coefficients, the sum of k times coefficient k, and the weight.
@@ -107,7 +104,7 @@ struct SampleCase {
 
 // Own, by Python 3.11: tools/vectors/samples.py with the seed of 32 zero bytes, the stream and p;
 // the weight of the short one is w.
-const SAMPLES_761: SampleCase = SampleCase {
+static SAMPLES_761: SampleCase = SampleCase {
     small: Mark {
         first: [1, -1, 0, 0, 1, 0, -1, -1],
         sum: 7150,
@@ -120,7 +117,7 @@ const SAMPLES_761: SampleCase = SampleCase {
     },
 };
 
-const SAMPLES_857: SampleCase = SampleCase {
+static SAMPLES_857: SampleCase = SampleCase {
     small: Mark {
         first: [1, -1, 0, 0, 1, 0, -1, -1],
         sum: 421,
@@ -148,21 +145,17 @@ fn assert_mark<S: Params>(rt: &impl Abort, sample: &Small<S>, mark: &Mark, what:
     assert_same(rt, sample.weight(), mark.weight, what);
 }
 
-fn assert_samples<S: Params>(
-    rt: &impl Abort,
-    alloc: Global,
-    case: &SampleCase,
-) -> Result<(), OutOfMemory> {
-    let small: Small<S> = small_random(alloc, &mut SeedStream::new(&ZERO_SEED, 0))?;
+fn assert_samples<S: Params>(rt: &impl Abort, alloc: Global, case: &SampleCase) {
+    let small = small_random(alloc, &mut SeedStream::new(&ZERO_SEED, 0));
+    let small: Small<S> = small.expect(rt, "memory");
     assert_mark(rt, &small, &case.small, "small, stream 0");
-    let short: Small<S> = short_random(alloc, &mut SeedStream::new(&ZERO_SEED, 1))?;
+    let short = short_random(alloc, &mut SeedStream::new(&ZERO_SEED, 1));
+    let short: Small<S> = short.expect(rt, "memory");
     assert_mark(rt, &short, &case.short, "short, stream 1");
-    Ok(())
 }
 
 #[test]
-fn samples_are_those_of_the_words(rt: HostRuntime) -> Result<(), Fail> {
-    assert_samples::<Sntrup761>(&rt, rt.alloc(), &SAMPLES_761)?;
-    assert_samples::<Sntrup857>(&rt, rt.alloc(), &SAMPLES_857)?;
-    Ok(())
+fn samples_are_those_of_the_words(rt: HostRuntime) {
+    assert_samples::<Sntrup761>(&rt, rt.alloc(), &SAMPLES_761);
+    assert_samples::<Sntrup857>(&rt, rt.alloc(), &SAMPLES_857);
 }

@@ -7,7 +7,6 @@ use ring_inverse::quick::{quick_3, quick_3f};
 use ring_inverse::{Reciprocal, reciprocal_3, reciprocal_3f};
 use std::alloc::{AllocError as OutOfMemory, Global};
 use std::process::Abort;
-use std::test::Fail;
 
 const P: usize = 761;
 
@@ -26,7 +25,7 @@ struct ReciprocalCase {
     modulo_q: Want,
 }
 
-const RECIPROCALS_761: [ReciprocalCase; 3] = [
+static RECIPROCALS_761: [ReciprocalCase; 3] = [
     ReciprocalCase {
         source: "own, by hand: x (x^760 - 1) = x^761 - x = 1, and 3 * 1530 = -1 modulo 4591",
         element: &[0, 1],
@@ -47,7 +46,7 @@ const RECIPROCALS_761: [ReciprocalCase; 3] = [
     },
 ];
 
-const RECIPROCALS_857: [ReciprocalCase; 1] = [ReciprocalCase {
+static RECIPROCALS_857: [ReciprocalCase; 1] = [ReciprocalCase {
     source: "own, by hand: x (x^856 - 1) = x^857 - x = 1, and 3 * 1722 = -1 modulo 5167",
     element: &[0, 1],
     modulo_3: Want::Inverse(&[(0, -1), (856, 1)]),
@@ -57,12 +56,12 @@ const RECIPROCALS_857: [ReciprocalCase; 1] = [ReciprocalCase {
 // A factor of x^761 - x - 1 modulo 3, of the least degree that one has, from x^0 on. Found by the
 // distinct degrees of its factors in Python 3.11.7, and checked by sympy 1.14.0, which divides
 // Poly(x**761 - x - 1, x, modulus=3) by it without remainder.
-const FACTOR_761: [i8; 20] = [
+static FACTOR_761: [i8; 20] = [
     -1, -1, 0, -1, -1, -1, 1, -1, 1, -1, 0, -1, 1, 1, 1, 1, -1, 0, 1, 1,
 ];
 
 // The same of x^857 - x - 1, found in the same way.
-const FACTOR_857: [i8; 26] = [
+static FACTOR_857: [i8; 26] = [
     1, 0, 0, 1, -1, 0, 0, 0, 1, 1, 1, -1, 0, -1, 1, -1, -1, 0, 0, 1, 1, 0, 1, -1, 0, 1,
 ];
 
@@ -94,13 +93,17 @@ fn sign(number: i8) -> i8
     number.signum()
 }
 
-// The element that begins with the signs of these numbers.
-fn element<S: Params>(alloc: Global, front: &[i8]) -> Result<Small<S>, OutOfMemory> {
+fn made<S: Params>(alloc: Global, front: &[i8]) -> Result<Small<S>, OutOfMemory> {
     let mut list = Vec::with_capacity(alloc, S::P)?;
     for k in 0..S::P {
         list.push(if k < front.len() { sign(front[k]) } else { 0 })?;
     }
     Ok(Small::from_vec(list))
+}
+
+// The element that begins with the signs of these numbers.
+fn element<S: Params>(rt: &impl Abort, alloc: Global, front: &[i8]) -> Small<S> {
+    made(alloc, front).expect(rt, "memory")
 }
 
 fn number_at(places: Places, k: usize) -> i32 {
@@ -120,16 +123,13 @@ fn is_inverse(want: &Want) -> bool {
 }
 
 // No contract says that a candidate is right: a wrong one costs the time of an elimination.
-fn assert_modulo_3<S: Params>(
-    rt: &impl Abort,
-    alloc: Global,
-    case: &ReciprocalCase,
-) -> Result<(), OutOfMemory> {
+fn assert_modulo_3<S: Params>(rt: &impl Abort, alloc: Global, case: &ReciprocalCase) {
     let source = case.source;
-    let a: Small<S> = element(alloc, case.element)?;
-    let found = quick_3(alloc, &Plain, &a)?.is_some();
-    assert_same(rt, found, is_inverse(&case.modulo_3), source);
-    match (reciprocal_3(alloc, &Plain, &a)?, &case.modulo_3) {
+    let a: Small<S> = element(rt, alloc, case.element);
+    let quick = quick_3(alloc, &Plain, &a).expect(rt, "memory");
+    assert_same(rt, quick.is_some(), is_inverse(&case.modulo_3), source);
+    let made = reciprocal_3(alloc, &Plain, &a).expect(rt, "memory");
+    match (&made, &case.modulo_3) {
         (Reciprocal::Inverse(v), Want::Inverse(places)) => {
             for k in 0..S::P {
                 let number = i32::from(v.coefficient(k));
@@ -139,19 +139,15 @@ fn assert_modulo_3<S: Params>(
         (Reciprocal::Annihilator(u), Want::Annihilator) => assert!(rt; u.weight() > 0, "{source}"),
         _ => assert!(rt; false, "{source}"),
     }
-    Ok(())
 }
 
-fn assert_modulo_q<S: Params>(
-    rt: &impl Abort,
-    alloc: Global,
-    case: &ReciprocalCase,
-) -> Result<(), OutOfMemory> {
+fn assert_modulo_q<S: Params>(rt: &impl Abort, alloc: Global, case: &ReciprocalCase) {
     let source = case.source;
-    let f: Small<S> = element(alloc, case.element)?;
-    let found = quick_3f(alloc, &Plain, &f)?.is_some();
-    assert_same(rt, found, is_inverse(&case.modulo_q), source);
-    match (reciprocal_3f(alloc, &Plain, &f)?, &case.modulo_q) {
+    let f: Small<S> = element(rt, alloc, case.element);
+    let quick = quick_3f(alloc, &Plain, &f).expect(rt, "memory");
+    assert_same(rt, quick.is_some(), is_inverse(&case.modulo_q), source);
+    let made = reciprocal_3f(alloc, &Plain, &f).expect(rt, "memory");
+    match (&made, &case.modulo_q) {
         (Reciprocal::Inverse(v), Want::Inverse(places)) => {
             for k in 0..S::P {
                 assert_at(rt, v.coefficient(k), number_at(places, k), source, k);
@@ -160,109 +156,89 @@ fn assert_modulo_q<S: Params>(
         (Reciprocal::Annihilator(_), Want::Annihilator) => {}
         _ => assert!(rt; false, "{source}"),
     }
-    Ok(())
 }
 
 #[test]
-fn reciprocals_are_those_by_hand(rt: HostRuntime) -> Result<(), Fail> {
+fn reciprocals_are_those_by_hand(rt: HostRuntime) {
     for case in &RECIPROCALS_761 {
-        assert_modulo_3::<Sntrup761>(&rt, rt.alloc(), case)?;
-        assert_modulo_q::<Sntrup761>(&rt, rt.alloc(), case)?;
+        assert_modulo_3::<Sntrup761>(&rt, rt.alloc(), case);
+        assert_modulo_q::<Sntrup761>(&rt, rt.alloc(), case);
     }
     for case in &RECIPROCALS_857 {
-        assert_modulo_3::<Sntrup857>(&rt, rt.alloc(), case)?;
-        assert_modulo_q::<Sntrup857>(&rt, rt.alloc(), case)?;
+        assert_modulo_3::<Sntrup857>(&rt, rt.alloc(), case);
+        assert_modulo_q::<Sntrup857>(&rt, rt.alloc(), case);
     }
-    Ok(())
 }
 
-fn assert_annihilated<S: Params>(
-    rt: &impl Abort,
-    alloc: Global,
-    factor: &[i8],
-) -> Result<(), OutOfMemory> {
-    let a: Small<S> = element(alloc, factor)?;
-    match reciprocal_3(alloc, &Plain, &a)? {
+fn assert_annihilated<S: Params>(rt: &impl Abort, alloc: Global, factor: &[i8]) {
+    let a: Small<S> = element(rt, alloc, factor);
+    match &reciprocal_3(alloc, &Plain, &a).expect(rt, "memory") {
         Reciprocal::Annihilator(u) => {
             assert!(rt; u.weight() > 0);
-            assert_same(
-                rt,
-                Plain.mul_3(alloc, &u, &a)?.weight(),
-                0,
-                "weight of the product",
-            );
+            let product = Plain.mul_3(alloc, u, &a).expect(rt, "memory");
+            assert_same(rt, product.weight(), 0, "weight of the product");
         }
         Reciprocal::Inverse(_) => assert!(rt; false),
     }
-    Ok(())
 }
 
 #[test]
-fn a_factor_of_the_modulus_has_an_annihilator(rt: HostRuntime) -> Result<(), Fail> {
-    assert_annihilated::<Sntrup761>(&rt, rt.alloc(), &FACTOR_761)?;
-    assert_annihilated::<Sntrup857>(&rt, rt.alloc(), &FACTOR_857)?;
-    Ok(())
+fn a_factor_of_the_modulus_has_an_annihilator(rt: HostRuntime) {
+    assert_annihilated::<Sntrup761>(&rt, rt.alloc(), &FACTOR_761);
+    assert_annihilated::<Sntrup857>(&rt, rt.alloc(), &FACTOR_857);
 }
 
-fn assert_dense_modulo_3(
-    rt: &impl Abort,
-    alloc: Global,
-    a: &Small<Sntrup761>,
-) -> Result<(), OutOfMemory> {
-    match quick_3(alloc, &Plain, a)? {
-        Some(v) => {
-            for (k, number) in DENSE_MODULO_3 {
-                if *k < P {
-                    assert_at(rt, i32::from(v.coefficient(*k)), *number, "coefficient", k);
-                }
-            }
-        }
-        None => assert!(rt; false),
+fn assert_dense_modulo_3(rt: &impl Abort, alloc: Global, a: &Small<Sntrup761>) {
+    let found = quick_3(alloc, &Plain, a).expect(rt, "memory");
+    let v = found.expect(rt, "an inverse");
+    for (k, number) in DENSE_MODULO_3 {
+        assert!(rt; *k < P);
+        assert_at(rt, i32::from(v.coefficient(*k)), *number, "coefficient", k);
     }
-    Ok(())
 }
 
-fn assert_dense_modulo_q(
-    rt: &impl Abort,
-    alloc: Global,
-    a: &Small<Sntrup761>,
-) -> Result<(), OutOfMemory> {
-    match reciprocal_3f(alloc, &Plain, a)? {
+fn assert_dense_modulo_q(rt: &impl Abort, alloc: Global, a: &Small<Sntrup761>) {
+    match &reciprocal_3f(alloc, &Plain, a).expect(rt, "memory") {
         Reciprocal::Inverse(v) => {
             for (k, number) in DENSE_MODULO_Q {
-                if *k < P {
-                    assert_at(rt, v.coefficient(*k), *number, "coefficient", k);
-                }
+                assert!(rt; *k < P);
+                assert_at(rt, v.coefficient(*k), *number, "coefficient", k);
             }
         }
         Reciprocal::Annihilator(_) => assert!(rt; false),
     }
-    Ok(())
 }
 
 #[test]
-fn a_dense_element_has_its_inverses(rt: HostRuntime) -> Result<(), Fail> {
-    let a: Small<Sntrup761> = element(rt.alloc(), &dense())?;
-    assert!(rt; quick_3f(rt.alloc(), &Plain, &a)?.is_some());
-    assert_dense_modulo_3(&rt, rt.alloc(), &a)?;
-    assert_dense_modulo_q(&rt, rt.alloc(), &a)?;
-    Ok(())
+fn a_dense_element_has_its_inverses(rt: HostRuntime) {
+    let a: Small<Sntrup761> = element(&rt, rt.alloc(), &dense());
+    assert_quick_3f(&rt, rt.alloc(), &a);
+    assert_dense_modulo_3(&rt, rt.alloc(), &a);
+    assert_dense_modulo_q(&rt, rt.alloc(), &a);
+}
+
+fn assert_quick_3<S: Params>(rt: &impl Abort, alloc: Global, g: &Small<S>) {
+    let found = quick_3(alloc, &Plain, g).expect(rt, "memory");
+    assert!(rt; found.is_some());
+}
+
+fn assert_quick_3f<S: Params>(rt: &impl Abort, alloc: Global, f: &Small<S>) {
+    let found = quick_3f(alloc, &Plain, f).expect(rt, "memory");
+    assert!(rt; found.is_some());
 }
 
 // No contract says that the division steps find the inverses of what KeyGen draws.
-fn assert_found<S: Params>(rt: &impl Abort, alloc: Global, seed: u8) -> Result<(), OutOfMemory> {
-    let g: Small<S> = small_random(alloc, &mut SeedStream::new(&[seed; 32], 0))?;
-    assert!(rt; quick_3(alloc, &Plain, &g)?.is_some());
-    let f: Small<S> = short_random(alloc, &mut SeedStream::new(&[seed; 32], 1))?;
-    assert!(rt; quick_3f(alloc, &Plain, &f)?.is_some());
-    Ok(())
+fn assert_found<S: Params>(rt: &impl Abort, alloc: Global, seed: u8) {
+    let g = small_random(alloc, &mut SeedStream::new(&[seed; 32], 0));
+    assert_quick_3::<S>(rt, alloc, &g.expect(rt, "memory"));
+    let f = short_random(alloc, &mut SeedStream::new(&[seed; 32], 1));
+    assert_quick_3f::<S>(rt, alloc, &f.expect(rt, "memory"));
 }
 
 #[test]
-fn the_steps_find_inverses_of_drawn_elements(rt: HostRuntime) -> Result<(), Fail> {
+fn the_steps_find_inverses_of_drawn_elements(rt: HostRuntime) {
     for seed in 0..4 {
-        assert_found::<Sntrup761>(&rt, rt.alloc(), seed)?;
-        assert_found::<Sntrup857>(&rt, rt.alloc(), seed)?;
+        assert_found::<Sntrup761>(&rt, rt.alloc(), seed);
+        assert_found::<Sntrup857>(&rt, rt.alloc(), seed);
     }
-    Ok(())
 }

@@ -4,9 +4,8 @@ use crate::expected::{assert_at, assert_same};
 use rand_words::{SeedStream, Words, short_random};
 use ring_core::{Params, Plain, Small, Sntrup761, Sntrup857};
 use sntrup_core::{KeyFault, PublicPoly, SecretPolys, decrypt, encrypt, keygen};
-use std::alloc::{AllocError as OutOfMemory, Global};
+use std::alloc::Global;
 use std::process::Abort;
-use std::test::Fail;
 
 // The key of stream 0 of 32 times the seed's byte, and c, to which the short r of stream 1 is
 // encrypted: the first four coefficients, and the sum of k times coefficient k.
@@ -21,7 +20,7 @@ struct KeyCase {
 
 // By Python 3.11: tools/vectors/sntrup.py, which compares the bytes of these keys and ciphertexts
 // with those of the C implementation of OpenSSH 9.2p1.
-const KEYS_761: [KeyCase; 3] = [
+static KEYS_761: [KeyCase; 3] = [
     KeyCase {
         seed: 0,
         h: [542, 1558, 795, 1211, 12292550],
@@ -49,7 +48,7 @@ const KEYS_761: [KeyCase; 3] = [
 ];
 
 // By the same tool, which compares their bytes with those of libntruprime 20241021.
-const KEYS_857: [KeyCase; 3] = [
+static KEYS_857: [KeyCase; 3] = [
     KeyCase {
         seed: 0,
         h: [-1154, 1688, 675, -314, -38152363],
@@ -101,12 +100,14 @@ fn mark_of_small(list: &[i8]) -> [i64; 5] {
     mark
 }
 
-fn key_of<S: Params>(alloc: Global, seed: u8) -> Result<(PublicPoly<S>, SecretPolys<S>), KeyFault> {
-    keygen(alloc, &mut SeedStream::new(&[seed; 32], 0), &Plain)
+fn key_of<S: Params>(rt: &impl Abort, alloc: Global, seed: u8) -> (PublicPoly<S>, SecretPolys<S>) {
+    let made = keygen(alloc, &mut SeedStream::new(&[seed; 32], 0), &Plain);
+    made.expect(rt, "a key")
 }
 
-fn short_of<S: Params>(alloc: Global, seed: u8) -> Result<Small<S>, OutOfMemory> {
-    short_random(alloc, &mut SeedStream::new(&[seed; 32], 1))
+fn short_of<S: Params>(rt: &impl Abort, alloc: Global, seed: u8) -> Small<S> {
+    let drawn = short_random(alloc, &mut SeedStream::new(&[seed; 32], 1));
+    drawn.expect(rt, "memory")
 }
 
 fn assert_key<S: Params>(
@@ -116,21 +117,12 @@ fn assert_key<S: Params>(
     secret: &SecretPolys<S>,
 ) {
     let seed = case.seed;
-    assert_at(rt, mark_of(public.h.as_slice()), case.h, "h of seed", seed);
-    assert_at(
-        rt,
-        mark_of_small(secret.f.as_slice()),
-        case.f,
-        "f of seed",
-        seed,
-    );
-    assert_at(
-        rt,
-        mark_of_small(secret.ginv.as_slice()),
-        case.ginv,
-        "1/g of seed",
-        seed,
-    );
+    let h = mark_of(public.h.as_slice());
+    assert_at(rt, h, case.h, "h of seed", seed);
+    let f = mark_of_small(secret.f.as_slice());
+    assert_at(rt, f, case.f, "f of seed", seed);
+    let ginv = mark_of_small(secret.ginv.as_slice());
+    assert_at(rt, ginv, case.ginv, "1/g of seed", seed);
 }
 
 // Encrypts the short r of the case, and decrypts it.
@@ -140,33 +132,30 @@ fn assert_round_trip<S: Params>(
     case: &KeyCase,
     public: &PublicPoly<S>,
     secret: &SecretPolys<S>,
-) -> Result<(), OutOfMemory> {
+) {
     let seed = case.seed;
-    let r = short_of::<S>(alloc, seed)?;
+    let r = short_of::<S>(rt, alloc, seed);
     assert_at(rt, mark_of_small(r.as_slice()), case.r, "r of seed", seed);
-    let c = encrypt(alloc, &Plain, &r, public)?;
+    let c = encrypt(alloc, &Plain, &r, public).expect(rt, "memory");
     assert_at(rt, mark_of(c.as_slice()), case.c, "c of seed", seed);
-    let decrypted = decrypt(alloc, &Plain, &c, secret)?;
+    let decrypted = decrypt(alloc, &Plain, &c, secret).expect(rt, "memory");
     assert_at(rt, decrypted.as_slice(), r.as_slice(), "seed", seed);
-    Ok(())
 }
 
-fn assert_case<S: Params>(rt: &impl Abort, alloc: Global, case: &KeyCase) -> Result<(), KeyFault> {
-    let (public, secret) = key_of::<S>(alloc, case.seed)?;
+fn assert_case<S: Params>(rt: &impl Abort, alloc: Global, case: &KeyCase) {
+    let (public, secret) = key_of::<S>(rt, alloc, case.seed);
     assert_key(rt, case, &public, &secret);
-    assert_round_trip(rt, alloc, case, &public, &secret)?;
-    Ok(())
+    assert_round_trip(rt, alloc, case, &public, &secret);
 }
 
 #[test]
-fn keys_are_those_of_the_standard_and_decrypt_exactly(rt: HostRuntime) -> Result<(), Fail> {
+fn keys_are_those_of_the_standard_and_decrypt_exactly(rt: HostRuntime) {
     for case in &KEYS_761 {
-        assert_case::<Sntrup761>(&rt, rt.alloc(), case)?;
+        assert_case::<Sntrup761>(&rt, rt.alloc(), case);
     }
     for case in &KEYS_857 {
-        assert_case::<Sntrup857>(&rt, rt.alloc(), case)?;
+        assert_case::<Sntrup857>(&rt, rt.alloc(), case);
     }
-    Ok(())
 }
 
 // A word in the middle third of 30 bits, which Small makes 0.
@@ -226,26 +215,21 @@ fn no_g_in_64_draws_is_exhausted(rt: HostRuntime) {
     assert_exhausted::<Sntrup857>(&rt, rt.alloc(), 54_848);
 }
 
-fn assert_drawn_again<S: Params>(
-    rt: &impl Abort,
-    alloc: Global,
-    case: &KeyCase,
-) -> Result<(), KeyFault> {
+fn assert_drawn_again<S: Params>(rt: &impl Abort, alloc: Global, case: &KeyCase) {
     let mut words = middle_then_stream(S::P as u64);
-    let (public, secret) = keygen::<S, Late, Plain>(alloc, &mut words, &Plain)?;
+    let made = keygen::<S, Late, Plain>(alloc, &mut words, &Plain);
+    let (public, secret) = made.expect(rt, "a key");
     assert_key(rt, case, &public, &secret);
-    Ok(())
 }
 
 #[test]
-fn a_zero_g_is_drawn_again(rt: HostRuntime) -> Result<(), Fail> {
-    assert_drawn_again::<Sntrup761>(&rt, rt.alloc(), &KEYS_761[0])?;
-    assert_drawn_again::<Sntrup857>(&rt, rt.alloc(), &KEYS_857[0])?;
-    Ok(())
+fn a_zero_g_is_drawn_again(rt: HostRuntime) {
+    assert_drawn_again::<Sntrup761>(&rt, rt.alloc(), &KEYS_761[0]);
+    assert_drawn_again::<Sntrup857>(&rt, rt.alloc(), &KEYS_857[0]);
 }
 
 #[test]
-fn each_fault_is_printed(rt: HostRuntime) -> Result<(), Fail> {
+fn each_fault_is_printed(rt: HostRuntime) {
     for (fault, text) in [
         (
             KeyFault::Exhausted,
@@ -254,8 +238,7 @@ fn each_fault_is_printed(rt: HostRuntime) -> Result<(), Fail> {
         (KeyFault::NoInverse, "3f has no inverse"),
         (KeyFault::OutOfMemory, "out of memory"),
     ] {
-        let printed = format!(in rt.alloc(); "{fault}")?;
+        let printed = format!(in rt.alloc(); "{fault}").expect(&rt, "memory");
         assert_same(&rt, printed.as_str(), text, "printed");
     }
-    Ok(())
 }

@@ -9,36 +9,71 @@ mod rooms;
 mod runs;
 mod threads;
 
-use crate::batch_runner_tests::other_runs::{BAD, EXCHANGES, Exchange, OTHERS};
-use crate::batch_runner_tests::runs::{OPENINGS_AND_SCHEDULES, RUNS, Run};
+use crate::batch_runner_tests::other_runs::{Exchange, bad_runs, exchanges, others};
+use crate::batch_runner_tests::runs::{Run, openings_and_schedules, runs};
 use crate::expected::assert_same;
 use batch_io::{FreeGate, Gate, MemorySink, MemorySource, PureSink, PureSource};
 use batch_runner::{Outcome, serve_pure, serve_words, status};
 use request_frames::Reason;
 use result_lines::Verdict;
-use std::alloc::{AllocError, Global};
+use std::alloc::Global;
 use std::process::Abort;
 use std::sync::Wait;
-use std::test::Fail;
 use std::thread::Threads;
 
 // The shortest batch, which is its own reply.
 pub const EMPTY: &'static str = "hpkebatch 1\nend\n";
 
 // Words that ask for a run.
-const RUN_WORDS: [&'static [&'static str]; 4] = [
+static RUN_WORDS: [&'static [&'static str]; 4] = [
     &["run"],
     &["run", "--workers", "16"],
     &["run", "--mult=karatsuba", "--workers=1"],
     &["run", "--mult", "lanes"],
 ];
 
-pub fn words_of(alloc: Global, words: &[&str]) -> Result<Vec<String>, AllocError> {
+pub fn words_of(rt: &impl Abort, alloc: Global, words: &[&str]) -> Vec<String> {
     let mut owned = Vec::new(alloc);
     for word in words {
-        owned.push(String::from_str(alloc, word)?)?;
+        let word = String::from_str(alloc, word).expect(rt, "memory");
+        owned.push(word).expect(rt, "memory");
     }
-    Ok(owned)
+    owned
+}
+
+pub fn bytes_of(rt: &impl Abort, alloc: Global, text: &[u8]) -> Vec<u8> {
+    text.to_vec(alloc).expect(rt, "memory")
+}
+
+// The text of what was written.
+pub fn text_of<'a>(rt: &impl Abort, sink: &'a MemorySink) -> &'a str {
+    str::from_utf8(sink.bytes()).expect(rt, "a text")
+}
+
+// A sink with so much room, some writes of which fail.
+pub fn sink_of(
+    rt: &impl Abort,
+    alloc: Global,
+    room: usize,
+    step: usize,
+    failing: &[u32],
+) -> MemorySink {
+    let room = vec![in alloc; 0; room].expect(rt, "memory");
+    let failing = failing.to_vec(alloc).expect(rt, "memory");
+    MemorySink::new(room, step.max(1), failing)
+}
+
+// A source of this input, some reads of which fail.
+pub fn source_of(
+    rt: &impl Abort,
+    alloc: Global,
+    input: &[u8],
+    step: usize,
+    failing: &[u32],
+) -> MemorySource {
+    let input = bytes_of(rt, alloc, input);
+    let failing = failing.to_vec(alloc).expect(rt, "memory");
+    MemorySource::new(input, step.max(1), failing)
 }
 
 // The outcome of these words over a source and a sink.
@@ -50,7 +85,7 @@ pub fn outcome_of<R: Abort + Threads + Wait + Sync, G: Gate + Sync>(
     sink: &mut MemorySink,
     gate: &G,
 ) -> Outcome {
-    let words = words_of(alloc, words).expect(rt, "memory");
+    let words = words_of(rt, alloc, words);
     serve_words(rt, alloc, &words, &mut source, sink, gate)
 }
 
@@ -63,10 +98,8 @@ pub fn gated_answer_to<R: Abort + Threads + Wait + Sync, G: Gate + Sync>(
     step: usize,
     gate: &G,
 ) -> (Outcome, MemorySink) {
-    let input = input.as_bytes().to_vec(alloc).expect(rt, "memory");
-    let room = vec![in alloc; 0; 32_768].expect(rt, "memory");
-    let source = MemorySource::new(input, step.max(1), Vec::new(alloc));
-    let mut sink = MemorySink::new(room, 4096, Vec::new(alloc));
+    let source = source_of(rt, alloc, input.as_bytes(), step, &[]);
+    let mut sink = sink_of(rt, alloc, 32_768, 4096, &[]);
     let outcome = outcome_of(rt, alloc, words, source, &mut sink, gate);
     (outcome, sink)
 }
@@ -103,17 +136,17 @@ fn assert_runs<R: Abort + Threads + Wait + Sync>(rt: &R, alloc: Global, runs: &[
 
 #[test]
 fn each_batch_of_at_most_one_lane_gets_its_text(rt: HostRuntime) {
-    assert_runs(&rt, rt.alloc(), RUNS.as_slice());
+    assert_runs(&rt, rt.alloc(), runs());
 }
 
 #[test]
 fn each_batch_with_an_opening_or_a_schedule_gets_its_text(rt: HostRuntime) {
-    assert_runs(&rt, rt.alloc(), OPENINGS_AND_SCHEDULES.as_slice());
+    assert_runs(&rt, rt.alloc(), openings_and_schedules());
 }
 
 #[test]
 fn each_other_command_writes_its_text(rt: HostRuntime) {
-    for case in &OTHERS {
+    for case in others() {
         let end = answer_to(&rt, rt.alloc(), case.words, case.input, 4096);
         assert_end(&rt, &end, case.outcome, case.text.as_bytes(), case.source);
     }
@@ -121,7 +154,7 @@ fn each_other_command_writes_its_text(rt: HostRuntime) {
 
 #[test]
 fn each_bad_line_is_named(rt: HostRuntime) {
-    for case in &BAD {
+    for case in bad_runs() {
         let bad = Outcome::BadBatch {
             line: case.line,
             reason: case.reason,
@@ -135,13 +168,8 @@ fn each_bad_line_is_named(rt: HostRuntime) {
 fn each_option_of_run_is_taken(rt: HostRuntime) {
     for words in &RUN_WORDS {
         let end = answer_to(&rt, rt.alloc(), words, EMPTY, 4096);
-        assert_end(
-            &rt,
-            &end,
-            Outcome::Done,
-            EMPTY.as_bytes(),
-            "the shortest batch",
-        );
+        let text = EMPTY.as_bytes();
+        assert_end(&rt, &end, Outcome::Done, text, "the shortest batch");
     }
 }
 
@@ -149,11 +177,8 @@ fn each_option_of_run_is_taken(rt: HostRuntime) {
 fn assert_exchange<R: Abort + Threads + Wait + Sync>(rt: &R, alloc: Global, case: &Exchange) {
     let (_, plain) = answer_to(rt, alloc, &["run"], case.input, 4096);
     assert_same(rt, plain.bytes().len(), case.size, case.source);
-    assert!(rt;
-        plain.bytes().ends_with(case.lanes.as_bytes()),
-        "{}",
-        case.source
-    );
+    let ends = plain.bytes().ends_with(case.lanes.as_bytes());
+    assert_same(rt, ends, true, case.source);
     for words in &RUN_WORDS {
         let end = answer_to(rt, alloc, words, case.input, 4096);
         assert_end(rt, &end, Outcome::Done, plain.bytes(), case.source);
@@ -162,21 +187,20 @@ fn assert_exchange<R: Abort + Threads + Wait + Sync>(rt: &R, alloc: Global, case
 
 #[test]
 fn keys_are_the_same_with_each_multiplier(rt: HostRuntime) {
-    for case in &EXCHANGES {
+    for case in exchanges() {
         assert_exchange(&rt, rt.alloc(), case);
     }
 }
 
 #[test]
-fn pure_ends_are_served(rt: HostRuntime) -> Result<(), Fail> {
+fn pure_ends_are_served(rt: HostRuntime) {
     let alloc = rt.alloc();
-    let words = words_of(alloc, &["run"])?;
-    let mut source = PureSource::new(EMPTY.as_bytes().to_vec(alloc)?);
+    let words = words_of(&rt, alloc, &["run"]);
+    let mut source = PureSource::new(bytes_of(&rt, alloc, EMPTY.as_bytes()));
     let mut sink = PureSink::new();
     let gate = FreeGate::new();
     let outcome = serve_pure(&rt, alloc, &words, &mut source, &mut sink, &gate);
     assert_same(&rt, outcome, Outcome::Done, "outcome");
-    Ok(())
 }
 
 #[test]
@@ -202,12 +226,15 @@ fn statuses_are_those_of_the_manual(rt: HostRuntime) {
     }
 }
 
-fn longest_schedule(alloc: Global) -> Result<String, Fail> {
-    let mut steps = String::from_str(alloc, "15")?;
-    for _ in 1..65_536 {
-        steps.push_str(",15")?;
+// The text, and behind it a piece so many times.
+pub fn repeat(rt: &impl Abort, text: &mut String, piece: &str, count: usize) {
+    for _ in 0..count {
+        text.push_str(piece).expect(rt, "memory");
     }
-    Ok(steps)
+}
+
+pub fn string_of(rt: &impl Abort, alloc: Global, text: &str) -> String {
+    String::from_str(alloc, text).expect(rt, "memory")
 }
 
 // One batch's outcome and text in this schedule.
@@ -216,19 +243,19 @@ fn rehearse<R: Abort + Threads + Wait + Sync>(
     alloc: Global,
     steps: &str,
 ) -> (Outcome, MemorySink) {
-    answer_to(rt, alloc, &["rehearse", steps], RUNS[1].input, 4096)
+    answer_to(rt, alloc, &["rehearse", steps], runs()[1].input, 4096)
 }
 
 // Numbers of lanes that aren't there do nothing: so the text is that of no schedule.
 #[test]
-fn the_longest_schedule_is_taken(rt: HostRuntime) -> Result<(), Fail> {
+fn the_longest_schedule_is_taken(rt: HostRuntime) {
     let alloc = rt.alloc();
-    let mut steps = longest_schedule(alloc)?;
+    let mut steps = string_of(&rt, alloc, "15");
+    repeat(&rt, &mut steps, ",15", 65_535);
     let (_, none) = rehearse(&rt, alloc, "-");
     let end = rehearse(&rt, alloc, &steps);
     assert_end(&rt, &end, Outcome::Done, none.bytes(), "65,536 steps");
-    steps.push_str(",15")?;
+    repeat(&rt, &mut steps, ",15", 1);
     let end = rehearse(&rt, alloc, &steps);
     assert_end(&rt, &end, Outcome::Usage, b"", "65,537 steps");
-    Ok(())
 }

@@ -10,14 +10,14 @@ use call_places::{Act, Entry, Place, Step};
 use live_table::LiveTable;
 use stamp_counter::{StampCounter, StampSeat};
 use std::alloc::{AllocError as OutOfMemory, Global};
+use std::process::Abort;
 use std::sync::Wait;
-use std::test::Fail;
 use std::thread::{Threads, map_vec};
 use turn_lock::{Pass, PassList};
 
 // Own: an act on a name, and whether the name was live before. It is live from its Add to the next
 // Retire, whatever is done to another.
-const NOTES: [(Act, u32, bool); 14] = [
+static NOTES: [(Act, u32, bool); 14] = [
     (Act::Look, 0, false),
     (Act::Add, 0, false),
     (Act::Look, 0, true),
@@ -35,49 +35,46 @@ const NOTES: [(Act, u32, bool); 14] = [
 ];
 
 // Notes each case at a call of its own, and compares the answers.
-fn note_cases<R: Wait>(
+fn note_cases<R: Abort + Wait>(
     rt: &R,
     table: &LiveTable,
     counter: &StampCounter,
     lane: (Pass, StampSeat),
-) -> Result<Pass, Fail>
+) -> Pass
     requires names { table.now.names ≡ 256 }
     requires counter { table.now.lock.terms.counter ≡ counter.now.id }
     requires ready { MayDraw table.now.lock 0 14 lane.0 × IsNote counter.now.id lane.1 }
-    ensures { IfOk result (λ p. p.lock ≡ table.now.lock) }
+    ensures { result.lock ≡ table.now.lock }
 {
     let (mut pass, mut seat) = lane;
     for call in 0..14u32 {
         let (act, name, live) = NOTES[call as usize];
-        if name > 255 {
-            return Err("a name of the table".into());
-        }
+        assert!(rt; name <= 255, "a name of the table");
         let (told, next, note) = table.note(rt, pass, counter, seat, call, name, act);
-        if told != live {
-            return Err("an answer of the rows".into());
-        }
+        assert_same(rt, told, live, "an answer of the rows");
         pass = next;
         seat = note;
     }
-    Ok(pass)
+    pass
 }
 
 // The entries of a new table once each case is noted, and how many stamps were drawn.
-fn entries_of_cases<R: Wait>(rt: &R, alloc: Global) -> Result<(Vec<Entry>, u64), Fail> {
-    let (counter, mut seats) = StampCounter::new(alloc, &[14, 0])?;
-    let seat = seats.take().ok_or("the table's seat")?;
-    let lane_seat = seats.take().ok_or("the lane's seat")?;
-    let (table, mut passes) = LiveTable::new(alloc, 256, &[14], seat)?;
-    let pass = passes.take().ok_or("the pass")?;
-    let pass = note_cases(rt, &table, &counter, (pass, lane_seat))?;
+fn entries_of_cases<R: Abort + Wait>(rt: &R, alloc: Global) -> (Vec<Entry>, u64) {
+    let (counter, mut seats) = StampCounter::new(alloc, &[14, 0]).expect(rt, "memory");
+    let seat = seats.take().expect(rt, "the table's seat");
+    let lane_seat = seats.take().expect(rt, "the lane's seat");
+    let made = LiveTable::new(alloc, 256, &[14], seat);
+    let (table, mut passes) = made.expect(rt, "memory");
+    let pass = passes.take().expect(rt, "the pass");
+    let pass = note_cases(rt, &table, &counter, (pass, lane_seat));
     passes.put(pass);
     let (notes, seat) = table.close(passes);
-    Ok((notes.into_vec(), counter.close(seat)))
+    (notes.into_vec(), counter.close(seat))
 }
 
 #[test]
-fn a_look_finds_what_was_added_and_not_retired(rt: HostRuntime) -> Result<(), Fail> {
-    let (entries, stamps) = entries_of_cases(&rt, rt.alloc())?;
+fn a_look_finds_what_was_added_and_not_retired(rt: HostRuntime) {
+    let (entries, stamps) = entries_of_cases(&rt, rt.alloc());
     assert_same(&rt, entries.len(), NOTES.len(), "how many entries");
     let mut call = 0u32;
     for (act, name, live) in NOTES {
@@ -95,7 +92,6 @@ fn a_look_finds_what_was_added_and_not_retired(rt: HostRuntime) -> Result<(), Fa
         call = call.wrapping_add(1);
     }
     assert_same(&rt, stamps, 14, "stamps");
-    Ok(())
 }
 
 // A pass with its lane's seat, for each pass of a new table.
@@ -216,26 +212,23 @@ fn is_told(entries: &[Entry]) -> bool {
 }
 
 // The entries of a new table once four lanes noted, and how many stamps were drawn.
-fn entries_of_four<R: Threads + Wait + Sync>(
-    rt: &R,
-    alloc: Global,
-) -> Result<(Vec<Entry>, u64), Fail> {
-    let (counter, mut seats) = StampCounter::new(alloc, &[1200, 0])?;
-    let seat = seats.take().ok_or("the table's seat")?;
-    let lane_seat = seats.take().ok_or("a lane's seat")?;
-    let (table, mut passes) = LiveTable::new(alloc, 2, &[300, 300, 300, 300], seat)?;
-    let lanes = hand_out(alloc, &table, &counter, &mut passes, lane_seat)?;
-    let used = note_all(rt, &table, &counter, lanes)?;
+fn entries_of_four<R: Abort + Threads + Wait + Sync>(rt: &R, alloc: Global) -> (Vec<Entry>, u64) {
+    let (counter, mut seats) = StampCounter::new(alloc, &[1200, 0]).expect(rt, "memory");
+    let seat = seats.take().expect(rt, "the table's seat");
+    let lane_seat = seats.take().expect(rt, "a lane's seat");
+    let made = LiveTable::new(alloc, 2, &[300, 300, 300, 300], seat);
+    let (table, mut passes) = made.expect(rt, "memory");
+    let lanes = hand_out(alloc, &table, &counter, &mut passes, lane_seat).expect(rt, "memory");
+    let used = note_all(rt, &table, &counter, lanes).expect(rt, "memory");
     take_back(&table, &mut passes, used);
     let (notes, seat) = table.close(passes);
-    Ok((notes.into_vec(), counter.close(seat)))
+    (notes.into_vec(), counter.close(seat))
 }
 
 #[test]
-fn four_lanes_note_at_once(rt: HostRuntime) -> Result<(), Fail> {
-    let (entries, stamps) = entries_of_four(&rt, rt.alloc())?;
+fn four_lanes_note_at_once(rt: HostRuntime) {
+    let (entries, stamps) = entries_of_four(&rt, rt.alloc());
     assert_same(&rt, entries.len(), 1200, "how many entries");
     assert!(rt; is_told(&entries));
     assert_same(&rt, stamps, 1200, "stamps");
-    Ok(())
 }

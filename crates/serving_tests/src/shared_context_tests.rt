@@ -8,11 +8,11 @@ ghost use Rattle.turn_lock.specs.Passes.{AllOf};
 ghost use Rattle.stamp_counter.specs.Stamps.{IsNote};
 ghost use Rattle.serving_tests.specs.Passes.{MayDraw};
 
-use crate::expected::assert_same;
+use crate::expected::{array_of, assert_same};
 use aes_gcm::Checks;
 use call_places::{Item, Span, Step};
 use context_books::{Book, Draw};
-use hex::{FromHex, decode};
+use hex::decode;
 use hkdf_labelled::{Aead, Kdf, Suite};
 use hpke_context::Context;
 use key_schedule::{Mode, Role, schedule};
@@ -20,8 +20,8 @@ use shared_context::SharedContext;
 use speculative_open::GuessTable;
 use stamp_counter::{StampCounter, StampSeat};
 use std::alloc::{AllocError as OutOfMemory, Global};
+use std::process::Abort;
 use std::sync::Wait;
-use std::test::Fail;
 use std::thread::{Threads, map_vec};
 use turn_lock::{Pass, PassList};
 
@@ -37,15 +37,13 @@ const SHARED_SECRET: &str = "fe0e18c9f024ce43799ae393c7e8fe8fce9d218875e8227b018
 const INFO: &[u8] = b"Ode on a Grecian Urn";
 
 // One end's context, in mode base.
-fn context_of(alloc: Global, role: Role, limit: u64) -> Result<Context, Fail>
+fn context_of(rt: &impl Abort, alloc: Global, role: Role, limit: u64) -> Context
     requires { 1 ≤ limit }
-    ensures { IfOk result (λ c. (c.role ≡ role) × (c.limit ≡ limit) × HasCipher c) }
+    ensures { (result.role ≡ role) × (result.limit ≡ limit) × HasCipher result }
 {
-    let shared_secret = decode(alloc, SHARED_SECRET)?;
-    match schedule(&SUITE, Mode::Base, &shared_secret, INFO, b"", b"") {
-        Ok(secrets) => Ok(Context::new(role, SUITE, secrets, limit)),
-        Err(_) => Err("a psk fault".into()),
-    }
+    let shared_secret = decode(alloc, SHARED_SECRET).expect(rt, "hex");
+    let secrets = schedule(&SUITE, Mode::Base, &shared_secret, INFO, b"", b"");
+    Context::new(role, SUITE, secrets.expect(rt, "secrets"), limit)
 }
 
 // A pass with its lane's seat, for each pass of a new context.
@@ -146,40 +144,40 @@ fn is_numbered(book: &Book, limit: u64) -> bool {
 
 // A counter, a context of two lanes, which may add a thousand entries each, their passes, and a
 // lane's seat.
-fn two_lanes(alloc: Global) -> Result<(StampCounter, SharedContext, PassList, StampSeat), Fail>
-    ensures context { IfOk result (λ r. CanSeal r.1.context × (r.1.passes ≡ 2)
-        × (r.1.lock.terms.counter ≡ r.0.id) × (r.0.all ≡ 2000)
-        × (sum r.1.lock.terms.quotas ≡ 2000)) }
-    ensures passes { IfOk result (λ r. All (MayDraw r.1.lock 0 1000) r.2.passes
-        × (length r.2.passes ≡ 2) × (r.2.made ≡ 2)) }
-    ensures seat { IfOk result (λ r. IsNote r.0.id r.3) }
+fn two_lanes(rt: &impl Abort, alloc: Global) -> (StampCounter, SharedContext, PassList, StampSeat)
+    ensures context { CanSeal result.1.context × (result.1.passes ≡ 2)
+        × (result.1.lock.terms.counter ≡ result.0.id) × (result.0.all ≡ 2000)
+        × (sum result.1.lock.terms.quotas ≡ 2000) }
+    ensures passes { All (MayDraw result.1.lock 0 1000) result.2.passes
+        × (length result.2.passes ≡ 2) × (result.2.made ≡ 2) }
+    ensures seat { IsNote result.0.id result.3 }
 {
-    let (counter, mut seats) = StampCounter::new(alloc, &[2000, 0])?;
-    let seat = seats.take().ok_or("the context's seat")?;
-    let lane_seat = seats.take().ok_or("a lane's seat")?;
-    let context = context_of(alloc, Role::Sender, 1500)?;
-    let (context, passes) = SharedContext::new(alloc, context, &[1000, 1000], seat)?;
-    Ok((counter, context, passes, lane_seat))
+    let (counter, mut seats) = StampCounter::new(alloc, &[2000, 0]).expect(rt, "memory");
+    let seat = seats.take().expect(rt, "the context's seat");
+    let lane_seat = seats.take().expect(rt, "a lane's seat");
+    let context = context_of(rt, alloc, Role::Sender, 1500);
+    let made = SharedContext::new(alloc, context, &[1000, 1000], seat);
+    let (context, passes) = made.expect(rt, "memory");
+    (counter, context, passes, lane_seat)
 }
 
 // The book once both lanes drew, and how many stamps were drawn.
-fn drawn_by_two<R: Threads + Wait + Sync>(rt: &R, alloc: Global) -> Result<(Book, u64), Fail> {
-    let (counter, context, mut passes, lane_seat) = two_lanes(alloc)?;
-    let lanes = hand_out(alloc, &context, &counter, &mut passes, lane_seat)?;
-    let used = draw_all(rt, &context, &counter, lanes)?;
-    take_back(&context, &mut passes, used);
+fn drawn_by_two<R: Abort + Threads + Wait + Sync>(rt: &R, alloc: Global) -> (Book, u64) {
+    let (counter, context, mut passes, lane_seat) = two_lanes(rt, alloc);
+    let lanes = hand_out(alloc, &context, &counter, &mut passes, lane_seat);
+    let used = draw_all(rt, &context, &counter, lanes.expect(rt, "memory"));
+    take_back(&context, &mut passes, used.expect(rt, "memory"));
     let (_, book, seat) = context.close(passes);
-    Ok((book, counter.close(seat)))
+    (book, counter.close(seat))
 }
 
 #[test]
-fn two_lanes_draw_from_one_context(rt: HostRuntime) -> Result<(), Fail> {
-    let (book, stamps) = drawn_by_two(&rt, rt.alloc())?;
+fn two_lanes_draw_from_one_context(rt: HostRuntime) {
+    let (book, stamps) = drawn_by_two(&rt, rt.alloc());
     assert_same(&rt, book.entries().len(), 2000, "how many entries");
     assert_same(&rt, book.seq(), 1500, "sequence number");
     assert!(rt; is_numbered(&book, 1500));
     assert_same(&rt, stamps, 2000, "stamps");
-    Ok(())
 }
 
 // pt of RFC 9180, A.1.1.1.
@@ -205,7 +203,7 @@ const ITEMS: [Item; 2] = [
 ];
 
 // Draws a number and seals the text there. The lane has so many calls left, with this one.
-fn seal_one<R: Wait>(
+fn seal_one<R: Abort + Wait>(
     rt: &R,
     context: &SharedContext,
     counter: &StampCounter,
@@ -213,49 +211,47 @@ fn seal_one<R: Wait>(
     call: u32,
     left: u32,
     aad: &[u8],
-) -> Result<([u8; 45], (Pass, StampSeat)), Fail>
+) -> ([u8; 45], (Pass, StampSeat))
     requires seals { CanSeal context.now.context }
     requires counter { context.now.lock.terms.counter ≡ counter.now.id }
     requires may { MayDraw context.now.lock call left lane.0 × IsNote counter.now.id lane.1 }
     requires left { (0 < left) × (length aad.now ≡ 7) }
-    ensures { IfOk result (λ r. MayDraw context.now.lock (call + 1) (left - 1) r.1.0
-        × IsNote counter.now.id r.1.1) }
+    ensures { MayDraw context.now.lock (call + 1) (left - 1) result.1.0
+        × IsNote counter.now.id result.1.1 }
 {
     let (pass, seat) = lane;
     let (drawn, pass, seat) = context.draw(rt, pass, counter, seat, call);
     let Draw::Number(number) = drawn else {
-        return Err("a number".into());
+        panic!(rt; "a number");
     };
-    if number >= context.context().limit() {
-        return Err("a number below LIMIT".into());
-    }
+    assert!(rt; number < context.context().limit(), "a number below LIMIT");
     let mut ct = [0u8; 45];
     context.finish_seal(number, aad, TEXT, &mut ct);
-    Ok((ct, (pass, seat)))
+    (ct, (pass, seat))
 }
 
-fn table_at<R: Threads + Sync>(
+fn table_at<R: Abort + Threads + Sync>(
     rt: &R,
     alloc: Global,
     context: &Context,
     pool: &[u8],
     items: &[Item],
     guess: u64,
-) -> Result<GuessTable, Fail>
+) -> GuessTable
     requires spans { All (ItemIsInPool (length pool.now)) items.now }
     requires guess { guess ≤ context.now.limit }
-    ensures { IfOk result (λ t. IsTableFor context.now pool.now items.now t) }
+    ensures { IsTableFor context.now pool.now items.now result }
 {
     let (Some(key), Some(base_nonce)) = (context.cipher(), context.base_nonce()) else {
-        return Err("a cipher".into());
+        panic!(rt; "a cipher");
     };
-    let mut table = GuessTable::with_room(alloc, items.len())?;
+    let mut table = GuessTable::with_room(alloc, items.len()).expect(rt, "memory");
     table.fill(rt, key, base_nonce, guess, context.limit(), pool, items);
-    Ok(table)
+    table
 }
 
 // Opens an item at the call after this one, with a guess that is looked up before.
-fn open_one<R: Threads + Wait + Sync>(
+fn open_one<R: Abort + Threads + Wait + Sync>(
     rt: &R,
     alloc: Global,
     context: &SharedContext,
@@ -265,22 +261,20 @@ fn open_one<R: Threads + Wait + Sync>(
     left: u32,
     pool: &[u8; 104],
     item: Item,
-) -> Result<([u8; 29], (Pass, StampSeat)), Fail>
+) -> ([u8; 29], (Pass, StampSeat))
     requires opens { CanOpen context.now.context }
     requires counter { context.now.lock.terms.counter ≡ counter.now.id }
     requires may { MayDraw context.now.lock call left lane.0 × IsNote counter.now.id lane.1 }
     requires left { 0 < left }
     requires spans { ItemIsInPool 104 item × (item.text.len ≡ 45) }
-    ensures { IfOk result (λ r. MayDraw context.now.lock (call + 2) (left - 1) r.1.0
-        × IsNote counter.now.id r.1.1) }
+    ensures { MayDraw context.now.lock (call + 2) (left - 1) result.1.0
+        × IsNote counter.now.id result.1.1 }
 {
     let (pass, seat) = lane;
     let items = [item];
     let (guess, pass) = context.peek(rt, pass);
-    if guess > context.context().limit() {
-        return Err("a guess up to LIMIT".into());
-    }
-    let table = table_at(rt, alloc, context.context(), pool, &items, guess)?;
+    assert!(rt; guess <= context.context().limit(), "a guess up to LIMIT");
+    let table = table_at(rt, alloc, context.context(), pool, &items, guess);
     let mut checks = Checks::new(rt);
     let mut steps = [Step::Failed];
     let (number, missed, pass, seat) = context.commit(
@@ -295,69 +289,71 @@ fn open_one<R: Threads + Wait + Sync>(
         &mut steps,
         &mut checks,
     );
-    if steps[0] != Step::Opened || missed > 0 {
-        return Err("it opens at the guess".into());
-    }
+    assert!(rt;
+        steps[0] == Step::Opened && missed == 0,
+        "it opens at the guess"
+    );
     let mut text = [0u8; 29];
     context.finish_open(number, item.aad.of(pool), item.text.of(pool), &mut text);
-    Ok((text, (pass, seat)))
+    (text, (pass, seat))
 }
 
 // A counter, a context of one lane, which may add two entries, and the lane.
 fn one_lane(
+    rt: &impl Abort,
     alloc: Global,
     role: Role,
-) -> Result<(StampCounter, SharedContext, (Pass, StampSeat)), Fail>
-    ensures context { IfOk result (λ r. (r.1.context.role ≡ role) × HasCipher r.1.context
-        × (r.1.lock.terms.counter ≡ r.0.id)) }
-    ensures lane { IfOk result (λ r. MayDraw r.1.lock 0 2 r.2.0 × IsNote r.0.id r.2.1) }
+) -> (StampCounter, SharedContext, (Pass, StampSeat))
+    ensures context { (result.1.context.role ≡ role) × HasCipher result.1.context
+        × (result.1.lock.terms.counter ≡ result.0.id) }
+    ensures lane { MayDraw result.1.lock 0 2 result.2.0 × IsNote result.0.id result.2.1 }
 {
-    let (counter, mut seats) = StampCounter::new(alloc, &[2, 0])?;
-    let seat = seats.take().ok_or("the context's seat")?;
-    let lane_seat = seats.take().ok_or("the lane's seat")?;
-    let context = context_of(alloc, role, 9)?;
-    let (context, mut passes) = SharedContext::new(alloc, context, &[2], seat)?;
-    let pass = passes.take().ok_or("the pass")?;
-    Ok((counter, context, (pass, lane_seat)))
+    let (counter, mut seats) = StampCounter::new(alloc, &[2, 0]).expect(rt, "memory");
+    let seat = seats.take().expect(rt, "the context's seat");
+    let lane_seat = seats.take().expect(rt, "the lane's seat");
+    let context = context_of(rt, alloc, role, 9);
+    let made = SharedContext::new(alloc, context, &[2], seat);
+    let (context, mut passes) = made.expect(rt, "memory");
+    let pass = passes.take().expect(rt, "the pass");
+    (counter, context, (pass, lane_seat))
 }
 
 // Both messages, as the sender seals them.
-fn sealed_both<R: Wait>(rt: &R, alloc: Global) -> Result<[[u8; 45]; 2], Fail> {
-    let (counter, sender, lane) = one_lane(alloc, Role::Sender)?;
-    let (first, lane) = seal_one(rt, &sender, &counter, lane, 0, 2, b"Count-0")?;
-    let (second, _) = seal_one(rt, &sender, &counter, lane, 1, 1, b"Count-1")?;
-    Ok([first, second])
+fn sealed_both<R: Abort + Wait>(rt: &R, alloc: Global) -> [[u8; 45]; 2] {
+    let (counter, sender, lane) = one_lane(rt, alloc, Role::Sender);
+    let (first, lane) = seal_one(rt, &sender, &counter, lane, 0, 2, b"Count-0");
+    let (second, _) = seal_one(rt, &sender, &counter, lane, 1, 1, b"Count-1");
+    [first, second]
 }
 
 // Both texts, as the recipient opens them.
-fn opened_both<R: Threads + Wait + Sync>(
+fn opened_both<R: Abort + Threads + Wait + Sync>(
     rt: &R,
     alloc: Global,
     pool: &[u8; 104],
-) -> Result<[[u8; 29]; 2], Fail> {
-    let (counter, recipient, lane) = one_lane(alloc, Role::Recipient)?;
+) -> [[u8; 29]; 2] {
+    let (counter, recipient, lane) = one_lane(rt, alloc, Role::Recipient);
     let [item, next] = ITEMS;
-    let (first, lane) = open_one(rt, alloc, &recipient, &counter, lane, 0, 2, pool, item)?;
-    let (second, _) = open_one(rt, alloc, &recipient, &counter, lane, 2, 1, pool, next)?;
-    Ok([first, second])
+    let (first, lane) = open_one(rt, alloc, &recipient, &counter, lane, 0, 2, pool, item);
+    let (second, _) = open_one(rt, alloc, &recipient, &counter, lane, 2, 1, pool, next);
+    [first, second]
 }
 
 #[test]
-fn what_one_end_sealed_the_other_opens(rt: HostRuntime) -> Result<(), Fail> {
-    let pool = <[u8; 104]>::from_hex(POOL)?;
-    let [first, second] = sealed_both(&rt, rt.alloc())?;
+fn what_one_end_sealed_the_other_opens(rt: HostRuntime) {
+    let pool: [u8; 104] = array_of(&rt, POOL);
+    let [first, second] = sealed_both(&rt, rt.alloc());
     assert_same(&rt, &first[..], &pool[14..59], "first");
     assert_same(&rt, &second[..], &pool[59..], "second");
-    let texts = opened_both(&rt, rt.alloc(), &pool)?;
+    let texts = opened_both(&rt, rt.alloc(), &pool);
     assert_same(&rt, texts, [*TEXT; 2], "texts");
-    Ok(())
 }
 
 #[test]
-fn an_export_is_that_published(rt: HostRuntime) -> Result<(), Fail> {
-    let (_, context, _) = one_lane(rt.alloc(), Role::Recipient)?;
+fn an_export_is_that_published(rt: HostRuntime) {
+    let (_, context, _) = one_lane(&rt, rt.alloc(), Role::Recipient);
     let mut exported = [0u8; 32];
     assert!(rt; context.export_into(b"", &mut exported).is_ok());
-    assert_same(&rt, exported, <[u8; 32]>::from_hex(EXPORTED)?, "exported");
-    Ok(())
+    let want: [u8; 32] = array_of(&rt, EXPORTED);
+    assert_same(&rt, exported, want, "exported");
 }

@@ -8,39 +8,27 @@ use stamp_counter::{
     SeatList, StampCounter, StampSeat, each_step_keeps_the_rule, the_rule_tells_stamps_apart,
 };
 use std::alloc::{AllocError as OutOfMemory, Global};
+use std::process::Abort;
 use std::sync::atomic::{AtomicBool, Ordering};
-use std::test::Fail;
 use std::thread::{Threads, for_each_mut};
 
 #[test]
-fn stamps_are_drawn_once_each(rt: HostRuntime) -> Result<(), Fail> {
-    let (counter, mut seats) = StampCounter::new(rt.alloc(), &[2, 1])?;
-    let mut first = seats.take().ok_or("the first seat")?;
-    let mut second = seats.take().ok_or("the second seat")?;
+fn stamps_are_drawn_once_each(rt: HostRuntime) {
+    let made = StampCounter::new(rt.alloc(), &[2, 1]);
+    let (counter, mut seats) = made.expect(&rt, "memory");
+    let mut first = seats.take().expect(&rt, "the first seat");
+    let mut second = seats.take().expect(&rt, "the second seat");
     assert!(rt; seats.take().is_none());
-    assert_same(
-        &rt,
-        counter.draw(&mut first, 1),
-        0,
-        "a stamp of the first seat",
-    );
-    assert_same(
-        &rt,
-        counter.draw(&mut second, 1),
-        1,
-        "a stamp of the second seat",
-    );
-    assert_same(
-        &rt,
-        counter.draw(&mut first, 1),
-        2,
-        "a stamp of the first seat",
-    );
+    let drawn = counter.draw(&mut first, 1);
+    assert_same(&rt, drawn, 0, "a stamp of the first seat");
+    let drawn = counter.draw(&mut second, 1);
+    assert_same(&rt, drawn, 1, "a stamp of the second seat");
+    let drawn = counter.draw(&mut first, 1);
+    assert_same(&rt, drawn, 2, "a stamp of the first seat");
     counter.join(&mut first, second);
     assert_same(&rt, counter.close(first), 3, "stamps drawn");
     the_rule_tells_stamps_apart();
     each_step_keeps_the_rule();
-    Ok(())
 }
 
 fn set_mark(marks: &[AtomicBool], stamp: u64) {
@@ -97,23 +85,23 @@ fn join_all(counter: &StampCounter, mut seats: Vec<StampSeat>) -> Option<StampSe
 }
 
 // So many marks, and none is set.
-fn no_marks(alloc: Global, count: usize) -> Result<Vec<AtomicBool>, OutOfMemory> {
+fn no_marks(rt: &impl Abort, alloc: Global, count: usize) -> Vec<AtomicBool> {
     let mut marks = Vec::new(alloc);
     for _ in 0..count {
-        marks.push(AtomicBool::new(false))?;
+        marks.push(AtomicBool::new(false)).expect(rt, "memory");
     }
-    Ok(marks)
+    marks
 }
 
 // 2000 draws mark 2000 numbers: so each of them is drawn once.
 #[test]
-fn eight_threads_draw_each_stamp_once(rt: HostRuntime) -> Result<(), Fail> {
-    let (counter, list) = StampCounter::new(rt.alloc(), &[250; 8])?;
-    let mut seats = hand_out(rt.alloc(), list)?;
-    let marks = no_marks(rt.alloc(), 2000)?;
+fn eight_threads_draw_each_stamp_once(rt: HostRuntime) {
+    let made = StampCounter::new(rt.alloc(), &[250; 8]);
+    let (counter, list) = made.expect(&rt, "memory");
+    let mut seats = hand_out(rt.alloc(), list).expect(&rt, "memory");
+    let marks = no_marks(&rt, rt.alloc(), 2000);
     draw_all(&rt, &counter, &marks, seats.as_mut_slice());
     assert!(rt; marks.iter().all(|mark| mark.load(Ordering::SeqCst)));
-    let seat = join_all(&counter, seats).ok_or("a seat")?;
+    let seat = join_all(&counter, seats).expect(&rt, "a seat");
     assert_same(&rt, counter.close(seat), 2000, "stamps drawn");
-    Ok(())
 }

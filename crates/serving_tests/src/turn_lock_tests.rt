@@ -12,7 +12,6 @@ use std::alloc::{AllocError as OutOfMemory, Global};
 use std::hint;
 use std::process::Abort;
 use std::sync::Wait;
-use std::test::Fail;
 use std::thread::{Threads, join, map_vec};
 use turn_lock::{Pass, PassList, TurnLock, each_step_keeps_the_rule, the_rule_tells_seats_apart};
 
@@ -144,24 +143,25 @@ fn take_back(lock: &TurnLock<Log>, list: &mut PassList, mut passes: Vec<Pass>)
 }
 
 // The log once each of so many passes added so many entries.
-fn filled<R: Threads + Wait + Sync>(
+fn filled<R: Abort + Threads + Wait + Sync>(
     rt: &R,
     alloc: Global,
     passes: u32,
     each: u32,
     pauses: u32,
-) -> Result<Log, OutOfMemory>
+) -> Log
     requires passes { (0 < passes) × (passes < 65536) }
     requires each { each < 4294967295 }
 {
+    let entries = Vec::with_capacity(alloc, passes as usize * each as usize);
     let log = Log {
-        list: Vec::with_capacity(alloc, passes as usize * each as usize)?,
+        list: entries.expect(rt, "memory"),
     };
-    let (lock, mut list) = TurnLock::new(alloc, log, passes)?;
-    let new = hand_out(alloc, &lock, &mut list)?;
-    let used = add_all(rt, &lock, new, each, pauses)?;
+    let (lock, mut list) = TurnLock::new(alloc, log, passes).expect(rt, "memory");
+    let new = hand_out(alloc, &lock, &mut list).expect(rt, "memory");
+    let used = add_all(rt, &lock, new, each, pauses).expect(rt, "memory");
     take_back(&lock, &mut list, used);
-    Ok(lock.close(list))
+    lock.close(list)
 }
 
 // Whether each of at most 16 lanes has the calls from 0 on, in order.
@@ -183,51 +183,44 @@ fn assert_in_order(rt: &impl Abort, log: &Log, count: usize) {
 }
 
 #[test]
-fn each_lane_has_its_calls_in_order(rt: HostRuntime) -> Result<(), Fail> {
-    let two = filled(&rt, rt.alloc(), 2, 1000, 0)?;
+fn each_lane_has_its_calls_in_order(rt: HostRuntime) {
+    let two = filled(&rt, rt.alloc(), 2, 1000, 0);
     assert_in_order(&rt, &two, 2000);
-    let sixteen = filled(&rt, rt.alloc(), 16, 200, 0)?;
+    let sixteen = filled(&rt, rt.alloc(), 16, 200, 0);
     assert_in_order(&rt, &sixteen, 3200);
-    let untouched = filled(&rt, rt.alloc(), 3, 0, 0)?;
+    let untouched = filled(&rt, rt.alloc(), 3, 0, 0);
     assert_same(&rt, untouched.list.len(), 0, "what was not listed");
-    Ok(())
 }
 
 // Each turn is longer than a pass looks for its own, so those that wait sleep.
 #[test]
-fn those_who_sleep_get_their_turns(rt: HostRuntime) -> Result<(), Fail> {
-    let log = filled(&rt, rt.alloc(), 8, 20, 20_000)?;
+fn those_who_sleep_get_their_turns(rt: HostRuntime) {
+    let log = filled(&rt, rt.alloc(), 8, 20, 20_000);
     assert_in_order(&rt, &log, 160);
-    Ok(())
 }
 
 #[test]
-fn the_lowest_pass_is_taken_first(rt: HostRuntime) -> Result<(), Fail> {
+fn the_lowest_pass_is_taken_first(rt: HostRuntime) {
     let log = Log {
         list: Vec::new(rt.alloc()),
     };
-    let (lock, mut passes) = TurnLock::new(rt.alloc(), log, 3)?;
-    let first = passes.take().ok_or("the first pass")?;
-    let second = passes.take().ok_or("the second pass")?;
-    let third = passes.take().ok_or("the third pass")?;
+    let (lock, mut passes) = TurnLock::new(rt.alloc(), log, 3).expect(&rt, "memory");
+    let first = passes.take().expect(&rt, "the first pass");
+    let second = passes.take().expect(&rt, "the second pass");
+    let third = passes.take().expect(&rt, "the third pass");
     assert!(rt; passes.take().is_none());
     passes.put(second);
     passes.put(third);
     passes.put(first);
     for number in 0..3 {
-        let pass = passes.take().ok_or("a pass that was put back")?;
-        assert_same(
-            &rt,
-            (pass.number(), pass.turns(), pass.next_call()),
-            (number, 0, 0),
-            "the pass",
-        );
+        let pass = passes.take().expect(&rt, "a pass that was put back");
+        let got = (pass.number(), pass.turns(), pass.next_call());
+        assert_same(&rt, got, (number, 0, 0), "the pass");
     }
     let _ = lock;
     // The laws, at a concrete type.
     the_rule_tells_seats_apart::<Log>();
     each_step_keeps_the_rule::<Log>();
-    Ok(())
 }
 
 // Two threads share the lock of any value that may be sent, and passes are sent to them. Never run:

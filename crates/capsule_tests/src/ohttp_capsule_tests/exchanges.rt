@@ -12,7 +12,6 @@ use sha2::{Digest, Sha256};
 use sntrup_kem::{KemParams, PublicKey, SecretKey};
 use std::alloc::Global;
 use std::process::Abort;
-use std::test::Fail;
 use std::thread::Threads;
 
 struct ExchangeCase {
@@ -24,7 +23,7 @@ struct ExchangeCase {
 
 // tools/vectors/ohttp_capsules.py, by hashlib, hmac, `cryptography` and the KEM of tools/reference: the
 // key of stream 0 of the zero seed, r from stream 1, key identifier 7, and a nonce of bytes aa.
-const EXCHANGES_761: [ExchangeCase; 6] = [
+static EXCHANGES_761: [ExchangeCase; 6] = [
     ExchangeCase {
         kdf: Kdf::Sha256,
         aead: Aead::Aes128,
@@ -63,7 +62,7 @@ const EXCHANGES_761: [ExchangeCase; 6] = [
     },
 ];
 
-const EXCHANGES_857: [ExchangeCase; 6] = [
+static EXCHANGES_857: [ExchangeCase; 6] = [
     ExchangeCase {
         kdf: Kdf::Sha256,
         aead: Aead::Aes128,
@@ -142,51 +141,57 @@ fn assert_exchange<R: Abort + Threads + Sync, S: KemParams>(
 }
 
 #[test]
-fn exchanges_are_those_of_another_program(rt: HostRuntime) -> Result<(), Fail> {
-    let alloc = rt.alloc();
-    let (public, secret) = keys_of::<Sntrup761>(&rt, alloc);
-    for case in &EXCHANGES_761 {
-        assert_exchange(&rt, alloc, &public, &secret, case);
+fn exchanges_are_those_of_another_program(rt: HostRuntime) {
+    assert_exchanges::<_, Sntrup761>(&rt, rt.alloc(), &EXCHANGES_761);
+    assert_exchanges::<_, Sntrup857>(&rt, rt.alloc(), &EXCHANGES_857);
+}
+
+fn assert_exchanges<R: Abort + Threads + Sync, S: KemParams>(
+    rt: &R,
+    alloc: Global,
+    cases: &[ExchangeCase],
+) {
+    let (public, secret) = keys_of::<S>(rt, alloc);
+    for case in cases {
+        assert_exchange(rt, alloc, &public, &secret, case);
     }
-    let (public, secret) = keys_of::<Sntrup857>(&rt, alloc);
-    for case in &EXCHANGES_857 {
-        assert_exchange(&rt, alloc, &public, &secret, case);
-    }
-    Ok(())
 }
 
 // Texts of no byte, and of the most that there may be. sntrup857 has the longer encapsulations, and so
 // its requests are the longest that are answered.
 #[test]
-fn texts_of_the_least_and_the_most_bytes_are_exchanged(rt: HostRuntime) -> Result<(), Fail> {
+fn texts_of_the_least_and_the_most_bytes_are_exchanged(rt: HostRuntime) {
     let alloc = rt.alloc();
     let (public, secret) = keys_of::<Sntrup857>(&rt, alloc);
+    for length in [0, 1_048_576] {
+        let text = vec![in alloc; 7u8; length].expect(&rt, "memory");
+        assert_text(&rt, alloc, &public, &secret, &text);
+    }
+}
+
+// The text is asked, and answered with itself.
+fn assert_text<R: Abort + Threads + Sync>(
+    rt: &R,
+    alloc: Global,
+    public: &PublicKey<Sntrup857>,
+    secret: &SecretKey<Sntrup857>,
+    text: &[u8],
+) {
+    let length = text.len();
+    assert!(rt; length <= 1_048_576);
     let suite = Suite {
         kem: Sntrup857::ID,
         kdf: Kdf::Sha256,
         aead: Aead::Aes256,
     };
-    for length in [0, 1_048_576usize] {
-        assert!(rt; length <= 1_048_576);
-        let text = vec![in alloc; 7u8; length]?;
-        let (asked, request) = asked(&rt, alloc, &public, &suite, &text);
-        assert_same(
-            &rt,
-            request.as_slice().len(),
-            7 + 1_184 + length + 16,
-            "size of the request",
-        );
-        let answer = answered(&rt, alloc, &secret, request.as_slice(), &[3; 32], &text);
-        let (question, response) = answer.expect(&rt, "an answer");
-        assert!(rt; question.as_slice() == text.as_slice(), "the question");
-        assert_same(
-            &rt,
-            response.as_slice().len(),
-            32 + length + 16,
-            "size of the response",
-        );
-        let reply = taken(&rt, alloc, &asked, response.as_slice()).expect(&rt, "a reply");
-        assert!(rt; reply.as_slice() == text.as_slice(), "the reply");
-    }
-    Ok(())
+    let (asked, request) = asked(rt, alloc, public, &suite, text);
+    let size = request.as_slice().len();
+    assert_same(rt, size, 7 + 1_184 + length + 16, "size of the request");
+    let answer = answered(rt, alloc, secret, request.as_slice(), &[3; 32], text);
+    let (question, response) = answer.expect(rt, "an answer");
+    assert!(rt; question.as_slice() == text, "the question");
+    let size = response.as_slice().len();
+    assert_same(rt, size, 32 + length + 16, "size of the response");
+    let reply = taken(rt, alloc, &asked, response.as_slice()).expect(rt, "a reply");
+    assert!(rt; reply.as_slice() == text, "the reply");
 }

@@ -9,7 +9,6 @@ use ring_core::{Sntrup761, Sntrup857};
 use sntrup_kem::{KemParams, SecretKey};
 use std::alloc::Global;
 use std::process::Abort;
-use std::test::Fail;
 use std::thread::Threads;
 
 // What is spoilt; the length that the message is cut to, or filled up to with zeros; the masks that are
@@ -32,7 +31,7 @@ fn spoil(rt: &impl Abort, alloc: Global, bytes: &[u8], case: &Spoilt) -> ByteLis
 
 // Of a request to key 7 of sntrup761 with HKDF-SHA256 and AES-128-GCM: 7 bytes of header, 1,039 of
 // the encapsulation, and 45 of the ciphertext.
-const REQUESTS: [Spoilt; 27] = [
+static REQUESTS: [Spoilt; 27] = [
     Spoilt("no byte", 0, NONE, 16, CapsuleFault::Short),
     Spoilt("6 bytes of a header", 6, NONE, 16, CapsuleFault::Short),
     Spoilt("a header", 7, NONE, 16, CapsuleFault::Short),
@@ -153,13 +152,13 @@ const REQUESTS: [Spoilt; 27] = [
 ];
 
 // The same of sntrup857, whose encapsulations have 1,184 bytes.
-const REQUESTS_857: [Spoilt; 2] = [
+static REQUESTS_857: [Spoilt; 2] = [
     Spoilt("15 bytes of a tag", 1_206, NONE, 16, CapsuleFault::Short),
     Spoilt("a tag alone", 1_207, NONE, 16, CapsuleFault::Failed),
 ];
 
 // Of a response with AES-128-GCM: 16 bytes of nonce, and 36 of the ciphertext.
-const RESPONSES: [Spoilt; 8] = [
+static RESPONSES: [Spoilt; 8] = [
     Spoilt("no byte", 0, NONE, 16, CapsuleFault::Short),
     Spoilt("a nonce", 16, NONE, 16, CapsuleFault::Short),
     Spoilt("15 bytes of a tag", 31, NONE, 16, CapsuleFault::Short),
@@ -189,13 +188,13 @@ const RESPONSES: [Spoilt; 8] = [
 ];
 
 // The same with AES-256-GCM, and 32 bytes of nonce.
-const RESPONSES_256: [Spoilt; 2] = [
+static RESPONSES_256: [Spoilt; 2] = [
     Spoilt("15 bytes of a tag", 47, NONE, 32, CapsuleFault::Short),
     Spoilt("a tag alone", 48, NONE, 32, CapsuleFault::Failed),
 ];
 
 // A response that isn't spoilt, taken with another encapsulation.
-const WHOLE: Spoilt = Spoilt("another encapsulation", 52, NONE, 16, CapsuleFault::Failed);
+static WHOLE: Spoilt = Spoilt("another encapsulation", 52, NONE, 16, CapsuleFault::Failed);
 
 fn assert_request_refused<R: Abort + Threads + Sync, S: KemParams>(
     rt: &R,
@@ -242,7 +241,7 @@ const SUITE_256: Suite = Suite {
 };
 
 #[test]
-fn requests_are_refused_by_the_first_cause(rt: HostRuntime) -> Result<(), Fail> {
+fn requests_are_refused_by_the_first_cause(rt: HostRuntime) {
     let alloc = rt.alloc();
     let (public, secret) = keys_of::<Sntrup761>(&rt, alloc);
     let (_asked, request) = asked(&rt, alloc, &public, &SUITE, QUESTION);
@@ -251,12 +250,11 @@ fn requests_are_refused_by_the_first_cause(rt: HostRuntime) -> Result<(), Fail> 
     for case in &REQUESTS {
         assert_request_refused(&rt, alloc, &secret, request.as_slice(), case);
     }
-    Ok(())
 }
 
 // Spoilt responses, and one that is taken with another encapsulation.
 #[test]
-fn responses_are_refused_by_the_first_cause(rt: HostRuntime) -> Result<(), Fail> {
+fn responses_are_refused_by_the_first_cause(rt: HostRuntime) {
     let alloc = rt.alloc();
     let (public, secret) = keys_of::<Sntrup761>(&rt, alloc);
     let (asked, request) = asked(&rt, alloc, &public, &SUITE, QUESTION);
@@ -265,12 +263,12 @@ fn responses_are_refused_by_the_first_cause(rt: HostRuntime) -> Result<(), Fail>
     for case in &RESPONSES {
         assert_response_refused(&rt, alloc, &asked, response.as_slice(), case);
     }
+    let zeros = vec![in alloc; 0u8; 1_039].expect(&rt, "memory");
     let other = Asked {
         context: asked.context,
-        enc: PlainList::from_vec(vec![in alloc; 0u8; 1_039]?),
+        enc: PlainList::from_vec(zeros),
     };
     assert_response_refused(&rt, alloc, &other, response.as_slice(), &WHOLE);
-    Ok(())
 }
 
 // The response is of zeros.

@@ -26,9 +26,9 @@ const NOTHING: LaneWant = LaneWant {
     batches: &[],
 };
 
-pub(crate) const LANE_1_FIRST: Want = Want {
+pub(crate) static LANE_1_FIRST: Want = Want {
     name: "lane 1 first",
-    lanes: [
+    lanes: &[
         LaneWant {
             pool: &[SEALED_1],
             replies: &[Reply::Sealed {
@@ -49,9 +49,9 @@ pub(crate) const LANE_1_FIRST: Want = Want {
     journals: [&[(1, 0, 0, 0), (0, 0, 0, 1)], &[]],
 };
 
-pub(crate) const LANES_NOT_THERE: Want = Want {
+pub(crate) static LANES_NOT_THERE: Want = Want {
     name: "lanes that aren't there",
-    lanes: [
+    lanes: &[
         LaneWant {
             pool: &[SEALED_0],
             replies: &[Reply::Sealed {
@@ -72,9 +72,9 @@ pub(crate) const LANES_NOT_THERE: Want = Want {
     journals: [&[(0, 0, 0, 0), (1, 0, 0, 1)], &[]],
 };
 
-pub(crate) const CHANGED_TAG: Want = Want {
+pub(crate) static CHANGED_TAG: Want = Want {
     name: "a changed tag between two messages",
-    lanes: [
+    lanes: &[
         LaneWant {
             pool: &[TEXT, NO_TEXT, TEXT],
             replies: &[
@@ -98,9 +98,9 @@ pub(crate) const CHANGED_TAG: Want = Want {
     journals: [&[], &[(0, 0, 0, 0), (0, 0, 1, 1), (0, 0, 2, 2)]],
 };
 
-pub(crate) const FIVE_CHANGED_TAGS: Want = Want {
+pub(crate) static FIVE_CHANGED_TAGS: Want = Want {
     name: "five changed tags before a message",
-    lanes: [
+    lanes: &[
         LaneWant {
             pool: &[NO_TEXT, NO_TEXT, NO_TEXT, NO_TEXT, NO_TEXT, TEXT],
             replies: &[
@@ -137,9 +137,9 @@ pub(crate) const FIVE_CHANGED_TAGS: Want = Want {
     ],
 };
 
-pub(crate) const STALE_GUESS: Want = Want {
+pub(crate) static STALE_GUESS: Want = Want {
     name: "a stale guess",
-    lanes: [
+    lanes: &[
         LaneWant {
             pool: &[TEXT],
             replies: &[Reply::Opened {
@@ -163,9 +163,9 @@ pub(crate) const STALE_GUESS: Want = Want {
     journals: [&[], &[(1, 0, 0, 0), (0, 0, 0, 1)]],
 };
 
-pub(crate) const REPLAY: Want = Want {
+pub(crate) static REPLAY: Want = Want {
     name: "a replay",
-    lanes: [
+    lanes: &[
         LaneWant {
             pool: &[TEXT, NO_TEXT],
             replies: &[
@@ -185,9 +185,9 @@ pub(crate) const REPLAY: Want = Want {
     journals: [&[], &[(0, 0, 0, 0), (0, 0, 1, 1)]],
 };
 
-pub(crate) const TWO_CONTEXTS: Want = Want {
+pub(crate) static TWO_CONTEXTS: Want = Want {
     name: "two contexts",
-    lanes: [
+    lanes: &[
         LaneWant {
             pool: &[SEALED_0, TEXT, TEXT],
             replies: &[
@@ -221,9 +221,9 @@ pub(crate) const TWO_CONTEXTS: Want = Want {
     journals: [&[(0, 0, 0, 0), (1, 0, 0, 1)], &[(0, 1, 0, 2), (0, 1, 1, 3)]],
 };
 
-pub(crate) const LIMIT_1: Want = Want {
+pub(crate) static LIMIT_1: Want = Want {
     name: "LIMIT is 1",
-    lanes: [
+    lanes: &[
         LaneWant {
             pool: &[SEALED_0, NO_CIPHERTEXT],
             replies: &[
@@ -255,9 +255,9 @@ pub(crate) const LIMIT_1: Want = Want {
 };
 
 // By tools/reference/hpkebatch.py, with the room for what failed.
-pub(crate) const ALL_KINDS: Want = Want {
+pub(crate) static ALL_KINDS: Want = Want {
     name: "all kinds of calls",
-    lanes: [
+    lanes: &[
         LaneWant {
             pool: &[
                 "f938558b5d72f1a23810b4be2ab4f84331acc02fc97babc53a52ae8218\

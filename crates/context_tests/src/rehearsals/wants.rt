@@ -19,7 +19,7 @@ pub(crate) struct LaneWant {
 // mark by lane, call, item and stamp.
 pub(crate) struct Want {
     pub(crate) name: &'static str,
-    pub(crate) lanes: [LaneWant; 2],
+    pub(crate) lanes: &'static [LaneWant; 2],
     pub(crate) journals: [&'static [(u32, u32, u32, u64)]; 2],
 }
 
@@ -62,7 +62,7 @@ fn expect_journal(rt: &impl Abort, name: &str, journal: &[Mark], want: &[(u32, u
 pub(crate) fn expect(rt: &impl Abort, alloc: Global, answers: &Answers, want: &Want) {
     let name = want.name;
     assert_same(rt, answers.lanes.as_slice().len(), 2, name);
-    for (lane, want) in answers.lanes.as_slice().iter().zip(&want.lanes) {
+    for (lane, want) in answers.lanes.as_slice().iter().zip(want.lanes) {
         expect_lane(rt, alloc, name, lane, want);
     }
     assert_same(rt, answers.journals.as_slice().len(), 2, name);

@@ -44,7 +44,7 @@ struct ExchangeCase {
     rejection: &'static str,
 }
 
-const EXCHANGES: [ExchangeCase; 2] = [
+static EXCHANGES: [ExchangeCase; 2] = [
     ExchangeCase {
         source: "sntrup761 of OpenSSH 9.2p1",
         generate: KeyLine::Generate,
@@ -212,21 +212,37 @@ fn assert_recipients(rt: &impl Abort, first: &Setup, second: &Setup, of: &str) {
     );
 }
 
-fn assert_exchange<M: Multiplier>(rt: &impl Abort, alloc: Global, case: &ExchangeCase, mult: &M) {
-    let of = case.source;
-    let first = set_up_with(rt, alloc, &sender_plan(rt, alloc, case), mult);
-    assert_sender(rt, &first, case);
-    let (_, secret) = pair_of(rt, &first, of);
-    let plan = recipients_plan(rt, alloc, case, secret, enc_of(rt, &first, of));
+fn assert_limits(rt: &impl Abort, alloc: Global, setup: &Setup) {
+    let limits = export_limits(alloc, setup.standing.as_slice()).expect(rt, "memory");
+    assert_same(rt, limits.as_slice(), &[8160; 5][..], "export limits");
+}
+
+// The second set-up, of what the first one gave.
+fn second_of<M: Multiplier>(
+    rt: &impl Abort,
+    alloc: Global,
+    case: &ExchangeCase,
+    first: &Setup,
+    mult: &M,
+) -> Setup {
+    let (_, secret) = pair_of(rt, first, case.source);
+    let enc = enc_of(rt, first, case.source);
+    let plan = recipients_plan(rt, alloc, case, secret, enc);
     let second = set_up_with(rt, alloc, &plan, mult);
-    assert_recipients(rt, &first, &second, of);
-    let limits = export_limits(alloc, second.standing.as_slice()).expect(rt, "memory");
-    assert_same(
-        rt,
-        limits.as_slice(),
-        [8160, 8160, 8160, 8160, 8160].as_slice(),
-        "export limits",
-    );
+    drop(plan);
+    second
+}
+
+fn assert_exchange<M: Multiplier>(rt: &impl Abort, alloc: Global, case: &ExchangeCase, mult: &M) {
+    let plan = sender_plan(rt, alloc, case);
+    let first = set_up_with(rt, alloc, &plan, mult);
+    drop(plan);
+    assert_sender(rt, &first, case);
+    let second = second_of(rt, alloc, case, &first, mult);
+    assert_recipients(rt, &first, &second, case.source);
+    assert_limits(rt, alloc, &second);
+    drop(first);
+    drop(second);
 }
 
 #[test]

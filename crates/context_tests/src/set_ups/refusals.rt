@@ -6,11 +6,11 @@ use batch_plans::{
     ContextKind, ContextLine, ContextRefusal, ContextReply, EncField, KeyLine, KeyRefusal, KeyReply,
 };
 use call_places::Span;
+use context_table::Setup;
 use key_schedule::{Mode, Role};
 use ring_core::Plain;
 use std::alloc::Global;
 use std::process::Abort;
-use std::test::Fail;
 
 fn refusal_of(reply: &ContextReply) -> Option<ContextRefusal> {
     match reply {
@@ -62,7 +62,7 @@ fn ffs_and_zeros(rt: &impl Abort, alloc: Global) -> Vec<u8> {
     pool
 }
 
-const KEY_REFUSALS: [(KeyLine, Option<KeyRefusal>); 7] = [
+static KEY_REFUSALS: [(KeyLine, Option<KeyRefusal>); 7] = [
     (KeyLine::Secret(SHORT_SECRET), Some(KeyRefusal::Length)),
     (KeyLine::Secret(FORMLESS), Some(KeyRefusal::Form)),
     (KeyLine::Peer(SHORT_PUBLIC), Some(KeyRefusal::Length)),
@@ -73,11 +73,11 @@ const KEY_REFUSALS: [(KeyLine, Option<KeyRefusal>); 7] = [
 ];
 
 #[test]
-fn keys_are_refused_by_length_and_form(rt: HostRuntime) -> Result<(), Fail> {
+fn keys_are_refused_by_length_and_form(rt: HostRuntime) {
     let alloc = rt.alloc();
     let mut keys = Vec::new(alloc);
     for case in &KEY_REFUSALS {
-        keys.push(case.0)?;
+        keys.push(case.0).expect(&rt, "memory");
     }
     let plan = plan_of(&rt, alloc, ffs_and_zeros(&rt, alloc), keys, Vec::new(alloc));
     let setup = set_up_with(&rt, alloc, &plan, &Plain);
@@ -85,7 +85,6 @@ fn keys_are_refused_by_length_and_form(rt: HostRuntime) -> Result<(), Fail> {
         let reply = setup.keys.as_slice().get(number).expect(&rt, "a reply");
         assert_at(&rt, key_refusal_of(reply), case.1, "key", number);
     }
-    Ok(())
 }
 
 // The last context line of a plan, after others in mode base. Each case is own, by hand.
@@ -129,7 +128,7 @@ const CASE: ContextCase = ContextCase {
     want: None,
 };
 
-const CONTEXT_REFUSALS: [ContextCase; 14] = [
+static CONTEXT_REFUSALS: [ContextCase; 14] = [
     CASE,
     ContextCase {
         what: "no key line",
@@ -238,15 +237,21 @@ fn lines_of(rt: &impl Abort, alloc: Global, case: &ContextCase) -> Vec<ContextLi
     lines
 }
 
+fn assert_last(rt: &impl Abort, setup: &Setup, case: &ContextCase) {
+    let reply = setup.contexts.as_slice().last().expect(rt, "a reply");
+    assert_same(rt, refusal_of(reply), case.want, case.what);
+    let slot = setup.standing.as_slice().last().expect(rt, "a slot");
+    assert_same(rt, slot.is_some(), case.want.is_none(), case.what);
+}
+
 fn assert_context(rt: &impl Abort, alloc: Global, case: &ContextCase) {
     let keys = Vec::from_slice(alloc, case.keys).expect(rt, "memory");
     let contexts = lines_of(rt, alloc, case);
     let plan = plan_of(rt, alloc, ffs_and_zeros(rt, alloc), keys, contexts);
     let setup = set_up_with(rt, alloc, &plan, &Plain);
-    let reply = setup.contexts.as_slice().last().expect(rt, "a reply");
-    assert_same(rt, refusal_of(reply), case.want, case.what);
-    let slot = setup.standing.as_slice().last().expect(rt, "a slot");
-    assert_same(rt, slot.is_some(), case.want.is_none(), case.what);
+    drop(plan);
+    assert_last(rt, &setup, case);
+    drop(setup);
 }
 
 #[test]

@@ -2,10 +2,10 @@ ghost use Rattle.std.specs.Prelude.{◌<◌, IsTrue, length};
 ghost use Rattle.radix_pack.specs.Radix.{AreRadices, AreBelow};
 
 use super::{Runs, TOOL, bytes_of};
+use crate::expected::assert_at;
 use radix_pack::{decode, encode};
-use std::alloc::{AllocError as OutOfMemory, Global};
+use std::alloc::Global;
 use std::process::Abort;
-use std::test::Fail;
 
 struct RadixCase {
     source: &'static str,
@@ -16,7 +16,7 @@ struct RadixCase {
     bytes: Runs,
 }
 
-const RADIX_CASES: [RadixCase; 16] = [
+static RADIX_CASES: [RadixCase; 16] = [
     RadixCase {
         source: "own, by hand, level by level",
         digits: &[4590],
@@ -183,16 +183,16 @@ const RADIX_CASES: [RadixCase; 16] = [
     },
 ];
 
-fn repeated(alloc: Global, pattern: &[u16], count: usize) -> Result<Vec<u16>, OutOfMemory> {
-    let mut list = Vec::with_capacity(alloc, count)?;
+fn repeated(rt: &impl Abort, alloc: Global, pattern: &[u16], count: usize) -> Vec<u16> {
+    let mut list = Vec::new(alloc);
     for _ in 0..count {
         for number in pattern {
             if list.len() < count {
-                list.push(*number)?;
+                list.push(*number).expect(rt, "memory");
             }
         }
     }
-    Ok(list)
+    list
 }
 
 fn are_radices(radices: &[u16]) -> bool
@@ -222,37 +222,30 @@ fn assert_coding(
     digits: &[u16],
     radices: &[u16],
     bytes: &[u8],
-) -> Result<(), Fail> {
-    let source = case.source;
-    assert!(rt; radices.len() > 0);
-    assert!(rt; are_radices(radices));
-    assert!(rt; are_below(digits, radices));
-    let encoded = encode(alloc, digits, radices)?;
-    assert!(rt;
-        encoded.as_slice() == bytes,
-        "{source}, bytes of {}",
-        case.count
-    );
-    let decoded = decode(alloc, encoded.as_slice(), radices)?;
-    assert!(rt;
-        decoded.as_slice() == digits,
-        "{source}, digits of {}",
-        case.count
-    );
-    Ok(())
+)
+    requires digits { AreBelow digits.now radices.now }
+    requires radices { AreRadices radices.now × (0 < length radices.now) }
+{
+    let at = (case.source, case.count);
+    let encoded = encode(alloc, digits, radices).expect(rt, "memory");
+    assert_at(rt, encoded.as_slice(), bytes, "bytes", at);
+    let decoded = decode(alloc, encoded.as_slice(), radices).expect(rt, "memory");
+    assert_at(rt, decoded.as_slice(), digits, "digits", at);
 }
 
-fn assert_radix_case(rt: &impl Abort, alloc: Global, case: &RadixCase) -> Result<(), Fail> {
-    let digits = repeated(alloc, case.digits, case.count)?;
-    let radices = repeated(alloc, case.radices, case.count)?;
-    let bytes = bytes_of(alloc, case.bytes)?;
-    assert_coding(rt, alloc, case, &digits, &radices, &bytes)
+fn assert_radix_case(rt: &impl Abort, alloc: Global, case: &RadixCase) {
+    let digits = repeated(rt, alloc, case.digits, case.count);
+    let radices = repeated(rt, alloc, case.radices, case.count);
+    assert!(rt; radices.len() > 0);
+    assert!(rt; are_radices(&radices));
+    assert!(rt; are_below(&digits, &radices));
+    let bytes = bytes_of(rt, alloc, case.bytes);
+    assert_coding(rt, alloc, case, &digits, &radices, &bytes);
 }
 
 #[test]
-fn digits_encode_as_the_standard_says_and_decode(rt: HostRuntime) -> Result<(), Fail> {
+fn digits_encode_as_the_standard_says_and_decode(rt: HostRuntime) {
     for case in &RADIX_CASES {
-        assert_radix_case(&rt, rt.alloc(), case)?;
+        assert_radix_case(&rt, rt.alloc(), case);
     }
-    Ok(())
 }

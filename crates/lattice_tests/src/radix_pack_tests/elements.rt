@@ -7,7 +7,6 @@ use radix_pack::{rounded_decode, rounded_encode, rq_decode, rq_encode};
 use ring_core::{Params, Rq, Sntrup761, Sntrup857};
 use std::alloc::Global;
 use std::process::Abort;
-use std::test::Fail;
 
 // An element with one coefficient throughout: its coding's length, first bytes and last.
 struct RqCase {
@@ -18,7 +17,7 @@ struct RqCase {
     last: [u8; 6],
 }
 
-const RQ_761: [RqCase; 2] = [
+static RQ_761: [RqCase; 2] = [
     RqCase {
         source: "own, by hand: all digits are 0",
         coefficient: -2295,
@@ -35,7 +34,7 @@ const RQ_761: [RqCase; 2] = [
     },
 ];
 
-const RQ_857: [RqCase; 2] = [
+static RQ_857: [RqCase; 2] = [
     RqCase {
         source: "own, by hand: all digits are 0",
         coefficient: -2583,
@@ -62,31 +61,27 @@ fn assert_rq_bytes(rt: &impl Abort, bytes: &[u8], case: &RqCase) {
     }
 }
 
-fn assert_rq<S: Params>(rt: &impl Abort, alloc: Global, case: &RqCase) -> Result<(), Fail> {
-    let source = case.source;
-    let list = vec![in alloc; case.coefficient; S::P]?;
-    let a: Rq<S> = Rq::from_coefficients(alloc, &list)?;
-    let encoded = rq_encode(alloc, &a)?;
+fn assert_rq<S: Params>(rt: &impl Abort, alloc: Global, case: &RqCase) {
+    let list = vec![in alloc; case.coefficient; S::P].expect(rt, "memory");
+    let a: Rq<S> = Rq::from_coefficients(alloc, &list).expect(rt, "memory");
+    let encoded = rq_encode(alloc, &a).expect(rt, "memory");
     let bytes = encoded.as_slice();
     assert_rq_bytes(rt, bytes, case);
-    let decoded: Rq<S> = rq_decode(alloc, bytes)?;
-    assert!(rt; decoded.as_slice() == a.as_slice(), "{source}");
-    Ok(())
+    let decoded: Rq<S> = rq_decode(alloc, bytes).expect(rt, "memory");
+    assert_same(rt, decoded.as_slice(), a.as_slice(), case.source);
 }
 
 #[test]
-fn elements_encode_at_both_ends_of_the_range(rt: HostRuntime) -> Result<(), Fail> {
+fn elements_encode_at_both_ends_of_the_range(rt: HostRuntime) {
     for case in &RQ_761 {
-        assert_rq::<Sntrup761>(&rt, rt.alloc(), case)?;
+        assert_rq::<Sntrup761>(&rt, rt.alloc(), case);
     }
     for case in &RQ_857 {
-        assert_rq::<Sntrup857>(&rt, rt.alloc(), case)?;
+        assert_rq::<Sntrup857>(&rt, rt.alloc(), case);
     }
-    Ok(())
 }
 
 // The bytes of a rounded element, the pattern of its digits, and (q - 1)/2.
-#[derive(Drop)]
 struct RoundedCase {
     source: &'static str,
     digits: [i16; 2],
@@ -94,7 +89,7 @@ struct RoundedCase {
     bytes: Runs,
 }
 
-const ROUNDED_761: RoundedCase = RoundedCase {
+static ROUNDED_761: RoundedCase = RoundedCase {
     source: TOOL,
     digits: [765, 766],
     half: 2295,
@@ -118,7 +113,7 @@ const ROUNDED_761: RoundedCase = RoundedCase {
     ],
 };
 
-const ROUNDED_857: RoundedCase = RoundedCase {
+static ROUNDED_857: RoundedCase = RoundedCase {
     source: TOOL,
     digits: [1, 1721],
     half: 2583,
@@ -140,38 +135,27 @@ const ROUNDED_857: RoundedCase = RoundedCase {
     ],
 };
 
-fn assert_rounded<S: Params>(
-    rt: &impl Abort,
-    alloc: Global,
-    case: &RoundedCase,
-    bytes: &[u8],
-) -> Result<(), Fail>
+fn assert_rounded<S: Params>(rt: &impl Abort, alloc: Global, case: &RoundedCase, bytes: &[u8])
     requires { length bytes.now ≡ rounded_length S.set }
 {
     let source = case.source;
-    let element: Rq<S> = rounded_decode(alloc, bytes)?;
+    let element: Rq<S> = rounded_decode(alloc, bytes).expect(rt, "memory");
     for i in 0..S::P {
         let want = 3 * i32::from(case.digits[i % 2]);
-        assert_at(
-            rt,
-            element.coefficient(i).wrapping_add(case.half),
-            want,
-            source,
-            i,
-        );
+        let number = element.coefficient(i).wrapping_add(case.half);
+        assert_at(rt, number, want, source, i);
     }
-    let encoded = rounded_encode(alloc, &element)?;
-    assert!(rt; encoded.as_slice() == bytes, "{source}");
-    Ok(())
+    let encoded = rounded_encode(alloc, &element).expect(rt, "memory");
+    assert_same(rt, encoded.as_slice(), bytes, source);
 }
 
 #[tactic(auto, using(radix_pack::proofs::Lengths::lengths))]
 #[test]
-fn rounded_elements_decode_and_encode(rt: HostRuntime) -> Result<(), Fail> {
-    let bytes = bytes_of(rt.alloc(), ROUNDED_761.bytes)?;
+fn rounded_elements_decode_and_encode(rt: HostRuntime) {
+    let bytes = bytes_of(&rt, rt.alloc(), ROUNDED_761.bytes);
     assert!(rt; bytes.len() == 1007);
-    assert_rounded::<Sntrup761>(&rt, rt.alloc(), &ROUNDED_761, &bytes)?;
-    let bytes = bytes_of(rt.alloc(), ROUNDED_857.bytes)?;
+    assert_rounded::<Sntrup761>(&rt, rt.alloc(), &ROUNDED_761, &bytes);
+    let bytes = bytes_of(&rt, rt.alloc(), ROUNDED_857.bytes);
     assert!(rt; bytes.len() == 1152);
-    assert_rounded::<Sntrup857>(&rt, rt.alloc(), &ROUNDED_857, &bytes)
+    assert_rounded::<Sntrup857>(&rt, rt.alloc(), &ROUNDED_857, &bytes);
 }

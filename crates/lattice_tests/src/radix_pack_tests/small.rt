@@ -1,12 +1,11 @@
-ghost use Rattle.std.specs.Prelude.{◌≡◌, IfOk, vec_len};
+ghost use Rattle.std.specs.Prelude.{◌≡◌, vec_len};
 ghost use Rattle.radix_pack.specs.Codings.{small_length};
 
-use crate::expected::assert_at;
+use crate::expected::{assert_at, assert_same};
 use radix_pack::{small_decode, small_encode};
 use ring_core::{Params, Small, Sntrup761, Sntrup857};
-use std::alloc::{AllocError as OutOfMemory, Global};
+use std::alloc::Global;
 use std::process::Abort;
-use std::test::Fail;
 
 // A small coding, whose last byte has one coefficient in both sets: the first byte, bytes alike,
 // the last byte; and the coefficients, a pattern of four.
@@ -18,7 +17,7 @@ struct SmallCase {
     coefficients: Option<[i8; 4]>,
 }
 
-const SMALL_CASES: [SmallCase; 5] = [
+static SMALL_CASES: [SmallCase; 5] = [
     SmallCase {
         source: "own, by hand: spare bits after the last coefficient",
         first: 0x55,
@@ -56,44 +55,50 @@ const SMALL_CASES: [SmallCase; 5] = [
     },
 ];
 
-fn small_case<S: Params>(alloc: Global, case: &SmallCase) -> Result<Vec<u8>, OutOfMemory>
-    ensures { IfOk result (λ v. vec_len v ≡ small_length S.set.p) }
+fn small_case<S: Params>(rt: &impl Abort, alloc: Global, case: &SmallCase) -> Vec<u8>
+    ensures { vec_len result ≡ small_length S.set.p }
 {
-    let mut bytes = vec![in alloc; case.middle; S::P.div_ceil(4)]?;
+    let mut bytes = vec![in alloc; case.middle; S::P.div_ceil(4)].expect(rt, "memory");
     if let [first, .., last] = &mut bytes[..] {
         *first = case.first;
         *last = case.last;
     }
-    Ok(bytes)
+    bytes
 }
 
-fn assert_small<S: Params>(
+// The element has these coefficients, and encodes to the bytes.
+fn assert_element<S: Params>(
     rt: &impl Abort,
     alloc: Global,
-    case: &SmallCase,
-) -> Result<(), OutOfMemory> {
+    element: &Small<S>,
+    pattern: &[i8; 4],
+    bytes: &[u8],
+    source: &str,
+) {
+    for i in 0..S::P {
+        assert_at(rt, element.coefficient(i), pattern[i % 4], source, i);
+    }
+    let encoded = small_encode(alloc, element).expect(rt, "memory");
+    assert_same(rt, encoded.as_slice(), bytes, source);
+}
+
+fn assert_small<S: Params>(rt: &impl Abort, alloc: Global, case: &SmallCase) {
     let source = case.source;
-    let bytes = small_case::<S>(alloc, case)?;
-    let decoded: Option<Small<S>> = small_decode(alloc, &bytes)?;
+    let bytes = small_case::<S>(rt, alloc, case);
+    let decoded: Option<Small<S>> = small_decode(alloc, &bytes).expect(rt, "memory");
     match (&decoded, &case.coefficients) {
         (Some(element), Some(pattern)) => {
-            for i in 0..S::P {
-                assert_at(rt, element.coefficient(i), pattern[i % 4], source, i);
-            }
-            let encoded = small_encode(alloc, element)?;
-            assert!(rt; encoded.as_slice() == &bytes[..], "{source}");
+            assert_element(rt, alloc, element, pattern, &bytes, source);
         }
         (None, None) => {}
         _ => assert!(rt; false, "{source}"),
     }
-    Ok(())
 }
 
 #[test]
-fn small_elements_decode_where_they_are_well_formed(rt: HostRuntime) -> Result<(), Fail> {
+fn small_elements_decode_where_they_are_well_formed(rt: HostRuntime) {
     for case in &SMALL_CASES {
-        assert_small::<Sntrup761>(&rt, rt.alloc(), case)?;
-        assert_small::<Sntrup857>(&rt, rt.alloc(), case)?;
+        assert_small::<Sntrup761>(&rt, rt.alloc(), case);
+        assert_small::<Sntrup857>(&rt, rt.alloc(), case);
     }
-    Ok(())
 }

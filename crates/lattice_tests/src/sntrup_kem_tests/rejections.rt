@@ -1,4 +1,4 @@
-ghost use Rattle.std.specs.Prelude.{◌≡◌, length, IfOk, vec_len};
+ghost use Rattle.std.specs.Prelude.{◌≡◌, length, vec_len};
 
 use super::{bytes_of, decapsulated, encapsulated, keys_of};
 use crate::expected::{assert_at, assert_same};
@@ -6,17 +6,16 @@ use radix_pack::{rounded_encode, rq_decode, small_decode, small_encode};
 use ring_core::{Plain, Small, Sntrup761, Sntrup857};
 use sha2::{Digest, Sha512};
 use sntrup_core::{PublicPoly, encrypt};
-use sntrup_kem::{KemParams, PublicKey, SecretKey, decap};
-use std::alloc::{AllocError as OutOfMemory, Global};
+use sntrup_kem::{KemParams, PublicKey, SecretKey};
+use std::alloc::Global;
 use std::process::Abort;
-use std::test::Fail;
 
 // Rejection keys: with bit 0 of the byte at a place flipped, of the rounded part or of the hash;
 // and of what Hide makes of an r of weight w - 1 and of one of weight w + 1: e/g is that r again, and
 // for its weight alone Decrypt gives w ones and zeros in its place. The coding of either r begins with
 // so many bytes of four ones.
 struct RejectedCase {
-    spoilt: [(usize, &'static str); 4],
+    spoilt: &'static [(usize, &'static str)],
     whole_bytes: usize,
     light: &'static str,
     heavy: &'static str,
@@ -24,8 +23,8 @@ struct RejectedCase {
 
 // Own, by Python 3.11: tools/vectors/sntrup_reject.py, with the key of stream 0 of the zero seed
 // and the encapsulation of stream 1.
-const REJECTED_761: RejectedCase = RejectedCase {
-    spoilt: [
+static REJECTED_761: RejectedCase = RejectedCase {
+    spoilt: &[
         (
             0,
             "bd892edc23a801796ba640041e4832fb5fbd17fbda8899afd61a27ff72ca22d6",
@@ -48,8 +47,8 @@ const REJECTED_761: RejectedCase = RejectedCase {
     heavy: "68bd71b4d1f54cbc2193f9eebc85f79b9f69fdb90ab41570d973c7d2cff4e4ae",
 };
 
-const REJECTED_857: RejectedCase = RejectedCase {
-    spoilt: [
+static REJECTED_857: RejectedCase = RejectedCase {
+    spoilt: &[
         (
             0,
             "1e9b0ab17f1133a44332236af90e1b274592941b9736e240edbd94090ec82096",
@@ -73,14 +72,14 @@ const REJECTED_857: RejectedCase = RejectedCase {
 };
 
 // The bytes with bit 0 of one flipped.
-fn spoilt(alloc: Global, enc: &[u8], place: usize) -> Result<Vec<u8>, OutOfMemory>
-    ensures { IfOk result (λ v. vec_len v ≡ length enc.now) }
+fn spoilt(rt: &impl Abort, alloc: Global, enc: &[u8], place: usize) -> Vec<u8>
+    ensures { vec_len result ≡ length enc.now }
 {
-    let mut bytes = Vec::from_slice(alloc, enc)?;
+    let mut bytes = Vec::from_slice(alloc, enc).expect(rt, "memory");
     if let Some(byte) = bytes.get_mut(place) {
         *byte ^= 1;
     }
-    Ok(bytes)
+    bytes
 }
 
 // The coding of a one and three zeros, and of three ones and a zero: w - 1 is one more than a multiple
@@ -121,35 +120,39 @@ fn hash(b: u8, first: &[u8], second: &[u8]) -> [u8; 32] {
 
 // What Hide makes of r: the coding of c, and the hash that confirms r.
 fn hidden<S: KemParams>(
+    rt: &impl Abort,
     alloc: Global,
     public: &PublicKey<S>,
     r: &Small<S>,
-) -> Result<Vec<u8>, OutOfMemory> {
-    let h = rq_decode(alloc, public.as_slice())?;
-    let c = encrypt(alloc, &Plain, r, &PublicPoly { h })?;
-    let mut enc = Vec::from_slice(alloc, rounded_encode(alloc, &c)?.as_slice())?;
-    let r_hash = hash(3, small_encode(alloc, r)?.as_slice(), &[]);
+) -> Vec<u8> {
+    let h = rq_decode(alloc, public.as_slice()).expect(rt, "memory");
+    let c = encrypt(alloc, &Plain, r, &PublicPoly { h }).expect(rt, "memory");
+    let rounded = rounded_encode(alloc, &c).expect(rt, "memory");
+    let coding = small_encode(alloc, r).expect(rt, "memory");
+    let r_hash = hash(3, coding.as_slice(), &[]);
     let cache = hash(4, public.as_slice(), &[]);
-    enc.extend_from_slice(&hash(2, &r_hash, &cache))?;
-    Ok(enc)
+    let mut enc = Vec::from_slice(alloc, rounded.as_slice()).expect(rt, "memory");
+    enc.extend_from_slice(&hash(2, &r_hash, &cache))
+        .expect(rt, "memory");
+    enc
 }
 
 // The encapsulation of such an r, which has the right hash, decapsulated.
 fn key_of_ones<S: KemParams>(
+    rt: &impl Abort,
     alloc: Global,
     whole_bytes: usize,
     next: u8,
     public: &PublicKey<S>,
     secret: &SecretKey<S>,
-) -> Option<[u8; 32]> {
-    let mut coding = vec![in alloc; 0x55u8; S::P.div_ceil(4)].ok()?;
+) -> [u8; 32] {
+    let mut coding = vec![in alloc; 0x55u8; S::P.div_ceil(4)].expect(rt, "memory");
     write_ones(&mut coding, whole_bytes, next);
-    let r = small_decode::<S>(alloc, &coding).ok()??;
-    let enc = hidden(alloc, public, &r).ok()?;
-    if enc.len() != S::ENC {
-        return None;
-    }
-    decap(alloc, &Plain, &enc, secret).ok()
+    let decoded = small_decode::<S>(alloc, &coding).expect(rt, "memory");
+    let r = decoded.expect(rt, "an element");
+    let enc = hidden(rt, alloc, public, &r);
+    assert!(rt; enc.len() == S::ENC);
+    decapsulated(rt, alloc, &enc, secret)
 }
 
 fn assert_other_weights<S: KemParams>(
@@ -159,31 +162,25 @@ fn assert_other_weights<S: KemParams>(
     public: &PublicKey<S>,
     secret: &SecretKey<S>,
 ) {
-    let light = key_of_ones(alloc, case.whole_bytes, ONE, public, secret);
-    assert_same(rt, light, Some(bytes_of(rt, case.light)), "weight w - 1");
-    let heavy = key_of_ones(alloc, case.whole_bytes, THREE_ONES, public, secret);
-    assert_same(rt, heavy, Some(bytes_of(rt, case.heavy)), "weight w + 1");
+    let light = key_of_ones(rt, alloc, case.whole_bytes, ONE, public, secret);
+    assert_same(rt, light, bytes_of(rt, case.light), "weight w - 1");
+    let heavy = key_of_ones(rt, alloc, case.whole_bytes, THREE_ONES, public, secret);
+    assert_same(rt, heavy, bytes_of(rt, case.heavy), "weight w + 1");
 }
 
-fn assert_rejected<S: KemParams>(
-    rt: &impl Abort,
-    alloc: Global,
-    case: &RejectedCase,
-) -> Result<(), OutOfMemory> {
+fn assert_rejected<S: KemParams>(rt: &impl Abort, alloc: Global, case: &RejectedCase) {
     let (public, secret) = keys_of::<S>(rt, alloc, &[0; 32]);
     let (enc, _) = encapsulated(rt, alloc, &[0; 32], &public);
-    for (place, digits) in &case.spoilt {
-        let other = spoilt(alloc, enc.as_slice(), *place)?;
+    for (place, digits) in case.spoilt {
+        let other = spoilt(rt, alloc, enc.as_slice(), *place);
         let key = decapsulated(rt, alloc, &other, &secret);
         assert_at(rt, key, bytes_of(rt, digits), "byte", place);
     }
     assert_other_weights(rt, alloc, case, &public, &secret);
-    Ok(())
 }
 
 #[test]
-fn other_ciphertexts_get_the_rejection_key(rt: HostRuntime) -> Result<(), Fail> {
-    assert_rejected::<Sntrup761>(&rt, rt.alloc(), &REJECTED_761)?;
-    assert_rejected::<Sntrup857>(&rt, rt.alloc(), &REJECTED_857)?;
-    Ok(())
+fn other_ciphertexts_get_the_rejection_key(rt: HostRuntime) {
+    assert_rejected::<Sntrup761>(&rt, rt.alloc(), &REJECTED_761);
+    assert_rejected::<Sntrup857>(&rt, rt.alloc(), &REJECTED_857);
 }

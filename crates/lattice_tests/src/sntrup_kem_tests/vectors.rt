@@ -22,7 +22,7 @@ struct KemCase {
 // The C implementation of sntrup761 that OpenSSH 9.2p1 ships, fed with words of ChaCha20: the key
 // from stream 0 of the seed, the encapsulation from stream 1, each from word 0. libntruprime
 // 20241021 gives the same.
-const KEM_761: [KemCase; 4] = [
+static KEM_761: [KemCase; 4] = [
     KemCase {
         seed: "0000000000000000000000000000000000000000000000000000000000000000",
         sha256_pk: "e9cfcf9d46e1480b876470c04bff9bd008c180b2e95373cc6d4af86ac566589f",
@@ -54,7 +54,7 @@ const KEM_761: [KemCase; 4] = [
 ];
 
 // sntrup857 of libntruprime 20241021, fed with the same words.
-const KEM_857: [KemCase; 4] = [
+static KEM_857: [KemCase; 4] = [
     KemCase {
         seed: "0000000000000000000000000000000000000000000000000000000000000000",
         sha256_pk: "5802250fb3ad00451bcf7333cf40e823d08c67ce687b56f150907e9452429f51",

@@ -1,13 +1,12 @@
 //! Ends that fail, and commands that have to leave their ends alone.
 
-use crate::batch_runner_tests::{EMPTY, assert_end, outcome_of};
+use crate::batch_runner_tests::{EMPTY, assert_end, outcome_of, sink_of, source_of};
 use crate::expected::assert_same;
-use batch_io::{FreeGate, MemorySink, MemorySource};
+use batch_io::{FreeGate, MemorySink};
 use batch_runner::Outcome;
-use std::alloc::{AllocError, Global};
+use std::alloc::Global;
 use std::process::Abort;
 use std::sync::Wait;
-use std::test::Fail;
 use std::thread::Threads;
 
 // A command whose source or sink fails in the calls of these numbers, counted from 1.
@@ -23,7 +22,7 @@ struct Fault {
 }
 
 // Rows: own, by hand. Reads give 4 bytes a call.
-const FAULTS: [Fault; 11] = [
+static FAULTS: [Fault; 11] = [
     Fault {
         name: "the third read fails",
         words: &["run"],
@@ -141,12 +140,8 @@ fn end_with<R: Abort + Threads + Wait + Sync>(
     alloc: Global,
     fault: &Fault,
 ) -> (Outcome, MemorySink) {
-    let input = fault.input.as_bytes().to_vec(alloc).expect(rt, "memory");
-    let failing_reads = fault.failing_reads.to_vec(alloc).expect(rt, "memory");
-    let failing_writes = fault.failing_writes.to_vec(alloc).expect(rt, "memory");
-    let room = vec![in alloc; 0; 256].expect(rt, "memory");
-    let source = MemorySource::new(input, 4, failing_reads);
-    let mut sink = MemorySink::new(room, fault.sink_step.max(1), failing_writes);
+    let source = source_of(rt, alloc, fault.input.as_bytes(), 4, fault.failing_reads);
+    let mut sink = sink_of(rt, alloc, 256, fault.sink_step, fault.failing_writes);
     let outcome = outcome_of(rt, alloc, fault.words, source, &mut sink, &FreeGate::new());
     (outcome, sink)
 }
@@ -160,7 +155,7 @@ fn a_fault_leaves_a_front_of_the_text(rt: HostRuntime) {
 }
 
 // Words outside the command grammar.
-const USAGE: [&'static [&'static str]; 12] = [
+static USAGE: [&'static [&'static str]; 12] = [
     &[],
     &["Run"],
     &["run", "run"],
@@ -176,21 +171,16 @@ const USAGE: [&'static [&'static str]; 12] = [
 ];
 
 // The outcome where a call of either end would be a fault.
-fn untouched<R: Abort + Threads + Wait + Sync>(
-    rt: &R,
-    alloc: Global,
-    words: &[&str],
-) -> Result<Outcome, AllocError> {
-    let source = MemorySource::new(Vec::new(alloc), 1, [1].to_vec(alloc)?);
-    let mut sink = MemorySink::new(Vec::new(alloc), 1, [1].to_vec(alloc)?);
-    Ok(outcome_of(rt, alloc, words, source, &mut sink, &FreeGate::new()))
+fn untouched<R: Abort + Threads + Wait + Sync>(rt: &R, alloc: Global, words: &[&str]) -> Outcome {
+    let source = source_of(rt, alloc, b"", 1, &[1]);
+    let mut sink = sink_of(rt, alloc, 0, 1, &[1]);
+    outcome_of(rt, alloc, words, source, &mut sink, &FreeGate::new())
 }
 
 #[test]
-fn other_words_read_and_write_nothing(rt: HostRuntime) -> Result<(), Fail> {
+fn other_words_read_and_write_nothing(rt: HostRuntime) {
     for words in &USAGE {
-        let outcome = untouched(&rt, rt.alloc(), words)?;
+        let outcome = untouched(&rt, rt.alloc(), words);
         assert_same(&rt, outcome, Outcome::Usage, "outcome");
     }
-    Ok(())
 }

@@ -1,22 +1,23 @@
 //! Ends that give and take in pieces, faults in each place, batches that are cut, and malformed lines.
 
-use crate::batch_runner_tests::runs::OPENINGS_AND_SCHEDULES;
-use crate::batch_runner_tests::{assert_end, outcome_of};
+use crate::batch_runner_tests::runs::openings_and_schedules;
+use crate::batch_runner_tests::{
+    assert_end, bytes_of, outcome_of, repeat, sink_of, source_of, string_of,
+};
 use crate::expected::{assert_at, assert_same};
-use batch_io::{FreeGate, MemorySink, MemorySource};
+use batch_io::{FreeGate, MemorySink};
 use batch_runner::Outcome;
 use request_frames::Reason;
-use std::alloc::{AllocError, Global};
+use std::alloc::Global;
 use std::process::Abort;
 use std::sync::Wait;
-use std::test::Fail;
 use std::thread::Threads;
 
 // The row of an opening with a changed tag in it.
 const OPENING: usize = 1;
 
 // How many bytes an end gives or takes a call.
-const STEPS: [usize; 5] = [1, 2, 3, 7, 65_536];
+static STEPS: [usize; 5] = [1, 2, 3, 7, 65_536];
 
 // The text that an input is answered, where the ends give and take so many bytes a call, and those calls
 // fail.
@@ -28,19 +29,15 @@ fn answer_by_steps<R: Abort + Threads + Wait + Sync>(
     failing_reads: &[u32],
     failing_writes: &[u32],
 ) -> (Outcome, MemorySink) {
-    let input = input.to_vec(alloc).expect(rt, "memory");
-    let failing_reads = failing_reads.to_vec(alloc).expect(rt, "memory");
-    let failing_writes = failing_writes.to_vec(alloc).expect(rt, "memory");
-    let room = vec![in alloc; 0; 4096].expect(rt, "memory");
-    let source = MemorySource::new(input, steps.0.max(1), failing_reads);
-    let mut sink = MemorySink::new(room, steps.1.max(1), failing_writes);
+    let source = source_of(rt, alloc, input, steps.0, failing_reads);
+    let mut sink = sink_of(rt, alloc, 4096, steps.1, failing_writes);
     let outcome = outcome_of(rt, alloc, &["run"], source, &mut sink, &FreeGate::new());
     (outcome, sink)
 }
 
 #[test]
 fn pieces_of_each_size_are_the_same_batch(rt: HostRuntime) {
-    let row = &OPENINGS_AND_SCHEDULES[OPENING];
+    let row = &openings_and_schedules()[OPENING];
     let text = row.reply.as_bytes();
     for read in STEPS {
         for written in STEPS {
@@ -53,32 +50,32 @@ fn pieces_of_each_size_are_the_same_batch(rt: HostRuntime) {
 
 #[test]
 fn each_read_fails_in_turn(rt: HostRuntime) {
-    let input = OPENINGS_AND_SCHEDULES[OPENING].input.as_bytes();
-    let text = OPENINGS_AND_SCHEDULES[OPENING].reply.as_bytes();
-    let reads = input.len().div_ceil(16) as u32 + 1;
+    let row = &openings_and_schedules()[OPENING];
+    let (input, text) = (row.input.as_bytes(), row.reply.as_bytes());
+    let reads = u32::try_from(input.len().div_ceil(16) + 1).expect(&rt, "a number");
     for read in 1..=reads {
         let end = answer_by_steps(&rt, rt.alloc(), input, (16, 16), &[read], &[]);
         assert_end(&rt, &end, Outcome::ReadFault, b"", "a read that fails");
     }
-    let end = answer_by_steps(&rt, rt.alloc(), input, (16, 16), &[reads + 1], &[]);
+    let end = answer_by_steps(
+        &rt,
+        rt.alloc(),
+        input,
+        (16, 16),
+        &[reads.wrapping_add(1)],
+        &[],
+    );
     assert_end(&rt, &end, Outcome::Done, text, "no read that fails");
 }
 
 // Each write fails once, until a run has no such write.
 #[test]
 fn each_write_fails_in_turn(rt: HostRuntime) {
-    let row = &OPENINGS_AND_SCHEDULES[OPENING];
-    let whole = row.reply.as_bytes();
+    let row = &openings_and_schedules()[OPENING];
+    let (input, whole) = (row.input.as_bytes(), row.reply.as_bytes());
     let mut failed = 0;
     for write in 1..1_000 {
-        let (outcome, sink) = answer_by_steps(
-            &rt,
-            rt.alloc(),
-            row.input.as_bytes(),
-            (16, 16),
-            &[],
-            &[write],
-        );
+        let (outcome, sink) = answer_by_steps(&rt, rt.alloc(), input, (16, 16), &[], &[write]);
         assert!(rt; whole.starts_with(sink.bytes()), "{write}");
         if outcome == Outcome::Done {
             assert_same(&rt, sink.bytes(), whole, "what is written");
@@ -91,36 +88,38 @@ fn each_write_fails_in_turn(rt: HostRuntime) {
 }
 
 // The line that a front of a batch is answered: it has no `end`, or not even its first line.
-fn cut_reply(alloc: Global, front: &[u8]) -> Result<String, AllocError> {
+fn cut_reply(rt: &impl Abort, alloc: Global, front: &[u8]) -> String {
     if front.len() < b"hpkebatch 1\n".len() {
-        return String::from_str(alloc, "bad 1 header\n");
+        return string_of(rt, alloc, "bad 1 header\n");
     }
     let line = front.iter().filter(|byte| **byte == b'\n').count() + 1;
-    format!(in alloc; "bad {line} noend\n")
+    format!(in alloc; "bad {line} noend\n").expect(rt, "memory")
+}
+
+fn assert_cut<R: Abort + Threads + Wait + Sync>(rt: &R, alloc: Global, front: &[u8]) {
+    let size = front.len();
+    let (outcome, sink) = answer_by_steps(rt, alloc, front, (4096, 4096), &[], &[]);
+    assert!(rt; matches!(outcome, Outcome::BadBatch { .. }), "{size}");
+    let want = cut_reply(rt, alloc, front);
+    assert_at(
+        rt,
+        sink.bytes(),
+        want.as_bytes(),
+        "bytes of the batch",
+        size,
+    );
 }
 
 #[test]
-fn a_cut_batch_is_named(rt: HostRuntime) -> Result<(), Fail> {
-    let alloc = rt.alloc();
-    let input = OPENINGS_AND_SCHEDULES[OPENING].input.as_bytes();
+fn a_cut_batch_is_named(rt: HostRuntime) {
+    let input = openings_and_schedules()[OPENING].input.as_bytes();
     for size in 0..input.len() {
-        let front = &input[..size];
-        let (outcome, sink) = answer_by_steps(&rt, alloc, front, (4096, 4096), &[], &[]);
-        assert!(rt; matches!(outcome, Outcome::BadBatch { .. }), "{size}");
-        let wanted = cut_reply(alloc, front)?;
-        assert_at(
-            &rt,
-            sink.bytes(),
-            wanted.as_bytes(),
-            "bytes of the batch",
-            size,
-        );
+        assert_cut(&rt, rt.alloc(), &input[..size]);
     }
-    Ok(())
 }
 
 // The third line of a batch, behind a lane, and its reason. Own, by hand, from the format.
-const LINES: [(&'static [u8], Reason); 7] = [
+static LINES: [(&'static [u8], Reason); 7] = [
     (b"unsealall 0", Reason::Fields),
     (b"unsealall 0 -", Reason::Fields),
     (b"unsealall 0 - - -", Reason::Fields),
@@ -130,18 +129,12 @@ const LINES: [(&'static [u8], Reason); 7] = [
     (b"\xff", Reason::Word),
 ];
 
-// A batch of one lane with this line.
-fn batch_with(alloc: Global, line: &[u8]) -> Result<Vec<u8>, AllocError> {
-    let mut batch = b"hpkebatch 1\nlane\n".to_vec(alloc)?;
-    batch.extend_from_slice(line)?;
-    batch.extend_from_slice(b"\nend\n")?;
-    Ok(batch)
-}
-
 // How a batch of one lane with this line ends.
 fn outcome_with<R: Abort + Threads + Wait + Sync>(rt: &R, alloc: Global, line: &[u8]) -> Outcome {
-    let input = batch_with(alloc, line).expect(rt, "memory");
-    let (outcome, _) = answer_by_steps(rt, alloc, &input, (4096, 4096), &[], &[]);
+    let mut batch = bytes_of(rt, alloc, b"hpkebatch 1\nlane\n");
+    batch.extend_from_slice(line).expect(rt, "memory");
+    batch.extend_from_slice(b"\nend\n").expect(rt, "memory");
+    let (outcome, _) = answer_by_steps(rt, alloc, &batch, (4096, 4096), &[], &[]);
     outcome
 }
 
@@ -154,35 +147,25 @@ fn malformed_lines_are_named(rt: HostRuntime) {
     }
 }
 
-// An opening of so many messages, each of no bytes.
-fn opening_of(alloc: Global, count: usize) -> Result<String, AllocError> {
-    let mut line = String::from_str(alloc, "unsealall 0")?;
-    for _ in 0..count {
-        line.push_str(" - -")?;
-    }
-    Ok(line)
+// How an opening of so many messages ends, each of no bytes.
+fn outcome_of_opening<R: Abort + Threads + Wait + Sync>(
+    rt: &R,
+    alloc: Global,
+    count: usize,
+) -> Outcome {
+    let mut line = string_of(rt, alloc, "unsealall 0");
+    repeat(rt, &mut line, " - -", count);
+    outcome_with(rt, alloc, line.as_bytes())
 }
 
 #[test]
-fn an_opening_has_at_most_4096_messages(rt: HostRuntime) -> Result<(), Fail> {
-    let alloc = rt.alloc();
-    let most = opening_of(alloc, 4_096)?;
-    assert_same(
-        &rt,
-        outcome_with(&rt, alloc, most.as_bytes()),
-        Outcome::Done,
-        "4096 messages",
-    );
-    let more = opening_of(alloc, 4_097)?;
+fn an_opening_has_at_most_4096_messages(rt: HostRuntime) {
+    let most = outcome_of_opening(&rt, rt.alloc(), 4_096);
+    assert_same(&rt, most, Outcome::Done, "4096 messages");
+    let more = outcome_of_opening(&rt, rt.alloc(), 4_097);
     let bad = Outcome::BadBatch {
         line: 3,
         reason: Reason::Count,
     };
-    assert_same(
-        &rt,
-        outcome_with(&rt, alloc, more.as_bytes()),
-        bad,
-        "4097 messages",
-    );
-    Ok(())
+    assert_same(&rt, more, bad, "4097 messages");
 }

@@ -1,5 +1,6 @@
 //! Batches with keys, inputs that are no batch, and the other commands, with what they are answered. The
-//! replies come from the formats' tables and from tools/reference.
+//! replies come from the formats' tables and from tools/reference. A function gives each table, as in
+//! `runs`.
 
 use batch_runner::Outcome;
 use request_frames::Reason;
@@ -15,7 +16,7 @@ pub struct Exchange {
     pub lanes: &'static str,
 }
 
-pub const EXCHANGES: [Exchange; 4] = [
+static EXCHANGES: [Exchange; 4] = [
     Exchange {
         source: "tools/reference: a sender",
         input: "hpkebatch 1\nrand 0000000000000000000000000000000000000000000000000000000000000000\nkeygen\nsend 1 2 0 base 4f6465206f6e2061204772656369616e2055726e - - 9\nlane\nseal 0 436f756e742d30 4265617574792069732074727574682c20747275746820626561757479\nend\n",
@@ -42,6 +43,10 @@ pub const EXCHANGES: [Exchange; 4] = [
     },
 ];
 
+pub fn exchanges() -> &'static [Exchange; 4] {
+    &EXCHANGES
+}
+
 // An input that is no batch. All are own, by hand from the grammar of the batch text.
 pub struct BadRun {
     pub what: &'static str,
@@ -51,7 +56,7 @@ pub struct BadRun {
     pub reply: &'static str,
 }
 
-pub const BAD: [BadRun; 15] = [
+static BAD: [BadRun; 15] = [
     BadRun {
         what: "no byte",
         input: "",
@@ -159,6 +164,10 @@ pub const BAD: [BadRun; 15] = [
     },
 ];
 
+pub fn bad_runs() -> &'static [BadRun; 15] {
+    &BAD
+}
+
 // Another command, its input, and the text that it writes.
 pub struct Other {
     pub source: &'static str,
@@ -168,7 +177,7 @@ pub struct Other {
     pub text: &'static str,
 }
 
-pub const OTHERS: [Other; 15] = [
+static OTHERS: [Other; 15] = [
     Other {
         source: "tools/reference/demo.py; one message",
         words: &["demo", "0", "1", "1"],
@@ -288,3 +297,7 @@ pub const OTHERS: [Other; 15] = [
         text: "bad 1 header\n",
     },
 ];
+
+pub fn others() -> &'static [Other; 15] {
+    &OTHERS
+}

@@ -4,7 +4,10 @@ use crate::batch_runner_tests::words_of;
 use crate::expected::assert_same;
 use batch_io::{FreeGate, Got, PureSink, Source};
 use batch_runner::serve_words;
-use std::test::Fail;
+use std::alloc::Global;
+use std::process::Abort;
+use std::sync::Wait;
+use std::thread::Threads;
 
 // A source of so many zero bytes, which counts its reads, and those whose room is larger than 65,536
 // bytes and than all that was read before.
@@ -37,7 +40,7 @@ impl Source for RoomSource {
 
 // An input of so many bytes, and in how many reads it is taken: one fills the room of 65,536 bytes, each
 // further one doubles what was read, and the last one tells the end, or that the limit is passed.
-const INPUTS: [(usize, u32); 5] = [
+static INPUTS: [(usize, u32); 5] = [
     (0, 1),
     (65_535, 2),
     (65_536, 2),
@@ -47,20 +50,23 @@ const INPUTS: [(usize, u32); 5] = [
 
 // The room starts at 65,536 bytes and is at most doubled, and no byte is read alone.
 #[test]
-fn the_room_for_the_input_is_doubled(rt: HostRuntime) -> Result<(), Fail> {
-    let words = words_of(rt.alloc(), &["run"])?;
+fn the_room_for_the_input_is_doubled(rt: HostRuntime) {
     for (size, reads) in INPUTS {
-        let mut source = RoomSource {
-            left: size,
-            given: 0,
-            reads: 0,
-            too_large: 0,
-        };
-        let mut sink = PureSink::new();
-        let gate = FreeGate::new();
-        let _ = serve_words(&rt, rt.alloc(), &words, &mut source, &mut sink, &gate);
-        assert_same(&rt, source.too_large, 0, "rooms that are too large");
-        assert_same(&rt, source.reads, reads, "reads");
+        assert_reads(&rt, rt.alloc(), size, reads);
     }
-    Ok(())
+}
+
+fn assert_reads<R: Abort + Threads + Wait + Sync>(rt: &R, alloc: Global, size: usize, reads: u32) {
+    let words = words_of(rt, alloc, &["run"]);
+    let mut source = RoomSource {
+        left: size,
+        given: 0,
+        reads: 0,
+        too_large: 0,
+    };
+    let mut sink = PureSink::new();
+    let gate = FreeGate::new();
+    let _ = serve_words(rt, alloc, &words, &mut source, &mut sink, &gate);
+    assert_same(rt, source.too_large, 0, "rooms that are too large");
+    assert_same(rt, source.reads, reads, "reads");
 }

@@ -1,5 +1,5 @@
 //! Whole batches and what they are answered. The replies come from RFC 9180's vectors and from the
-//! formats' tables.
+//! formats' tables. A function gives each table, since one that names it is proved over all its rows.
 
 // A whole batch over a source that gives `step` bytes a call, and the text that it is answered.
 pub struct Run {
@@ -11,7 +11,7 @@ pub struct Run {
 }
 
 // At most one lane, and no opening of several messages.
-pub const RUNS: [Run; 14] = [
+static RUNS: [Run; 14] = [
     Run {
         source: "own: the shortest batch, a byte a call",
         words: &["run"],
@@ -114,8 +114,12 @@ pub const RUNS: [Run; 14] = [
     },
 ];
 
+pub fn runs() -> &'static [Run; 14] {
+    &RUNS
+}
+
 // Openings of several messages, and rehearsals, in both versions.
-pub const OPENINGS_AND_SCHEDULES: [Run; 9] = [
+static OPENINGS_AND_SCHEDULES: [Run; 9] = [
     Run {
         source: "RFC 9180, A.1.1.1; two lanes, the second first",
         words: &["rehearse", "1,0"],
@@ -180,3 +184,7 @@ pub const OPENINGS_AND_SCHEDULES: [Run; 9] = [
         reply: "hpkebatch 1\nend\n",
     },
 ];
+
+pub fn openings_and_schedules() -> &'static [Run; 9] {
+    &OPENINGS_AND_SCHEDULES
+}

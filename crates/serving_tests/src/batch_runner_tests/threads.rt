@@ -1,13 +1,16 @@
 //! Runs whose lanes threads serve. Which of the allowed texts comes depends on the threads.
 
-use crate::batch_runner_tests::{answer_to, assert_end, gated_answer_to};
-use crate::expected::assert_same;
+use crate::batch_runner_tests::{
+    answer_to, assert_end, gated_answer_to, repeat, string_of, text_of,
+};
+use crate::expected::{assert_at, assert_same};
 use batch_io::{Gate, HoldGate, Point};
 use batch_runner::Outcome;
 use std::alloc::Global;
+use std::process::Abort;
+use std::sync::Wait;
 use std::sync::atomic::{AtomicBool, AtomicU32, Ordering};
-use std::test::Fail;
-use std::thread;
+use std::thread::{self, Threads};
 
 // A turn of a gate that holds a lane is one load: so many are enough on a busy machine.
 pub const MOST_TURNS: u64 = 1_000_000_000;
@@ -29,13 +32,8 @@ fn an_opening_that_is_held_up_is_answered_at_its_place(rt: HostRuntime) {
     let gate = HoldGate::new(0, Point::Guessed, 1, MOST_TURNS);
     let words = ["run", "--workers", "2"];
     let end = gated_answer_to(&rt, rt.alloc(), &words, OPENINGS, 4096, &gate);
-    assert_end(
-        &rt,
-        &end,
-        Outcome::Done,
-        OPENED.as_bytes(),
-        "lane 0 is held",
-    );
+    let text = OPENED.as_bytes();
+    assert_end(&rt, &end, Outcome::Done, text, "lane 0 is held");
     assert!(rt; !gate.gave_up());
 }
 
@@ -70,47 +68,53 @@ fn one_worker_serves_the_lanes_in_order(rt: HostRuntime) {
 // ---- sixteen lanes
 
 // Sixteen lanes that seal two texts each on one context.
-fn sixteen_lanes(alloc: Global) -> Result<String, Fail> {
-    let mut text = String::from_str(
+fn sixteen_lanes(rt: &impl Abort, alloc: Global) -> String {
+    let mut text = string_of(
+        rt,
         alloc,
         "hpkebatch 2\nshare send 32 1 1 fe0e18c9f024ce43799ae393c7e8fe8fce9d218875e8227b0187c04e7d2ea1fc base 4f6465206f6e2061204772656369616e2055726e - - 99\n",
-    )?;
-    for _ in 0..16 {
-        text.push_str("lane\nseal 0 - 00\nseal 0 - 01\n")?;
-    }
-    text.push_str("end\n")?;
-    Ok(text)
+    );
+    repeat(rt, &mut text, "lane\nseal 0 - 00\nseal 0 - 01\n", 16);
+    repeat(rt, &mut text, "end\n", 1);
+    text
 }
 
 // The numbers of all `sealed` lines, in the order of the text.
-pub fn sealed_numbers(alloc: Global, text: &[u8]) -> Result<Vec<u64>, Fail> {
+pub fn sealed_numbers(rt: &impl Abort, alloc: Global, text: &str) -> Vec<u64> {
     let mut numbers = Vec::new(alloc);
-    let text = str::from_utf8(text)?;
     for line in text.lines() {
         if let Some(rest) = line.strip_prefix("sealed ") {
             let (number, _) = rest.split_once(" ").unwrap_or((rest, ""));
-            numbers.push(number.parse::<u64>()?)?;
+            let number = number.parse::<u64>().expect(rt, "a number");
+            numbers.push(number).expect(rt, "memory");
         }
     }
-    Ok(numbers)
+    numbers
+}
+
+fn assert_used_once<R: Abort + Threads + Wait + Sync>(
+    rt: &R,
+    alloc: Global,
+    batch: &str,
+    workers: &str,
+) {
+    let words = ["run", "--workers", workers];
+    let (outcome, sink) = answer_to(rt, alloc, &words, batch, 4096);
+    assert_same(rt, outcome, Outcome::Done, "outcome");
+    let mut numbers = sealed_numbers(rt, alloc, text_of(rt, &sink));
+    for lane in numbers.chunks(2) {
+        assert!(rt; lane.is_sorted(), "{workers}");
+    }
+    numbers.sort_unstable();
+    assert!(rt; numbers.iter().copied().eq(0..32), "{workers}");
 }
 
 #[test]
-fn each_number_is_used_once_by_whichever_lane(rt: HostRuntime) -> Result<(), Fail> {
-    let alloc = rt.alloc();
-    let batch = sixteen_lanes(alloc)?;
+fn each_number_is_used_once_by_whichever_lane(rt: HostRuntime) {
+    let batch = sixteen_lanes(&rt, rt.alloc());
     for workers in ["1", "2", "3", "4", "16"] {
-        let words = ["run", "--workers", workers];
-        let (outcome, sink) = answer_to(&rt, alloc, &words, &batch, 4096);
-        assert_same(&rt, outcome, Outcome::Done, "outcome");
-        let mut numbers = sealed_numbers(alloc, sink.bytes())?;
-        for lane in numbers.chunks(2) {
-            assert!(rt; lane.is_sorted(), "{workers}");
-        }
-        numbers.sort_unstable();
-        assert!(rt; numbers.iter().copied().eq(0..32), "{workers}");
+        assert_used_once(&rt, rt.alloc(), &batch, workers);
     }
-    Ok(())
 }
 
 // ---- as many lanes at once as there are workers
@@ -161,21 +165,27 @@ impl Gate for MeetGate {
 
 // Four lanes are served at once where the words name no number, and sixteen where they say so.
 #[test]
-fn each_worker_serves_a_lane_meanwhile(rt: HostRuntime) -> Result<(), Fail> {
-    let alloc = rt.alloc();
-    let batch = sixteen_lanes(alloc)?;
+fn each_worker_serves_a_lane_meanwhile(rt: HostRuntime) {
+    let batch = sixteen_lanes(&rt, rt.alloc());
     for command in ["run", "live"] {
-        let gate = MeetGate::new(4);
-        let (outcome, _) = gated_answer_to(&rt, alloc, &[command], &batch, 4096, &gate);
-        assert_same(&rt, outcome, Outcome::Done, command);
-        assert!(rt; !gate.gave_up(), "{command}");
+        assert_meet(&rt, rt.alloc(), &[command], &batch, 4);
         for (workers, lanes) in [("3", 3), ("16", 16)] {
-            let gate = MeetGate::new(lanes);
             let words = [command, "--workers", workers];
-            let (outcome, _) = gated_answer_to(&rt, alloc, &words, &batch, 4096, &gate);
-            assert_same(&rt, outcome, Outcome::Done, command);
-            assert!(rt; !gate.gave_up(), "{command} {workers}");
+            assert_meet(&rt, rt.alloc(), &words, &batch, lanes);
         }
     }
-    Ok(())
+}
+
+// So many lanes of the batch are there at once.
+fn assert_meet<R: Abort + Threads + Wait + Sync>(
+    rt: &R,
+    alloc: Global,
+    words: &[&str],
+    batch: &str,
+    lanes: u32,
+) {
+    let gate = MeetGate::new(lanes);
+    let (outcome, _) = gated_answer_to(rt, alloc, words, batch, 4096, &gate);
+    assert_at(rt, outcome, Outcome::Done, "outcome", words);
+    assert_at(rt, gate.gave_up(), false, "a lane that gave up", words);
 }
