@@ -1,4 +1,4 @@
-use Rattle.std.proofs.Common.{◌≡◌, ◌<◌, ◌+◌, ◌++◌, ◌||◌, Bool, false, List, length, drop, get_or, refl, ap, ◌∙◌, arith}
+use Rattle.std.proofs.Common.{◌<◌, ◌+◌, ◌++◌, ◌||◌, Bool, false, List, length, drop, get_or, refl, ap, ◌∙◌, arith}
 use Rattle.std.proofs.lemmas.Grind.{common_steps}
 use Rattle.std.specs.Prelude.{nat_lt, if◌then◌else◌}
 use Rattle.std.proofs.lemmas.List.{get_or_default}
@@ -18,9 +18,9 @@ calls-preserved c =
     let calls = c.args.calls.now in
     let i = c.calls.number in
     let lt : i < length calls = c.calls-test.true in
-    let call : CallLine = get_or calls i _ in
     let low : i < length c.in_ok-live.live.items = omega (arith, lt, c.in_ok-live.ensures.size) in
     let live = c.index.ensures ∙ get_or_default c.in_ok-live.live.items i _ false low ∙ c.in_ok-live.ensures.each i lt in
+    let call : CallLine = get_or calls i _ in
     ap (λ (made : List CallLine). made ++ numbered served (i + 1) (drop (i + 1) calls)) c.in_ok-push.ensures.items
     ∙ numbered_goes_on served calls i _ _ c.looked_up.result c.calls.served.items _ lt refl
     (c.looked_up.ensures ∙ ap (λ (b : Bool). if nat_lt (context_of call) first_name || b then at_position plan call else call) live) c.calls.invariant
