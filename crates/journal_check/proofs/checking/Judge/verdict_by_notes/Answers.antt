@@ -1,5 +1,4 @@
-use Rattle.std.proofs.Common.{sym, ap, ◌∙◌, arith}
-use Rattle.std.proofs.lemmas.Grind.{common_steps}
+use Rattle.std.proofs.Common.{sym, ap, ◌∙◌}
 use Rattle.std.proofs.lemmas.Result.{IfOk-weaker}
 use Rattle.result_lines.specs.Computed.{live_by_form}
 use Rattle.journal_check.proofs.LiveRead.{live_has_of}
@@ -20,9 +19,3 @@ returns-in-Ok c =
     IfOk-weaker c.verdict_as_served.result _ _
     (λ verdict is. is ∙ ap (live_by_form c.args.plan.now c.args.self.now.replies.now c.args.contexts.now c.args.notes.now) (sym c.in-Ok.ensures))
     c.verdict_as_served.ensures
-
-pub returns-in-Err-Wrong : goal.returns-in-Err-Wrong
-returns-in-Err-Wrong c = grind (arith, common_steps)
-
-pub returns : goal.returns
-returns c = grind (arith, common_steps)
