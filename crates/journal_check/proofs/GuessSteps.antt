@@ -1,5 +1,6 @@
 -- The guesses of a lane, one call after another.
-use Rattle.std.proofs.Common.{◌≡◌, ℕ, ◌+◌, ◌≤◌, Bool, true, false, cond, List, ◌∷◌, length, map, drop, Option, Some, None, refl, sym, ap, ◌∙◌}
+use Rattle.std.proofs.Common.{◌≡◌, ℕ, ◌+◌, ◌<◌, ◌≤◌, Bool, true, false, cond, List, ◌∷◌, length, map, drop, get_or, Option, Some, None, refl, sym, ap, ◌∙◌}
+use Rattle.std.specs.Option.{is_some}
 use Rattle.std.proofs.lemmas.List.{length-map}
 use Rattle.call_places.specs.Messages.{sealed_messages}
 use Rattle.hpke_context.specs.Contexts.{ContextView}
@@ -11,10 +12,12 @@ use Rattle.batch_plans.specs.Limits.{items_from}
 use Rattle.context_books.specs.Standing.{call_refusal}
 use Rattle.context_books.specs.Asks.{asked_by, ask_unless, ask_of}
 use Rattle.context_books.specs.Runs.{Run}
-use Rattle.context_books.proofs.Done.{length-messages}
+use Rattle.context_books.specs.Lanes.{calls_of}
+use Rattle.context_books.proofs.Done.{length-messages, lane_asks}
 use Rattle.result_lines.specs.declared.told.GuessLine.{GuessLine}
-use Rattle.result_lines.specs.Guesses.{is_right, wrong_guess}
+use Rattle.result_lines.specs.Guesses.{is_right, wrong_guess, or_else, wrong_guesses}
 use Rattle.journal_check.specs.Passing.{opens_unless, is_opening}
+use Rattle.journal_check.proofs.Walks.{drop_next}
 use Rattle.result_lines.proofs.Limited.{IsLine}
 
 module _ (run : Run) (lane number : ℕ) (contexts : List (Option ContextView)) (asks : List Ask) where
@@ -80,3 +83,34 @@ module _ (run : Run) (lane i : ℕ) (contexts : List (Option ContextView)) (line
       ∙ ap (λ (cs : List CallLine). wrong_guess run lane i (map (ask_of run.plan contexts) cs) (drop next guesses)) at
       ∙ ap (wrong_guess run lane i (ask_of run.plan contexts call ∷ asks)) behind
       ∙ opening run lane i contexts asks call opens line told (drop (next + 1) guesses) right judged
+
+-- ---- one lane after another
+
+module _ (run : Run) (lanes : List (List GuessLine)) (i : ℕ) (d guesses : List GuessLine) (found total : Option ℕ) (low : i < length lanes)
+    (here : guesses ≡ get_or lanes i d) (is : found ≡ wrong_guess run i 0 (map (ask_of run.plan run.contexts) (calls_of run i)) guesses)
+    (so_far : total ≡ wrong_guesses run i (drop i lanes)) where
+  abbrev later : Option ℕ
+  later = wrong_guesses run (i + 1) (drop (i + 1) lanes)
+
+  judged : total ≡ or_else found later
+  judged =
+      so_far
+      ∙ ap (wrong_guesses run i) (drop_next lanes i d low)
+      ∙ ap (λ (asks : List Ask). or_else (wrong_guess run i 0 asks (get_or lanes i d)) later) (lane_asks run i)
+      ∙ ap (λ (first : Option ℕ). or_else first later) (sym (is ∙ ap (wrong_guess run i 0 (map (ask_of run.plan run.contexts) (calls_of run i))) here))
+
+  -- all guesses of the next one are right
+  pub lane_right : is_some found ≡ false → total ≡ later
+  lane_right none = go found judged none
+    where
+      go : (first : Option ℕ) → total ≡ or_else first later → is_some first ≡ false → total ≡ later
+      go None all none = all
+      go (Some line) all some = absurd (let clash : true ≡ false = some in cc)
+
+  -- or one isn't
+  pub lane_wrong : is_some found ≡ true → found ≡ total
+  lane_wrong some = go found judged some
+    where
+      go : (first : Option ℕ) → total ≡ or_else first later → is_some first ≡ true → first ≡ total
+      go None all none = absurd (let clash : false ≡ true = none in cc)
+      go (Some line) all some = sym all

@@ -32,7 +32,7 @@ use Rattle.context_books.specs.LiveChecks.{note_ask, pairs, asks_with_notes, not
 use Rattle.result_lines.specs.Journals.{is_journal, stamps_rise}
 use Rattle.result_lines.proofs.Limited.{IsLine, calls_few}
 use Rattle.journal_check.specs.declared.asks.Asked.{Asked}
-use Rattle.journal_check.specs.Asks.{size_of, sizes_of, AreFew}
+use Rattle.journal_check.specs.Asks.{size_of, size_in, sizes_of, AreFew}
 use Rattle.journal_check.specs.Tables.{written, live_along, pairs_by, all_pairs_by, lane_lengths, is_low, is_low_note, are_low}
 use Rattle.journal_check.proofs.Asking.{call_size, lane_sizes}
 use Rattle.journal_check.proofs.Walks.{drop_next}
@@ -217,7 +217,21 @@ pub fails_with : (b d : Bool) → (b ≡ true → d ≡ true) → d ≡ false �
 fails_with true d needs e = absurd (let clash : true ≡ false = sym (needs refl) ∙ e in cc)
 fails_with false d needs e = refl
 
--- ---- one lane after another
+-- ---- one call after another, and one lane after another
+
+-- the note of the next call, and the call as it is served
+pub pair_next : (plan : Plan) (standing : List (Option ContextView)) (table : ℕ) (calls served : List CallLine) (i : ℕ) (d e : CallLine) (note own : Asked) (made total : List Asked)
+    → i < length calls → i < length served
+    → note ≡ size_of (note_ask table (noting plan standing (get_or calls i d))) → own ≡ size_in standing (get_or served i e)
+    → made ++ pairs_by plan standing table (drop i calls) (drop i served) ≡ total
+    → ((made ++ note ∷ []) ++ own ∷ []) ++ pairs_by plan standing table (drop (i + 1) calls) (drop (i + 1) served) ≡ total
+pair_next plan standing table calls served i d e note own made total low few note_is own_is so_far =
+    let later = pairs_by plan standing table (drop (i + 1) calls) (drop (i + 1) served) in
+    append_assoc (made ++ note ∷ []) (own ∷ []) later
+    ∙ append_assoc made (note ∷ []) (own ∷ later)
+    ∙ (λ j. made ++ note_is j ∷ own_is j ∷ later)
+    ∙ sym (λ j. made ++ pairs_by plan standing table (drop_next calls i d low j) (drop_next served i e few j))
+    ∙ so_far
 
 pub pairs_next : (plan : Plan) (standing : List (Option ContextView)) (table : ℕ) (calls served : List (List CallLine)) (i : ℕ) (d e : List CallLine) (own : List Asked) (made total : List (List Asked))
     → i < length calls → i < length served → own ≡ pairs_by plan standing table (get_or calls i d) (get_or served i e)

@@ -13,16 +13,26 @@ use Rattle.journal_check.specs.Passing.{due_at}
 use Rattle.journal_check.specs.Walks.{IsRun, Stands, run_in}
 use Rattle.journal_check.proofs.SoundRuns.{stands_low}
 
+module _ (checked : CheckedRun) (is_run : IsRun checked) (c : ℕ) (stands : Stands checked c) where
+  -- it has a journal, and that was run
+  pub journal_there : c < length checked.journals.now
+  journal_there =
+      let low : c < length checked.contexts.now = stands_low checked.contexts.now c stands.0 stands.1 in
+      let size = is_run.contexts_size in
+      omega arith
+
+  pub run_there : c < length checked.runs.now
+  run_there =
+      let low = journal_there in
+      let many = is_run.runs_size in
+      omega arith
+
 module _ (checked : CheckedRun) (is_run : IsRun checked) (c : ℕ) (stands : Stands checked c) (d : JournalRun) where
   abbrev run : Run
   run = run_in checked
 
   there : slice_get checked.runs.now c ≡ Some (get_or checked.runs.now c d)
-  there =
-      let low : c < length checked.contexts.now = stands_low checked.contexts.now c stands.0 stands.1 in
-      let many = is_run.runs_size in
-      let size = is_run.contexts_size in
-      slice_get-get_or checked.runs.now c d (omega arith)
+  there = slice_get-get_or checked.runs.now c d (run_there checked is_run c stands)
 
   pub lines_on : (get_or checked.runs.now c d).lines.items ≡ map (place_line run c) (journal_of run c)
   lines_on = is_run.lines c stands.0 (get_or checked.runs.now c d) stands.1 there

@@ -1,6 +1,7 @@
 -- Steps that take the lines of a list's elements one after another.
-use Rattle.std.proofs.Common.{◌≡◌, ℕ, ◌+◌, ◌-◌, ◌<◌, ◌≤◌, suc, List, [], ◌∷◌, length, drop, get_or, Result, Ok, sym, ap, ◌∙◌, add-one, arith}
+use Rattle.std.proofs.Common.{◌≡◌, ℕ, ◌+◌, ◌-◌, ◌<◌, suc, List, [], ◌∷◌, ◌++◌, length, drop, get_or, Result, Ok, sym, ap, ◌∙◌, add-one, append-nil, append_assoc, arith}
 use Rattle.std.proofs.Math.Seq.{drop-cons}
+use Rattle.batch_plans.specs.ReplyText.{numbered}
 use Rattle.result_lines.specs.declared.stop.Stop.{Stop}
 use Rattle.result_lines.specs.declared.stop.Stop.TheVariants as stops
 use Rattle.result_lines.specs.Places.{◌>>=◌}
@@ -56,3 +57,19 @@ module _ {S : Type 0} (all : ℕ → S → Result S ℕ) (step : S → Result S 
       → Stops stop (step s) → all (n - i) s ≡ total → Stops stop total
   count_stops_at stop n i s total lt wrong so_far =
       step_stops stop (step s) (all (n - (i + 1))) total wrong (sym (one_of n i s lt) ∙ so_far)
+
+-- ---- lists that are made of one element after another
+
+-- what is made of the next one and its number
+pub numbered_goes_on : {A B : Type 0} (f : ℕ → A → B) (xs : List A) (i : ℕ) (d x : A) (y : B) (made total : List B) → i < length xs → x ≡ get_or xs i d
+    → y ≡ f i x → made ++ numbered f i (drop i xs) ≡ total → (made ++ y ∷ []) ++ numbered f (i + 1) (drop (i + 1) xs) ≡ total
+numbered_goes_on {A} {B} f xs i d x y made total lt is made_of so_far =
+    let later = numbered f (i + 1) (drop (i + 1) xs) in
+    append_assoc made (y ∷ []) later
+    ∙ ap (λ (z : B). made ++ z ∷ later) made_of
+    ∙ ap (λ (ys : List A). made ++ numbered f i ys) (sym (drop-next xs i d x lt is))
+    ∙ so_far
+
+-- nothing more is made
+pub nothing_more : {B : Type 0} (made rest total : List B) → rest ≡ [] → made ++ rest ≡ total → made ≡ total
+nothing_more {B} made rest total none is = sym (append-nil made) ∙ ap (λ (ys : List B). made ++ ys) (sym none) ∙ is

@@ -1,5 +1,5 @@
 -- What was read of a result whose lanes add and retire contexts is the text of what it tells.
-use Rattle.std.proofs.Common.{◌≡◌, ℕ, ◌+◌, true, List, [], ◌∷◌, ◌++◌, length, map, take, drop, codes, Option, Ok, refl, sym, ap, ◌∙◌, append_assoc, append-nil, length-append, arith}
+use Rattle.std.proofs.Common.{◌≡◌, ℕ, true, List, [], ◌∷◌, ◌++◌, length, map, take, drop, codes, Option, Ok, refl, sym, ap, ◌∙◌, append_assoc, append-nil, length-append, arith}
 use Rattle.std.specs.List.{concat}
 use Rattle.std.proofs.lemmas.List.{take_at, drop_at, length-drop, length-take-le}
 use Rattle.call_places.specs.declared.entries.Entry.{Entry}

@@ -1,4 +1,5 @@
-use Rattle.std.proofs.Common.{◌+◌, ◌++◌, List, drop, sym, ap, append_assoc, ◌∙◌}
+use Rattle.std.proofs.Common.{◌+◌, ◌++◌, List, drop, sym, ap, append_assoc, ◌∙◌, arith}
+use Rattle.std.proofs.lemmas.Grind.{common_steps}
 use Rattle.call_places.specs.declared.entries.Mark.{Mark}
 use Rattle.journal_check.specs.Piles.{spots_told}
 use Rattle.journal_check.proofs.Walks.{drop_next}
@@ -13,3 +14,6 @@ journals-preserved c =
     (append_assoc so_far _ (spots_told (i + 1) (drop (i + 1) journals))
     ∙ ap (λ (journals : List (List Mark)). so_far ++ spots_told i journals) (sym (drop_next journals i _ c.journals-test.true))
     ∙ c.journals.invariant)
+
+pub returns : goal.returns
+returns c = grind (arith, common_steps)

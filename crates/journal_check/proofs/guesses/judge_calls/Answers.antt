@@ -1,4 +1,5 @@
 use Rattle.std.proofs.Common.{ℕ, ◌+◌, Bool, cond, Some, map, drop, get_or, sym, ap, ◌∙◌, arith}
+use Rattle.std.proofs.lemmas.Grind.{common_steps}
 use Rattle.context_books.specs.Asks.{ask_of}
 use Rattle.result_lines.specs.declared.told.GuessLine.{GuessLine}
 use Rattle.result_lines.specs.Guesses.{wrong_guess}
@@ -68,3 +69,9 @@ calls-preserved c =
         | else-is_opening w ↦ omega (arith, w.next-is, c.calls.invariant.few)
       ];
     }
+
+pub returns-then-next-guesses : goal.returns-then-next-guesses
+returns-then-next-guesses c = grind (arith, common_steps)
+
+pub returns : goal.returns
+returns c = grind (arith, common_steps)

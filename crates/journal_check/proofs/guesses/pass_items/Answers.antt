@@ -3,9 +3,15 @@ use Rattle.std.specs.Prelude.{slice_index}
 use Rattle.journal_check.specs.Passing.{due_at}
 use Rattle.journal_check.specs.Walks.{run_in}
 use Rattle.journal_check.proofs.DueNumbers.{one_more, found_all, left_behind}
-use Rattle.journal_check.proofs.OneContext.{numbers_on}
+use Rattle.journal_check.proofs.OneContext.{journal_there, run_there, numbers_on}
 use Rattle.journal_check.proofs.Pulling.{no_place, next_place}
 use Rattle.journal_check.proofs.guesses.pass_items.Goals as goal
+
+pub bounds-walk-context : goal.bounds-walk-context
+bounds-walk-context c = run_there c.args.walk.now.checked c.requires.run c.args.context c.requires.stands
+
+pub bounds-cursors-context : goal.bounds-cursors-context
+bounds-cursors-context c = omega (arith, journal_there c.args.walk.now.checked c.requires.run c.args.context c.requires.stands, c.requires.cursors)
 
 pub places-init : goal.places-init
 places-init c = record {

@@ -1,4 +1,5 @@
 use Rattle.std.proofs.Common.{◌+◌, List, length, drop, get_or, ap, ◌∙◌, arith}
+use Rattle.std.proofs.lemmas.Grind.{common_steps}
 use Rattle.std.proofs.lemmas.List.{length-append, length-map}
 use Rattle.call_places.specs.declared.entries.Mark.{Mark}
 use Rattle.context_books.specs.Histories.{stamps, all_stamps}
@@ -19,3 +20,6 @@ journals-preserved c =
       length-map marks (λ (m : Mark). m.stamp),
       ap length (c.as_slice.ensures.items ∙ c.marks-item.is),
     )
+
+pub returns : goal.returns
+returns c = grind (arith, common_steps)

@@ -1,4 +1,5 @@
-use Rattle.std.proofs.Common.{List, drop, get_or, slice_set, subst, ap, ◌∙◌, ◌+◌}
+use Rattle.std.proofs.Common.{List, drop, get_or, slice_set, subst, ap, ◌∙◌, ◌+◌, arith}
+use Rattle.std.proofs.lemmas.Grind.{common_steps}
 use Rattle.call_places.specs.declared.entries.Mark.{Mark}
 use Rattle.context_books.specs.Batches.{Spot}
 use Rattle.journal_check.specs.Histories.{Puts}
@@ -28,3 +29,6 @@ marks-preserved c = λ final t.
           (puts_none old final c.args.context marks i no_mark c.marks-test.true w.if-at-history.false
           (subst (λ (h : List Spot). Puts h final c.args.context rest) w.history-is t))
     ]
+
+pub returns : goal.returns
+returns c = grind (arith, common_steps)

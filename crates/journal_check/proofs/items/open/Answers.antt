@@ -26,3 +26,12 @@ returns-in-Ok-clause-context c = always c.reply_line.result c.in-Ok.ensures.cont
 
 pub returns-in-Ok-clause-checked : goal.returns-in-Ok-clause-checked
 returns-in-Ok-clause-checked c = always c.reply_line.result (c.in-Ok.ensures.checked c.requires.can)
+
+pub returns-in-Err-Failed-clause-seq : goal.returns-in-Err-Failed-clause-seq
+returns-in-Err-Failed-clause-seq c = always c.reply_line-in-Err-Failed.result (c.in-Err-Failed.ensures.due c.requires.can)
+
+pub returns-in-Err-Failed-clause-context : goal.returns-in-Err-Failed-clause-context
+returns-in-Err-Failed-clause-context c = always c.reply_line-in-Err-Failed.result c.in-Err-Failed.ensures.context
+
+pub returns-in-Err-Failed-clause-checked : goal.returns-in-Err-Failed-clause-checked
+returns-in-Err-Failed-clause-checked c = always c.reply_line-in-Err-Failed.result (c.in-Err-Failed.ensures.checked c.requires.can)

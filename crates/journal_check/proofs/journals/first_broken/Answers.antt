@@ -1,4 +1,5 @@
 use Rattle.std.proofs.Common.{◌<◌, length, ◌∙◌, arith}
+use Rattle.std.proofs.lemmas.Grind.{common_steps}
 use Rattle.journal_check.specs.Asks.{batch_from}
 use Rattle.journal_check.specs.Piles.{asked_on}
 use Rattle.journal_check.proofs.Dealt.{broken_here, broken_later, pile_is}
@@ -23,3 +24,6 @@ journals-preserved c =
     let due = pile_is c.args.asked.now i c.index-asked-number.result c.as_slice-due.result.now (asked_on batch i) low (c.as_slice-due.ensures ∙ c.index-asked-number.is) (c.requires.asked i lt) in
     broken_later c.args.stamps batch c.args.journals.now i c.index-journals-number.result c.as_slice.result.now lt (c.as_slice.ensures.items ∙ c.index-journals-number.is) _
     c.journals.invariant c.in_ok-legal.legal (c.in_ok-legal.ensures i due) c.if-not-legal.false
+
+pub returns : goal.returns
+returns c = grind (arith, common_steps)

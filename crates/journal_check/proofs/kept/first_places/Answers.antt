@@ -1,4 +1,5 @@
 use Rattle.std.proofs.Common.{◌<◌, ◌+◌, ◌++◌, List, length, drop, ap, ◌∙◌, arith}
+use Rattle.std.proofs.lemmas.Grind.{common_steps}
 use Rattle.std.specs.Prelude.{take}
 use Rattle.call_places.specs.declared.entries.Mark.{Mark}
 use Rattle.call_places.specs.declared.entries.Place.{Place}
@@ -20,3 +21,6 @@ journals-preserved c =
     ∙ keep_next batch c.args.journals.now i _ c.index-journals-number.result c.in_ok-first.field-0 c.journals.kept.items _ lt c.index-journals-number.is
     (c.in_ok-first.ensures ∙ ap (λ (pile : List Place). take (length pile + 1) c.index-journals-number.result) due)
     c.journals.invariant
+
+pub returns : goal.returns
+returns c = grind (arith, common_steps)

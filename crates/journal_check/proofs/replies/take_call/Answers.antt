@@ -1,4 +1,5 @@
-use Rattle.std.proofs.Common.{ℕ, List, Option, subst, sym, ap, ◌∙◌}
+use Rattle.std.proofs.Common.{ℕ, List, Option, subst, sym, ap, ◌∙◌, arith}
+use Rattle.std.proofs.lemmas.Grind.{common_steps}
 use Rattle.batch_plans.specs.declared.replies.CallRefusal.{CallRefusal}
 use Rattle.context_books.specs.Runs.{lines_unless, item_lines}
 use Rattle.journal_check.specs.Walks.{Holds, run_in}
@@ -23,3 +24,12 @@ returns-in-None-clause-lines c = λ number more points.
     subst (λ (lines : List (List ℕ)). Holds c.args.replies.now c.take_served.new.replies lines c.take_served.result)
     (sym (c.in_default.ensures.other walk.lane number ∙ ap (λ (r : Option CallRefusal). lines_unless r lines) (sym c.in-None.ensures)))
     (c.take_served.ensures.lines number more points)
+
+pub returns-in-Some-clause-points : goal.returns-in-Some-clause-points
+returns-in-Some-clause-points c = grind (arith, common_steps)
+
+pub returns-in-Some-refusal_of-clause-points : goal.returns-in-Some-refusal_of-clause-points
+returns-in-Some-refusal_of-clause-points c = grind (arith, common_steps)
+
+pub returns-in-None-clause-points : goal.returns-in-None-clause-points
+returns-in-None-clause-points c = grind (arith, common_steps)

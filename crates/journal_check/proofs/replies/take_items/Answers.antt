@@ -1,4 +1,5 @@
 use Rattle.std.proofs.Common.{◌+◌, ◌++◌, List, map, drop, get_or, ap, ◌∙◌, arith}
+use Rattle.std.proofs.lemmas.Grind.{common_steps}
 use Rattle.std.proofs.lemmas.Result.{err_from_is_err_and}
 use Rattle.std.proofs.lemmas.List.{drop_all}
 use Rattle.call_places.specs.declared.entries.Place.{Place}
@@ -47,3 +48,6 @@ returns-clause-lines c = λ ps more size own rest.
     let end = c.places-test.false in
     c.places.invariant.held ps more rest size own
     ∙ ap (λ (qs : List Place). wrong_reply c.places.replies (map f qs ++ rest)) (drop_all c.places._place ps (omega arith))
+
+pub returns-clause-left : goal.returns-clause-left
+returns-clause-left c = grind (arith, common_steps)

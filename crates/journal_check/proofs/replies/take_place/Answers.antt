@@ -1,10 +1,17 @@
-use Rattle.std.proofs.Common.{ℕ, ◌<◌, List, [], ◌∷◌, subst, sym, ◌∙◌}
+use Rattle.std.proofs.Common.{ℕ, ◌<◌, List, [], ◌∷◌, subst, sym, ◌∙◌, arith}
+use Rattle.std.proofs.lemmas.Grind.{common_steps}
 use Rattle.context_books.specs.Histories.{marks_at}
 use Rattle.context_books.specs.Runs.{place_line}
 use Rattle.journal_check.specs.Walks.{Holds, run_in, left_in}
-use Rattle.journal_check.proofs.OneContext.{lines_on, size_on}
+use Rattle.journal_check.proofs.OneContext.{journal_there, run_there, lines_on, size_on}
 use Rattle.journal_check.proofs.Pulling.{value_here, behind_here}
 use Rattle.journal_check.proofs.replies.take_place.Goals as goal
+
+pub step-requires-clause-there : goal.step-requires-clause-there
+step-requires-clause-there c = journal_there c.args.walk.now.checked c.requires.run c.args.context c.requires.stands
+
+pub bounds-walk-context : goal.bounds-walk-context
+bounds-walk-context c = run_there c.args.walk.now.checked c.requires.run c.args.context c.requires.stands
 
 pub line_at-requires : goal.line_at-requires
 line_at-requires c =
@@ -28,3 +35,9 @@ returns-clause-left c = λ p ps own.
     let walk = c.args.walk.now in
     behind_here (marks_at walk.checked.journals.now c.args.context) c.in-Some.at c.in-Some.ensures.there
     (left_in walk c.args.cursors.now c.args.context) (left_in walk c.step.new.cursors c.args.context) c.in-Some.ensures.place p ps own
+
+pub returns-in_default-clause-line : goal.returns-in_default-clause-line
+returns-in_default-clause-line c = grind (arith, common_steps)
+
+pub returns-in_default-clause-left : goal.returns-in_default-clause-left
+returns-in_default-clause-left c = grind (arith, common_steps)

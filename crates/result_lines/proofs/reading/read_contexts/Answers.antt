@@ -1,4 +1,5 @@
-use Rattle.std.proofs.Common.{List, ℕ, sym, ap, ◌∙◌, subst}
+use Rattle.std.proofs.Common.{List, ℕ, sym, ap, ◌∙◌, subst, arith}
+use Rattle.std.proofs.lemmas.Grind.{common_steps}
 use Rattle.std.proofs.lemmas.Result.{err_from_is_err_and}
 use Rattle.batch_plans.specs.Lines.{context_line}
 use Rattle.result_lines.specs.Readings.{Stops}
@@ -20,3 +21,6 @@ contexts-preserved c =
     let x = c.index-replies-number.result in
     lines_go_on context_line c.args.replies.now c.contexts.number x x c.contexts.told c.expect.new.self _ c.contexts-test.true c.index-replies-number.is
     (ap (λ (due : List ℕ). with_line due c.contexts.told) (sym line) ∙ c.in_ok-expect.ensures) c.contexts.invariant
+
+pub returns : goal.returns
+returns c = grind (arith, common_steps)

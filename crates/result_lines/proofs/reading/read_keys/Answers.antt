@@ -1,4 +1,5 @@
-use Rattle.std.proofs.Common.{List, ℕ, sym, ap, ◌∙◌, subst}
+use Rattle.std.proofs.Common.{List, ℕ, sym, ap, ◌∙◌, subst, arith}
+use Rattle.std.proofs.lemmas.Grind.{common_steps}
 use Rattle.std.proofs.lemmas.Result.{err_from_is_err_and}
 use Rattle.batch_plans.specs.Lines.{key_line}
 use Rattle.result_lines.specs.Readings.{Stops}
@@ -20,3 +21,6 @@ keys-preserved c =
     let x = c.index-keys-number.result in
     lines_go_on key_line c.args.keys.now c.keys.number x x c.keys.told c.expect.new.self _ c.keys-test.true c.index-keys-number.is
     (ap (λ (due : List ℕ). with_line due c.keys.told) (sym line) ∙ c.in_ok-expect.ensures) c.keys.invariant
+
+pub returns : goal.returns
+returns c = grind (arith, common_steps)
