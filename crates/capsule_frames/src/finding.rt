@@ -1,6 +1,6 @@
 //! What an earlier line left, and refusals by their names.
 
-ghost use Rattle.std.specs.Prelude.{◌≡◌, ◌≢◌, take, IfOk, OnOk, option_copied};
+ghost use Rattle.std.specs.Prelude.{◌≡◌, ◌≢◌, Err, take, IfOk, OnOk, option_copied};
 ghost use Rattle.capsule_frames.specs.Lines.{left_by, refusal_of};
 
 use crate::replies::CapsuleRefusal;
@@ -38,16 +38,16 @@ pub(crate) fn given_by<'a, 'p>(
     }
 }
 
-/// The refusal of a message, which want of memory isn't.
-pub(crate) fn refusal_of(fault: CapsuleFault) -> Result<CapsuleRefusal, OutOfMemory>
-    ensures refusal { IfOk result (λ r. r ≡ refusal_of fault) }
+/// What becomes of a message that is refused, which want of memory isn't.
+pub(crate) fn refused<T>(fault: CapsuleFault) -> Result<Result<T, CapsuleRefusal>, OutOfMemory>
+    ensures refusal { IfOk result (λ r. r ≡ Err (refusal_of fault)) }
     ensures memory { OnOk result (fault ≢ CapsuleFault.OutOfMemory) }
 {
     match fault {
-        CapsuleFault::Short => Ok(CapsuleRefusal::Short),
-        CapsuleFault::Header => Ok(CapsuleRefusal::Header),
-        CapsuleFault::NonceSize => Ok(CapsuleRefusal::NonceSize),
-        CapsuleFault::Failed => Ok(CapsuleRefusal::Failed),
+        CapsuleFault::Short => Ok(Err(CapsuleRefusal::Short)),
+        CapsuleFault::Header => Ok(Err(CapsuleRefusal::Header)),
+        CapsuleFault::NonceSize => Ok(Err(CapsuleRefusal::NonceSize)),
+        CapsuleFault::Failed => Ok(Err(CapsuleRefusal::Failed)),
         CapsuleFault::OutOfMemory => Err(OutOfMemory),
     }
 }

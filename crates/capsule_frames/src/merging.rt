@@ -8,7 +8,7 @@ ghost use Rattle.capsule_frames.specs.Orders.{merged, followed};
 
 use crate::lines::CapsuleLine;
 use crate::replies::CapsuleReply;
-use crate::results::{AnswerResult, AskResult, TakeResult};
+use crate::results::{AnswerResult, AskResult, TakeResult, push_last};
 use std::alloc::{AllocError as OutOfMemory, Global};
 use std::vec::IntoIter;
 
@@ -56,11 +56,11 @@ fn next_reply<'p>(
         ≡ followed result (merged lines (into_iter_items asks.new) (into_iter_items answers.new)
         (into_iter_items takes.new)) }
 {
-    Some(match line {
-        CapsuleLine::Ask { .. } => asked_reply(asks.next()?),
-        CapsuleLine::Answer { .. } => answered_reply(answers.next()?),
-        CapsuleLine::Take { .. } => took_reply(takes.next()?),
-    })
+    match line {
+        CapsuleLine::Ask { .. } => asks.next().map(asked_reply),
+        CapsuleLine::Answer { .. } => answers.next().map(answered_reply),
+        CapsuleLine::Take { .. } => takes.next().map(took_reply),
+    }
 }
 
 /// The replies to these lines, each the next of its kind, as far as there are results.
@@ -80,7 +80,7 @@ pub(crate) fn merged<'p>(
     let mut replies = Vec::new(alloc);
     'lines: for line in lines {
         match next_reply(line, &mut asks_left, &mut answers_left, &mut takes_left) {
-            Some(reply) => replies.push(reply)?,
+            Some(reply) => push_last(&mut replies, reply)?,
             None => return Ok(replies),
         }
     }

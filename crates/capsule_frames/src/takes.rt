@@ -6,11 +6,11 @@ ghost use Rattle.capsule_frames.specs.Within.{IsMessageWithin, IsWithin};
 ghost use Rattle.capsule_frames.specs.Lines.{response_at, took};
 ghost use Rattle.capsule_frames.specs.Orders.{takes_from};
 
-use crate::finding::{first, given_by, refusal_of, sent_by};
+use crate::finding::{first, given_by, refused, sent_by};
 use crate::known::KnownText;
 use crate::lines::{CapsuleLine, CapsulePlan};
 use crate::replies::CapsuleRefusal;
-use crate::results::{AnswerResult, AskResult, TakeResult};
+use crate::results::{AnswerResult, AskResult, TakeResult, push_last};
 use aes_gcm::MayCheck;
 use batch_plans::{EncField, Plan};
 use ohttp_capsule::take_by;
@@ -75,7 +75,7 @@ impl<'p> Before<'_, 'p> {
         };
         match take_by(permission, alloc, sent.asked(), response) {
             Ok(text) => Ok(Ok(KnownText::held_in(known, text))),
-            Err(fault) => Ok(Err(refusal_of(fault)?)),
+            Err(fault) => refused(fault),
         }
     }
 }
@@ -107,7 +107,7 @@ pub(crate) fn all_takes<'p>(
                     asks: first(asks, asks_before),
                     answers: first(answers, answers_before),
                 };
-                takes.push(before.took(permission, alloc, ask, response)?)?
+                push_last(&mut takes, before.took(permission, alloc, ask, response)?)?
             }
         }
     }
