@@ -8,7 +8,7 @@ ghost use Rattle.capsule_frames.specs.declared.jobs.AnswerJob.{AnswerJob};
 ghost use Rattle.capsule_frames.specs.Lines.{request_at, given_with};
 ghost use Rattle.capsule_frames.specs.Orders.{IsJobWithin, jobs_from, given_for, AreGiven};
 
-use crate::finding::{first, refused, sent_by};
+use crate::finding::{first, left_by, refused};
 use crate::jobs::{AnswerJob, jobs};
 use crate::known::KnownText;
 use crate::lines::CapsulePlan;
@@ -34,7 +34,7 @@ fn request_at<'a>(pool: &'a [u8], asks: &'a [AskResult], request: EncField) -> O
 {
     match request {
         EncField::Bytes(bytes) => Some(bytes.of(pool)),
-        EncField::Of(number) => Some(sent_by(asks, number)?.request()),
+        EncField::Of(number) => Some(left_by(asks, number)?.request()),
     }
 }
 
@@ -43,7 +43,7 @@ fn text_asked<'p>(asks: &[AskResult<'p>], request: EncField) -> &'p [u8] {
     let EncField::Of(number) = request else {
         return &[];
     };
-    match sent_by(asks, number) {
+    match left_by(asks, number) {
         Some(sent) => sent.text(),
         None => &[],
     }

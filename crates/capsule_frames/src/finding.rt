@@ -4,7 +4,6 @@ ghost use Rattle.std.specs.Prelude.{◌≡◌, ◌≢◌, Err, take, IfOk, OnOk,
 ghost use Rattle.capsule_frames.specs.Lines.{left_by, refusal_of};
 
 use crate::replies::CapsuleRefusal;
-use crate::results::{AnswerResult, AskResult, Given, Sent};
 use ohttp_capsule::CapsuleFault;
 use std::alloc::AllocError as OutOfMemory;
 
@@ -15,25 +14,12 @@ pub(crate) fn first<T>(results: &[T], count: usize) -> &[T]
     results.get(..count).unwrap_or(results)
 }
 
-/// What the ask of this number left, where it was made.
-pub(crate) fn sent_by<'a, 'p>(asks: &'a [AskResult<'p>], number: u32) -> Option<&'a Sent<'p>>
-    ensures { option_copied result ≡ left_by asks.now number }
+/// What the line of this number left, where it wasn't refused.
+pub(crate) fn left_by<T>(results: &[Result<T, CapsuleRefusal>], number: u32) -> Option<&T>
+    ensures { option_copied result ≡ left_by results.now number }
 {
-    match asks.get(number as usize) {
-        Some(Ok(sent)) => Some(sent),
-        _ => None,
-    }
-}
-
-/// What the answer of this number left, where it was given.
-pub(crate) fn given_by<'a, 'p>(
-    answers: &'a [AnswerResult<'p>],
-    number: u32,
-) -> Option<&'a Given<'p>>
-    ensures { option_copied result ≡ left_by answers.now number }
-{
-    match answers.get(number as usize) {
-        Some(Ok(given)) => Some(given),
+    match results.get(number as usize) {
+        Some(Ok(left)) => Some(left),
         _ => None,
     }
 }

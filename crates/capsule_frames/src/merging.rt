@@ -56,11 +56,11 @@ fn next_reply<'p>(
         ≡ followed result (merged lines (into_iter_items asks.new) (into_iter_items answers.new)
         (into_iter_items takes.new)) }
 {
-    match line {
-        CapsuleLine::Ask { .. } => asks.next().map(asked_reply),
-        CapsuleLine::Answer { .. } => answers.next().map(answered_reply),
-        CapsuleLine::Take { .. } => takes.next().map(took_reply),
-    }
+    Some(match line {
+        CapsuleLine::Ask { .. } => asked_reply(asks.next()?),
+        CapsuleLine::Answer { .. } => answered_reply(answers.next()?),
+        CapsuleLine::Take { .. } => took_reply(takes.next()?),
+    })
 }
 
 /// The replies to these lines, each the next of its kind, as far as there are results.

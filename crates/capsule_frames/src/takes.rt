@@ -6,7 +6,7 @@ ghost use Rattle.capsule_frames.specs.Within.{IsMessageWithin, IsWithin};
 ghost use Rattle.capsule_frames.specs.Lines.{response_at, took};
 ghost use Rattle.capsule_frames.specs.Orders.{takes_from};
 
-use crate::finding::{first, given_by, refused, sent_by};
+use crate::finding::{first, left_by, refused};
 use crate::known::KnownText;
 use crate::lines::{CapsuleLine, CapsulePlan};
 use crate::replies::CapsuleRefusal;
@@ -28,7 +28,7 @@ fn response_at<'a>(
 {
     match response {
         EncField::Bytes(bytes) => Some(bytes.of(pool)),
-        EncField::Of(number) => Some(given_by(answers, number)?.response()),
+        EncField::Of(number) => Some(left_by(answers, number)?.response()),
     }
 }
 
@@ -37,7 +37,7 @@ fn text_said<'p>(answers: &[AnswerResult<'p>], response: EncField) -> &'p [u8] {
     let EncField::Of(number) = response else {
         return &[];
     };
-    match given_by(answers, number) {
+    match left_by(answers, number) {
         Some(given) => given.said(),
         None => &[],
     }
@@ -65,7 +65,7 @@ impl<'p> Before<'_, 'p> {
         ensures { IfOk result (λ t. t
             ≡ took self.now.plan.now self.now.asks.now self.now.answers.now ask response) }
     {
-        let Some(sent) = sent_by(self.asks, ask) else {
+        let Some(sent) = left_by(self.asks, ask) else {
             return Ok(Err(CapsuleRefusal::NoAsk));
         };
         let known = text_said(self.answers, response);
