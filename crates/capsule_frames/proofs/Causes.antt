@@ -1,5 +1,5 @@
 -- Each refusal has its cause.
-use Rattle.std.proofs.Common.{◌≡◌, ◌↔◌, ◌<◌, ℕ, suc, List, [], ◌∷◌, length, take, Option, Some, None, Result, Ok, Err, refl, sym, ap, subst, ◌∙◌, arith, zero-add}
+use Rattle.std.proofs.Common.{◌≡◌, ◌↔◌, ◌<◌, ℕ, suc, List, [], ◌∷◌, length, take, Option, Some, None, Result, Ok, Err, refl, sym, ap, subst, ◌∙◌}
 use Rattle.std.specs.Prelude.{slice_get}
 use Rattle.ring_core.specs.Sets.{sntrup761, sntrup857}
 use Rattle.sntrup_kem.specs.Laws.{BothEndsAgree}
@@ -35,8 +35,8 @@ use Rattle.capsule_frames.specs.Lines.{left_in, left_by, sent_by, sent, request_
 use Rattle.capsule_frames.specs.Replies.{Done, nothing_done, asked_reply, answered_reply, took_reply, reply_to, done_with, replies_after, due_replies, AreReplies}
 use Rattle.capsule_frames.specs.Laws.{number_at}
 use Rattle.capsule_frames.specs.Refusals.{IsRefused, Made, Gave, IsRequest, IsResponse, Reaches, Returns, AsksHaveCauses, AnswersHaveCauses, TakesHaveCauses}
-use Rattle.capsule_frames.proofs.Placing.{done_from, reply_at, ask_at, answer_at}
-use Rattle.capsule_frames.proofs.Earlier.{ask_found, answer_found}
+use Rattle.capsule_frames.proofs.Placing.{done_from, reply_at}
+use Rattle.capsule_frames.proofs.Earlier.{asks_left, ask_count, ask_found, ask_at, answers_left, answer_count, answer_found, answer_at}
 use Rattle.capsule_frames.proofs.Answering.{answered_known, answered_tells, taken_known, taken_tells, Answers, GivenFor, given_for_cause, cause_of_given, Takes, TookFor, took_for_cause, cause_of_took}
 
 -- where one is the other, and that a third
@@ -112,31 +112,43 @@ left_to None x e = absurd (let no : None ≡ Some x = e in cc)
 left_to (Some (Ok a)) x e = let same : a ≡ x = same_some e in ap (λ y. Some (Ok y)) same
 left_to (Some (Err r)) x e = absurd (let no : None ≡ Some x = e in cc)
 
--- the client of an ask
+-- the client of an ask, by the line that left it
+made_by : (p : CapsulePlan) (keys : List KeyReply) (i number at : ℕ) (client : SentView)
+    (line : CapsuleLine) → at < i → slice_get p.lines at ≡ Some line
+    → number ≡ length (before p keys at).asks
+    → asks_left p.plan keys (before p keys at) line ≡ Some (Ok client)
+    → Made p keys i number client
+made_by p keys i number at client (Ask key id kdf aead text) earlier here is left = record {
+  at = at;
+  earlier = earlier;
+  number_is = sym (is ∙ ask_count p.plan keys (take at p.lines));
+  key = key;
+  id = id;
+  kdf = kdf;
+  aead = aead;
+  text = text;
+  line_is = here;
+  made = ap (λ k. sent p.plan keys k key id kdf aead text) is ∙ same_some left;
+}
+made_by p keys i number at client (Answer key id request nonce text) earlier here is left =
+    absurd (let no : None ≡ Some (Ok client) = left in cc)
+made_by p keys i number at client (Take ask response) earlier here is left =
+    absurd (let no : None ≡ Some (Ok client) = left in cc)
+
 made_to : (p : CapsulePlan) (keys : List KeyReply) (i number : ℕ) (client : SentView)
     → left_by (before p keys i).asks number ≡ Some client → Made p keys i number client
 made_to p keys i number client e =
-    let found = ask_found p.plan keys p.lines nothing_done i number (Ok client) (omega arith)
+    let found = ask_found p.plan keys p.lines i number (Ok client)
     (left_to (slice_get (before p keys i).asks number) client e) in
-    record {
-      at = found.at;
-      earlier = found.earlier;
-      number_is = sym (found.number_is ∙ zero-add (number_at words.Ask p found.at));
-      key = found.key;
-      id = found.id;
-      kdf = found.kdf;
-      aead = found.aead;
-      text = found.text;
-      line_is = found.line_is;
-      made = found.made;
-    }
+    made_by p keys i number found.at client found.line found.earlier found.line_is found.number_is
+    found.left_is
 
 made_from : (p : CapsulePlan) (keys : List KeyReply) (i number : ℕ) (client : SentView)
     → Made p keys i number client → left_by (before p keys i).asks number ≡ Some client
 made_from p keys i number client m =
     ap left_in
-    (ask_at p.plan keys p.lines nothing_done m.at i number m.key m.id m.kdf m.aead m.text m.line_is
-    m.earlier (sym (zero-add (number_at words.Ask p m.at) ∙ m.number_is))
+    (ask_at p.plan keys p.lines m.at i number m.key m.id m.kdf m.aead m.text m.line_is m.earlier
+    m.number_is
     ∙ ap (λ (s : Result SentView CapsuleRefusal). Some s) m.made)
 
 -- REQ
@@ -325,7 +337,7 @@ length-replies p keys (line ∷ lines) d =
 -- the line that gave an answer
 gave_by : (p : CapsulePlan) (keys : List KeyReply) (i number at : ℕ) (text response : List ℕ)
     (line : CapsuleLine) → slice_get p.lines at ≡ Some line → at < i
-    → number ≡ number_at words.Answer p at
+    → number_at words.Answer p at ≡ number
     → reply_to p.plan keys (before p keys at) line ≡ Answered text response
     → (made : GivenView)
     × (slice_get (before p keys i).answers number ≡ Some (Ok made))
@@ -340,27 +352,39 @@ gave_by p keys i number at text response (Answer key id field nonce span) here e
     let o = given p.plan keys (before p keys at).asks key id field nonce span in
     let back = answered_back o text response e in (
       back.0,
-      answer_at p.plan keys p.lines nothing_done at i number key id field nonce span here earlier
-          (is ∙ sym (zero-add (number_at words.Answer p at)))
+      answer_at p.plan keys p.lines at i number key id field nonce span here earlier is
           ∙ ap (λ (x : Result GivenView CapsuleRefusal). Some x) back.1,
       back.2,
     )
+
+-- what an answer gave, by the line that left it
+left_gave : (p : CapsulePlan) (keys : List KeyReply) (replies : List CapsuleReply) (i number at : ℕ)
+    (made : GivenView) (line : CapsuleLine) → AreReplies p keys replies → at < i
+    → slice_get p.lines at ≡ Some line → number ≡ length (before p keys at).answers
+    → answers_left p.plan keys (before p keys at) line ≡ Some (Ok made)
+    → Gave p replies i number made.response
+left_gave p keys replies i number at made (Answer key id request nonce text) are earlier here is left =
+    record {
+      at = at;
+      earlier = earlier;
+      number_is = sym (is ∙ answer_count p.plan keys (take at p.lines));
+      text = made.text;
+      gave = reply_here p keys replies at (Answer key id request nonce text) are here
+          ∙ ap (λ (x : Result GivenView CapsuleRefusal). Some (answered_reply x)) (same_some left);
+    }
+left_gave p keys replies i number at made (Ask key id kdf aead text) are earlier here is left =
+    absurd (let no : None ≡ Some (Ok made) = left in cc)
+left_gave p keys replies i number at made (Take ask response) are earlier here is left =
+    absurd (let no : None ≡ Some (Ok made) = left in cc)
 
 gave_to : (p : CapsulePlan) (keys : List KeyReply) (replies : List CapsuleReply) (i number : ℕ)
     (made : GivenView) → AreReplies p keys replies
     → left_by (before p keys i).answers number ≡ Some made → Gave p replies i number made.response
 gave_to p keys replies i number made are e =
-    let found = answer_found p.plan keys p.lines nothing_done i number (Ok made) (omega arith)
+    let found = answer_found p.plan keys p.lines i number (Ok made)
     (left_to (slice_get (before p keys i).answers number) made e) in
-    record {
-      at = found.at;
-      earlier = found.earlier;
-      number_is = sym (found.number_is ∙ zero-add (number_at words.Answer p found.at));
-      text = made.text;
-      gave = reply_here p keys replies found.at
-          (Answer found.key found.id found.request found.nonce found.text) are found.line_is
-          ∙ ap (λ (x : Result GivenView CapsuleRefusal). Some (answered_reply x)) found.made;
-    }
+    left_gave p keys replies i number found.at made found.line are found.earlier found.line_is
+    found.number_is found.left_is
 
 gave_from : (p : CapsulePlan) (keys : List KeyReply) (replies : List CapsuleReply) (i number : ℕ)
     (response : List ℕ) → AreReplies p keys replies → Gave p replies i number response
@@ -375,7 +399,7 @@ gave_from p keys replies i number response are g =
     let line = some_within replies p.lines g.at (Answered g.text response) count g.gave in
     let reply : reply_to p.plan keys (before p keys g.at) line.0 ≡ Answered g.text response =
     same_some (sym (reply_here p keys replies g.at line.0 are line.1) ∙ g.gave) in
-    let by = gave_by p keys i number g.at g.text response line.0 line.1 g.earlier (sym g.number_is)
+    let by = gave_by p keys i number g.at g.text response line.0 line.1 g.earlier g.number_is
     reply in
     (by.0, ap left_in by.1, by.2)
 

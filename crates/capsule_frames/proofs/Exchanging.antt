@@ -1,5 +1,5 @@
 -- A whole exchange gives each end the other's text.
-use Rattle.std.proofs.Common.{◌≡◌, ℕ, List, length, take, get_or, Option, Some, Result, Ok, refl, sym, ap, subst, ◌∙◌, arith, zero-add}
+use Rattle.std.proofs.Common.{◌≡◌, ℕ, List, length, take, get_or, Option, Some, Result, Ok, refl, ap, subst, ◌∙◌, arith}
 use Rattle.std.specs.Prelude.{slice_get, IsTrue, ◌≢◌}
 use Rattle.std.proofs.lemmas.List.Elements.{All-get_or}
 use Rattle.std.proofs.lemmas.Option.{slice_get_within, get_or_from_slice_get}
@@ -38,7 +38,8 @@ use Rattle.capsule_frames.specs.Results.{SentView, GivenView}
 use Rattle.capsule_frames.specs.Lines.{sent_to, sent_by, sent, left_in, left_by, request_of, given_of, given_with, given_by, given, response_of, took_of, took_by, took}
 use Rattle.capsule_frames.specs.Replies.{nothing_done, answered_reply, took_reply, replies_after, due_replies}
 use Rattle.capsule_frames.specs.Laws.{number_at, IsExchange, TakesAnswer, WholeExchanges}
-use Rattle.capsule_frames.proofs.Placing.{done_from, reply_at, ask_at, answer_at}
+use Rattle.capsule_frames.proofs.Placing.{done_from, reply_at}
+use Rattle.capsule_frames.proofs.Earlier.{ask_at, answer_at}
 
 -- what is known of both KEMs
 pub record Carries (kem : Kem) : Type 0 where
@@ -132,8 +133,7 @@ sides p keys i j question reply x can made =
     ap (λ (o : Option KeyView). sent_by o x.id x.kdf x.aead word (span_bytes pool question)) made.key
     in
     let here : slice_get d.asks a ≡ Some (Ok client) =
-    ask_at p.plan keys p.lines nothing_done i j a x.key x.id x.kdf x.aead question x.asks x.later
-    (sym (zero-add a))
+    ask_at p.plan keys p.lines i j a x.key x.id x.kdf x.aead question x.asks x.later refl
     ∙ ap (λ (s : Result SentView CapsuleRefusal). Some s) asked in
     let asks : Asks set kem.id x.secret x.id client.asked client.request
     (span_bytes pool question) = record {
@@ -181,12 +181,11 @@ taken_then p keys i j t question reply x s then =
     let given_view : GivenView =
     record { text = span_bytes p.plan.pool question; response = s.response } in
     let ask : slice_get d.asks a ≡ Some (Ok s.client) =
-    ask_at p.plan keys p.lines nothing_done i t a x.key x.id x.kdf x.aead question x.asks
-    (let before = x.later in let after = then.later in omega arith) (sym (zero-add a))
+    ask_at p.plan keys p.lines i t a x.key x.id x.kdf x.aead question x.asks
+    (let before = x.later in let after = then.later in omega arith) refl
     ∙ ap (λ (r : Result SentView CapsuleRefusal). Some r) s.asked in
     let answer : slice_get d.answers b ≡ Some (Ok given_view) =
-    answer_at p.plan keys p.lines nothing_done j t b x.key x.id (Of a) x.nonce reply x.answers
-    then.later (sym (zero-add b))
+    answer_at p.plan keys p.lines j t b x.key x.id (Of a) x.nonce reply x.answers then.later refl
     ∙ ap (λ (r : Result GivenView CapsuleRefusal). Some r) s.answers in
     let is : took p.plan d.asks d.answers a (Of b) ≡ Ok (span_bytes p.plan.pool reply) =
     ap (λ (o : Option (Result SentView CapsuleRefusal)).

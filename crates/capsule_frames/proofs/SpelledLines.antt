@@ -1,11 +1,10 @@
 -- The pieces of a capsule line are those of what it spells.
-use Rattle.std.proofs.Common.{◌≡◌, ◌≢◌, ℕ, ◌≤◌, ◌==◌, cond, Bool, true, false, List, [], ◌∷◌, length, codes, decimal, Option, None, Some, ok_or, Ok, refl, sym, ap, subst, ◌∙◌, lit<, arith}
+use Rattle.std.proofs.Common.{◌≡◌, ◌≢◌, ℕ, ◌≤◌, true, List, [], ◌∷◌, length, codes, decimal, Option, None, Some, ok_or, Ok, refl, sym, ap, subst, ◌∙◌, lit<, arith}
 use Rattle.std.specs.Prelude.{IsSome}
-use Rattle.std.proofs.lemmas.Bool.Decides.{nat_tests}
 use Rattle.hkdf_labelled.specs.Suites.{aead_id, aead_named}
 use Rattle.hkdf_labelled.proofs.Numbers.{named_back}
 use Rattle.hkdf_labelled.specs.declared.suites.Aead.{Aead}
-use Rattle.hkdf_labelled.specs.declared.suites.Aead.TheVariants.{Aes128, Aes256, ExportOnly}
+use Rattle.hkdf_labelled.specs.declared.suites.Aead.TheVariants.{ExportOnly}
 use Rattle.field_text.specs.declared.reasons.Reason.TheVariants.{Range}
 use Rattle.field_text.specs.Fields.{number, bytes}
 use Rattle.field_text.proofs.Spellings.{ok_same, step_ok, word_ok, next_ok, exactly_ok, number_ok, bytes_ok, IsFront, IsFront-then}

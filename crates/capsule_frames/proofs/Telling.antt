@@ -1,6 +1,6 @@
 -- What the calls of ohttp_capsule ensure, as the definitions say it.
-use Rattle.std.proofs.Common.{◌≡◌, ℕ, List, Option, Some, Result, Ok, Err, sym, ap, ◌∙◌}
-use Rattle.std.specs.Prelude.{◌≢◌, slice_get}
+use Rattle.std.proofs.Common.{◌≡◌, ℕ, List, Option, Some, Result, Ok, Err, sym, ap, subst, ◌∙◌}
+use Rattle.std.specs.Prelude.{◌≢◌, slice_get, IfOk, OnOk}
 use Rattle.ring_core.specs.Sets.{Set}
 use Rattle.call_places.specs.declared.spans.Span.{Span}
 use Rattle.call_places.specs.Spans.{span_bytes}
@@ -20,6 +20,12 @@ use Rattle.ohttp_capsule.specs.Replies.{answered, taken}
 use Rattle.capsule_frames.specs.declared.replies.CapsuleRefusal.{CapsuleRefusal}
 use Rattle.capsule_frames.specs.Results.{SentView, GivenView}
 use Rattle.capsule_frames.specs.Lines.{refusal_of, left_by, sent_to, sent_by, sent, given_of, given_with, response_at, took_of, took_by, took}
+
+-- what a call says of the refusal that it gives, where it had memory
+pub refused_so : {A E : Type 0} (result : Result A E) (refusal : A) (Memory : Type 0) (So : A → Type 0)
+    → IfOk result (λ now. now ≡ refusal) → OnOk result Memory → (Memory → So refusal) → IfOk result So
+refused_so (Ok now) refusal Memory So is memory so = subst So (sym is) (so memory)
+refused_so (Err error) refusal Memory So is memory so = tt
 
 -- what becomes of an ask, whose key is found
 pub sent_is : (plan : Plan) (keys : List KeyReply) (slots : List (Option Key))

@@ -8,12 +8,12 @@ ghost use Rattle.capsule_frames.specs.declared.jobs.AnswerJob.{AnswerJob};
 ghost use Rattle.capsule_frames.specs.Lines.{request_at, given_with};
 ghost use Rattle.capsule_frames.specs.Orders.{IsJobWithin, jobs_from, given_for, AreGiven};
 
-use crate::finding::{first, refusal_of, sent_by};
+use crate::finding::{first, left_by, refused};
 use crate::jobs::{AnswerJob, jobs};
 use crate::known::KnownText;
 use crate::lines::CapsulePlan;
 use crate::replies::CapsuleRefusal;
-use crate::results::{AnswerResult, AskResult, Given};
+use crate::results::{AnswerResult, AskResult, Given, push_last};
 use aes_gcm::MayCheck;
 use batch_plans::{EncField, Plan};
 use context_table::{Key, KeyPair, KeyTable};
@@ -34,7 +34,7 @@ fn request_at<'a>(pool: &'a [u8], asks: &'a [AskResult], request: EncField) -> O
 {
     match request {
         EncField::Bytes(bytes) => Some(bytes.of(pool)),
-        EncField::Of(number) => Some(sent_by(asks, number)?.request()),
+        EncField::Of(number) => Some(left_by(asks, number)?.request()),
     }
 }
 
@@ -43,7 +43,7 @@ fn text_asked<'p>(asks: &[AskResult<'p>], request: EncField) -> &'p [u8] {
     let EncField::Of(number) = request else {
         return &[];
     };
-    match sent_by(asks, number) {
+    match left_by(asks, number) {
         Some(sent) => sent.text(),
         None => &[],
     }
@@ -85,7 +85,7 @@ fn given_with<'p, S: KemParams, M: Multiplier>(
             let question = KnownText::held_in(parts.known, question);
             Ok(Ok(Given::new(question, response, text)))
         }
-        Err(fault) => Ok(Err(refusal_of(fault)?)),
+        Err(fault) => refused(fault),
     }
 }
 
@@ -164,7 +164,7 @@ impl<'p, M: Multiplier> Gateway<'_, 'p, M> {
     {
         let mut answers = Vec::new(alloc);
         'jobs: for job in jobs {
-            answers.push(self.given(permission, alloc, *job)?)?;
+            push_last(&mut answers, self.given(permission, alloc, *job)?)?;
         }
         Ok(answers)
     }
@@ -199,42 +199,6 @@ impl<'p, M: Multiplier + Sync> Gateway<'_, 'p, M> {
             { self.fill_slot(permission, alloc, jobs, i, slot) },
         );
     }
-
-    // What becomes of these answers, each in a slot.
-    fn all<R: Threads + Sync>(
-        &self,
-        rt: &R,
-        alloc: Global,
-        jobs: &[AnswerJob],
-    ) -> Result<Vec<Result<AnswerResult<'p>, OutOfMemory>>, OutOfMemory>
-        requires keys { HoldKeys self.now.plan.now self.now.keys.now.replies
-            self.now.keys.now.slots }
-        requires jobs { All (IsJobWithin (length self.now.plan.now.pool)) jobs.now }
-        ensures count { IfOk result (λ v. length v.items ≡ length jobs.now) }
-        ensures given { IfOk result (λ v. AreGiven (given_for self.now.plan.now
-            self.now.keys.now.replies self.now.asks.now) jobs.now v.items) }
-    {
-        let mut slots = empty_slots(alloc, jobs.len())?;
-        self.fill(rt, alloc, jobs, &mut slots);
-        Ok(slots)
-    }
-
-    // What becomes of these answers, by several threads.
-    fn by_threads<R: Threads + Sync>(
-        &self,
-        rt: &R,
-        alloc: Global,
-        jobs: &[AnswerJob],
-    ) -> Result<Vec<AnswerResult<'p>>, OutOfMemory>
-        requires keys { HoldKeys self.now.plan.now self.now.keys.now.replies
-            self.now.keys.now.slots }
-        requires jobs { All (IsJobWithin (length self.now.plan.now.pool)) jobs.now }
-        ensures { IfOk result (λ v. v.items ≡ map (given_for self.now.plan.now
-            self.now.keys.now.replies self.now.asks.now) jobs.now) }
-    {
-        let slots = self.all(rt, alloc, jobs)?;
-        filled(alloc, slots)
-    }
 }
 
 // So many slots, with no answer yet.
@@ -246,7 +210,7 @@ fn empty_slots<'p>(
 {
     let mut slots = Vec::new(alloc);
     'slots: for _slot in 0..count {
-        slots.push(Err(OutOfMemory))?;
+        push_last(&mut slots, Err(OutOfMemory))?;
     }
     Ok(slots)
 }
@@ -260,7 +224,7 @@ fn filled<'p>(
 {
     let mut answers = Vec::new(alloc);
     'slots: for slot in slots {
-        answers.push(slot?)?;
+        push_last(&mut answers, slot?)?;
     }
     Ok(answers)
 }
@@ -288,7 +252,9 @@ pub(crate) fn all_answers<'p, R: Threads + Sync, M: Multiplier + Sync>(
         keys,
         asks,
     };
-    gateway.by_threads(rt, alloc, &jobs)
+    let mut slots = empty_slots(alloc, jobs.len())?;
+    gateway.fill(rt, alloc, &jobs, &mut slots);
+    filled(alloc, slots)
 }
 
 /// What becomes of the answers of a plan, in their order, on the calling thread.

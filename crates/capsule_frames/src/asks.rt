@@ -11,7 +11,7 @@ ghost use Rattle.capsule_frames.specs.Orders.{asks_from};
 
 use crate::lines::{CapsuleLine, CapsulePlan};
 use crate::replies::CapsuleRefusal;
-use crate::results::{AskResult, Sent};
+use crate::results::{AskResult, Sent, push_last};
 use batch_plans::Plan;
 use call_places::Span;
 use context_table::{Key, KeyPair, KeyTable, context_stream};
@@ -145,7 +145,7 @@ pub(crate) fn all_asks<'p, M: Multiplier>(
                 aead,
                 text,
             };
-            asks.push(client.sent(alloc, job)?)?;
+            push_last(&mut asks, client.sent(alloc, job)?)?;
         }
     }
     Ok(asks)

@@ -1,10 +1,9 @@
 //! What an earlier line left, and refusals by their names.
 
-ghost use Rattle.std.specs.Prelude.{◌≡◌, ◌≢◌, take, IfOk, OnOk, option_copied};
+ghost use Rattle.std.specs.Prelude.{◌≡◌, ◌≢◌, Err, take, IfOk, OnOk, option_copied};
 ghost use Rattle.capsule_frames.specs.Lines.{left_by, refusal_of};
 
 use crate::replies::CapsuleRefusal;
-use crate::results::{AnswerResult, AskResult, Given, Sent};
 use ohttp_capsule::CapsuleFault;
 use std::alloc::AllocError as OutOfMemory;
 
@@ -15,39 +14,26 @@ pub(crate) fn first<T>(results: &[T], count: usize) -> &[T]
     results.get(..count).unwrap_or(results)
 }
 
-/// What the ask of this number left, where it was made.
-pub(crate) fn sent_by<'a, 'p>(asks: &'a [AskResult<'p>], number: u32) -> Option<&'a Sent<'p>>
-    ensures { option_copied result ≡ left_by asks.now number }
+/// What the line of this number left, where it wasn't refused.
+pub(crate) fn left_by<T>(results: &[Result<T, CapsuleRefusal>], number: u32) -> Option<&T>
+    ensures { option_copied result ≡ left_by results.now number }
 {
-    match asks.get(number as usize) {
-        Some(Ok(sent)) => Some(sent),
+    match results.get(number as usize) {
+        Some(Ok(left)) => Some(left),
         _ => None,
     }
 }
 
-/// What the answer of this number left, where it was given.
-pub(crate) fn given_by<'a, 'p>(
-    answers: &'a [AnswerResult<'p>],
-    number: u32,
-) -> Option<&'a Given<'p>>
-    ensures { option_copied result ≡ left_by answers.now number }
-{
-    match answers.get(number as usize) {
-        Some(Ok(given)) => Some(given),
-        _ => None,
-    }
-}
-
-/// The refusal of a message, which want of memory isn't.
-pub(crate) fn refusal_of(fault: CapsuleFault) -> Result<CapsuleRefusal, OutOfMemory>
-    ensures refusal { IfOk result (λ r. r ≡ refusal_of fault) }
+/// What becomes of a message that is refused, which want of memory isn't.
+pub(crate) fn refused<T>(fault: CapsuleFault) -> Result<Result<T, CapsuleRefusal>, OutOfMemory>
+    ensures refusal { IfOk result (λ r. r ≡ Err (refusal_of fault)) }
     ensures memory { OnOk result (fault ≢ CapsuleFault.OutOfMemory) }
 {
     match fault {
-        CapsuleFault::Short => Ok(CapsuleRefusal::Short),
-        CapsuleFault::Header => Ok(CapsuleRefusal::Header),
-        CapsuleFault::NonceSize => Ok(CapsuleRefusal::NonceSize),
-        CapsuleFault::Failed => Ok(CapsuleRefusal::Failed),
+        CapsuleFault::Short => Ok(Err(CapsuleRefusal::Short)),
+        CapsuleFault::Header => Ok(Err(CapsuleRefusal::Header)),
+        CapsuleFault::NonceSize => Ok(Err(CapsuleRefusal::NonceSize)),
+        CapsuleFault::Failed => Ok(Err(CapsuleRefusal::Failed)),
         CapsuleFault::OutOfMemory => Err(OutOfMemory),
     }
 }

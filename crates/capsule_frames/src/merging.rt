@@ -8,7 +8,7 @@ ghost use Rattle.capsule_frames.specs.Orders.{merged, followed};
 
 use crate::lines::CapsuleLine;
 use crate::replies::CapsuleReply;
-use crate::results::{AnswerResult, AskResult, TakeResult};
+use crate::results::{AnswerResult, AskResult, TakeResult, push_last};
 use std::alloc::{AllocError as OutOfMemory, Global};
 use std::vec::IntoIter;
 
@@ -80,7 +80,7 @@ pub(crate) fn merged<'p>(
     let mut replies = Vec::new(alloc);
     'lines: for line in lines {
         match next_reply(line, &mut asks_left, &mut answers_left, &mut takes_left) {
-            Some(reply) => replies.push(reply)?,
+            Some(reply) => push_last(&mut replies, reply)?,
             None => return Ok(replies),
         }
     }

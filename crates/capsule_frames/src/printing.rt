@@ -1,10 +1,10 @@
 //! The printing of a whole reply.
 
-ghost use Rattle.std.specs.Prelude.{◌≡◌, ◌≤◌, map};
+ghost use Rattle.std.specs.Prelude.{◌≡◌, ◌≤◌, ◌++◌, map};
 ghost use Rattle.std.specs.List.{concat};
 ghost use Rattle.std.specs.Io.KnownBytes.{Appends};
 ghost use Rattle.batch_io.specs.Faults.{Rose};
-ghost use Rattle.field_text.specs.Printing.{AppendsPrefix};
+ghost use Rattle.field_text.specs.Printing.{AppendsPrefix, hex_text};
 ghost use Rattle.field_text.specs.Buffers.{Puts};
 ghost use Rattle.capsule_frames.specs.Text.{refusal_word, capsule_words, capsule_line, capsules_text};
 
@@ -29,24 +29,25 @@ fn word_of_refusal(refusal: CapsuleRefusal) -> &'static [u8]
     }
 }
 
+// A word, and the digits of bytes behind it.
+fn put_bytes<K: Sink>(out: &mut Buffer, sink: &mut K, word: &[u8], bytes: &[u8])
+    ensures { Puts K.written K.faults sink.old sink.new out.old out.new
+        (word.now ++ hex_text bytes.now) }
+{
+    out.put_text(sink, word);
+    out.put_hex(sink, bytes)
+}
+
 fn put_words<K: Sink>(out: &mut Buffer, sink: &mut K, reply: &CapsuleReply)
     ensures { Puts K.written K.faults sink.old sink.new out.old out.new (capsule_words reply.now) }
 {
     match reply {
-        CapsuleReply::Asked { request } => {
-            out.put_text(sink, b"asked ");
-            out.put_hex(sink, request.as_slice())
-        }
+        CapsuleReply::Asked { request } => put_bytes(out, sink, b"asked ", request.as_slice()),
         CapsuleReply::Answered { text, response } => {
-            out.put_text(sink, b"answered ");
-            out.put_hex(sink, text.as_slice());
-            out.put_text(sink, b" ");
-            out.put_hex(sink, response.as_slice())
+            put_bytes(out, sink, b"answered ", text.as_slice());
+            put_bytes(out, sink, b" ", response.as_slice())
         }
-        CapsuleReply::Took { text } => {
-            out.put_text(sink, b"took ");
-            out.put_hex(sink, text.as_slice())
-        }
+        CapsuleReply::Took { text } => put_bytes(out, sink, b"took ", text.as_slice()),
         CapsuleReply::Refused(refusal) => {
             out.put_text(sink, b"refused ");
             out.put_text(sink, word_of_refusal(*refusal))

@@ -1,11 +1,12 @@
 //! What capsule lines leave for later ones.
 
-ghost use Rattle.std.specs.Prelude.{◌≡◌};
+ghost use Rattle.std.specs.Prelude.{◌≡◌, ◌++◌, [], ◌∷◌, OnOk};
 
 use crate::known::KnownText;
 use crate::replies::CapsuleRefusal;
 use byte_strings::ByteList;
 use ohttp_capsule::Asked;
+use std::alloc::AllocError as OutOfMemory;
 use std::marker::Model;
 
 /// What a client has of an ask that was made: what it keeps, and the request. They are within the
@@ -137,3 +138,10 @@ pub(crate) type AskResult<'p> = Result<Sent<'p>, CapsuleRefusal>;
 pub(crate) type AnswerResult<'p> = Result<Given<'p>, CapsuleRefusal>;
 
 pub(crate) type TakeResult<'p> = Result<KnownText<'p>, CapsuleRefusal>;
+
+/// One more behind others. Want of memory drops it.
+pub(crate) fn push_last<T: Drop>(list: &mut Vec<T>, last: T) -> Result<(), OutOfMemory>
+    ensures { OnOk result (list.new.items ≡ list.old.items ++ last ∷ []) }
+{
+    Ok(list.push(last)?)
+}

@@ -6,11 +6,11 @@ ghost use Rattle.capsule_frames.specs.Within.{IsMessageWithin, IsWithin};
 ghost use Rattle.capsule_frames.specs.Lines.{response_at, took};
 ghost use Rattle.capsule_frames.specs.Orders.{takes_from};
 
-use crate::finding::{first, given_by, refusal_of, sent_by};
+use crate::finding::{first, left_by, refused};
 use crate::known::KnownText;
 use crate::lines::{CapsuleLine, CapsulePlan};
 use crate::replies::CapsuleRefusal;
-use crate::results::{AnswerResult, AskResult, TakeResult};
+use crate::results::{AnswerResult, AskResult, TakeResult, push_last};
 use aes_gcm::MayCheck;
 use batch_plans::{EncField, Plan};
 use ohttp_capsule::take_by;
@@ -28,7 +28,7 @@ fn response_at<'a>(
 {
     match response {
         EncField::Bytes(bytes) => Some(bytes.of(pool)),
-        EncField::Of(number) => Some(given_by(answers, number)?.response()),
+        EncField::Of(number) => Some(left_by(answers, number)?.response()),
     }
 }
 
@@ -37,7 +37,7 @@ fn text_said<'p>(answers: &[AnswerResult<'p>], response: EncField) -> &'p [u8] {
     let EncField::Of(number) = response else {
         return &[];
     };
-    match given_by(answers, number) {
+    match left_by(answers, number) {
         Some(given) => given.said(),
         None => &[],
     }
@@ -65,7 +65,7 @@ impl<'p> Before<'_, 'p> {
         ensures { IfOk result (λ t. t
             ≡ took self.now.plan.now self.now.asks.now self.now.answers.now ask response) }
     {
-        let Some(sent) = sent_by(self.asks, ask) else {
+        let Some(sent) = left_by(self.asks, ask) else {
             return Ok(Err(CapsuleRefusal::NoAsk));
         };
         let known = text_said(self.answers, response);
@@ -75,7 +75,7 @@ impl<'p> Before<'_, 'p> {
         };
         match take_by(permission, alloc, sent.asked(), response) {
             Ok(text) => Ok(Ok(KnownText::held_in(known, text))),
-            Err(fault) => Ok(Err(refusal_of(fault)?)),
+            Err(fault) => refused(fault),
         }
     }
 }
@@ -107,7 +107,7 @@ pub(crate) fn all_takes<'p>(
                     asks: first(asks, asks_before),
                     answers: first(answers, answers_before),
                 };
-                takes.push(before.took(permission, alloc, ask, response)?)?
+                push_last(&mut takes, before.took(permission, alloc, ask, response)?)?
             }
         }
     }

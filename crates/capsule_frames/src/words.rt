@@ -13,14 +13,14 @@ use hkdf_labelled::Aead;
 use request_frames::KeyWord;
 
 /// The first word of a line, other than `end`, by what the line is for.
-#[derive(Clone, Copy, Debug, PartialEq, Eq)]
+#[derive(Clone, Copy)]
 pub enum LineWord {
     Rand,
     Key(KeyWord),
     Capsule(CapsuleWord),
 }
 
-#[derive(Clone, Copy, Debug, PartialEq, Eq)]
+#[derive(Clone, Copy, PartialEq, Eq)]
 pub enum CapsuleWord {
     Ask,
     Answer,

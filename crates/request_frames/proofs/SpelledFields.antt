@@ -1,5 +1,5 @@
 -- The piece that was read as a word or a number is that of its value.
-use Rattle.std.proofs.Common.{◌≡◌, ℕ, ◌+◌, ◌-◌, ◌<◌, ◌==◌, ◌&&◌, nat_lt, cond, Bool, false, true, List, [], ◌∷◌, ◌++◌, drop, codes, decimal, Option, None, Some, ok_or, Ok, Err, refl, sym, ap, subst, ◌∙◌, lit<, arith}
+use Rattle.std.proofs.Common.{◌≡◌, ℕ, ◌+◌, ◌-◌, ◌<◌, ◌&&◌, nat_lt, Bool, false, true, List, [], ◌∷◌, ◌++◌, drop, codes, decimal, Option, None, Some, ok_or, Ok, Err, refl, sym, ap, subst, ◌∙◌, lit<, arith}
 use Rattle.std.proofs.lemmas.Bool.{eqb-true, and_parts, lt-ltb}
 use Rattle.std.proofs.lemmas.Bool.Decides.{nat_tests}
 use Rattle.hkdf_labelled.specs.Suites.{aead_id, aead_named}

@@ -1,8 +1,9 @@
 //! What each line adds to the plan of the lines so far.
 
-ghost use Rattle.std.specs.Prelude.{◌≡◌, ◌+◌, ◌<◌, ◌≤◌, ◌^◌, length, vec_len, sum_by, OnOk, true};
+ghost use Rattle.std.specs.Prelude.{◌≡◌, ◌+◌, ◌<◌, ◌≤◌, ◌^◌, ◌++◌, [], ◌∷◌, length, vec_len, sum_by, OnOk, true};
 ghost use Rattle.field_text.specs.Readings.{Gives};
 ghost use Rattle.batch_plans.specs.Limits.{most_input, items_of};
+ghost use Rattle.request_frames.specs.KeyForms.{at_most};
 ghost use Rattle.request_frames.specs.Batch.{counted as counted_of, with_rand as rand_of, with_key as key_of, with_context as context_of, with_lane as lane_of, with_call as call_of, with_line as line_of, may_stand};
 ghost use Rattle.request_frames.specs.Firsts.{with_first};
 ghost use Rattle.request_frames.specs.Added.{with_added as added_of, with_retired as retired_of};
@@ -16,6 +17,17 @@ use crate::{call_lines, contexts, names};
 use batch_plans::CallLine;
 use batch_plans::limits::{MOST_CONTEXTS, MOST_KEYS};
 use field_text::{Pieces, Reason, Stop};
+
+// One more behind others, of which there are so many at most.
+fn push_within<T: Drop>(list: &mut Vec<T>, last: T, most: usize) -> Result<(), Stop>
+    ensures read { Gives (λ _. vec_len list.old + 1) result (at_most most (vec_len list.old + 1)) }
+    ensures pushed { OnOk result (list.new.items ≡ list.old.items ++ last ∷ []) }
+{
+    if list.len() >= most {
+        return Err(Stop::Bad(Reason::Count));
+    }
+    Ok(list.push(last)?)
+}
 
 impl BatchDraft {
     // A call of the open lane, where the counts are within their limits with it.
@@ -59,11 +71,7 @@ impl BatchDraft {
             (vec_len self.new.pool ≤ vec_len self.old.pool + sum_by length fields.old) }
     {
         let key = read_key(word, &mut self.pool, fields)?;
-        if self.keys.len() >= MOST_KEYS {
-            return Err(Stop::Bad(Reason::Count));
-        }
-        self.keys.push(key)?;
-        Ok(())
+        push_within(&mut self.keys, key, MOST_KEYS)
     }
 
     // A context line.
@@ -78,11 +86,7 @@ impl BatchDraft {
             (vec_len self.new.pool ≤ vec_len self.old.pool + sum_by length fields.old) }
     {
         let context = contexts::context(word, &mut self.pool, fields)?;
-        if self.contexts.len() >= MOST_CONTEXTS {
-            return Err(Stop::Bad(Reason::Count));
-        }
-        self.contexts.push(context)?;
-        Ok(())
+        push_within(&mut self.contexts, context, MOST_CONTEXTS)
     }
 
     // `lane`
@@ -186,11 +190,8 @@ impl BatchDraft {
         ensures kept { OnOk result (IsKept self.new) }
     {
         let context = contexts::context(ContextWord::Share, &mut self.pool, fields)?;
-        if self.contexts.len() >= MOST_CONTEXTS {
-            return Err(Stop::Bad(Reason::Count));
-        }
+        push_within(&mut self.contexts, context, MOST_CONTEXTS)?;
         let name = self.added;
-        self.contexts.push(context)?;
         self.added += 1;
         self.counted(CallLine::Add { name })
     }

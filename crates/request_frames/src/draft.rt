@@ -6,7 +6,7 @@ ghost use Rattle.request_frames.specs.Drafts.{plan_of, IsKept};
 
 use crate::open_lanes::OpenLanes;
 use crate::words;
-use crate::words::LineWord;
+use crate::words::{LineWord, is_text};
 use batch_plans::{ContextLine, KeyLine, PlainList, Plan, limits};
 use call_places::Item;
 use field_text::{Draft, Pieces, Reason, Stop};
@@ -118,9 +118,9 @@ impl Draft for BatchDraft {
     ghost kept = { IsKept };
 
     fn begin(alloc: Global, header: &[u8]) -> Result<BatchDraft, Reason> {
-        if header == b"hpkebatch 1".as_slice() {
+        if is_text(header, b"hpkebatch 1") {
             Ok(BatchDraft::of_version(alloc, 1))
-        } else if header == b"hpkebatch 2".as_slice() {
+        } else if is_text(header, b"hpkebatch 2") {
             Ok(BatchDraft::of_version(alloc, 2))
         } else {
             Err(Reason::Header)

@@ -3,6 +3,7 @@
 use crate::draft::BatchDraft;
 use crate::live_words;
 use crate::live_words::LiveWord;
+use crate::words::is_text;
 use batch_plans::{Plan, limits};
 use field_text::{Draft, Pieces, Reason, Stop};
 use std::alloc::Global;
@@ -35,7 +36,7 @@ impl Draft for LiveDraft {
     ghost kept = { λ draft. IsKept draft.batch };
 
     fn begin(alloc: Global, header: &[u8]) -> Result<LiveDraft, Reason> {
-        if header == b"hpkebatch 2".as_slice() {
+        if is_text(header, b"hpkebatch 2") {
             Ok(LiveDraft {
                 batch: BatchDraft::of_version(alloc, 2),
             })

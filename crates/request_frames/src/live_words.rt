@@ -3,11 +3,11 @@
 ghost use Rattle.field_text.specs.Readings.{Reads};
 ghost use Rattle.request_frames.specs.Live.{word as word_of};
 
-use crate::words::{LineWord, line_word};
+use crate::words::{LineWord, is_text, line_word};
 use field_text::Reason;
 
 /// The first word of a line, other than `end`.
-#[derive(Clone, Copy, Debug, PartialEq, Eq)]
+#[derive(Clone, Copy)]
 pub enum LiveWord {
     /// A word of a batch of version 2.
     Batch(LineWord),
@@ -19,9 +19,9 @@ pub enum LiveWord {
 pub fn word(piece: &[u8]) -> Result<LiveWord, Reason>
     ensures { Reads (λ word. word) result (word_of piece.now) }
 {
-    if piece == b"add".as_slice() {
+    if is_text(piece, b"add") {
         Ok(LiveWord::Add)
-    } else if piece == b"retire".as_slice() {
+    } else if is_text(piece, b"retire") {
         Ok(LiveWord::Retire)
     } else {
         let word = line_word(2, piece)?;

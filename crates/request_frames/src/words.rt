@@ -50,24 +50,25 @@ impl LineWord {
     }
 }
 
-fn is_word(piece: &[u8], word: &[u8]) -> bool
-    ensures { result ≡ bytes_eq piece.now word.now }
+/// Whether these bytes are this text.
+pub(crate) fn is_text(bytes: &[u8], text: &[u8]) -> bool
+    ensures { result ≡ bytes_eq bytes.now text.now }
 {
-    piece == word
+    bytes == text
 }
 
 fn lane_word(piece: &[u8]) -> Result<LineWord, Reason>
     ensures { Reads (λ word. word) result (word_among lane_words piece.now) }
 {
-    if is_word(piece, b"lane") {
+    if is_text(piece, b"lane") {
         Ok(LineWord::Lane)
-    } else if is_word(piece, b"seal") {
+    } else if is_text(piece, b"seal") {
         Ok(LineWord::Call(CallWord::Seal))
-    } else if is_word(piece, b"unseal") {
+    } else if is_text(piece, b"unseal") {
         Ok(LineWord::Call(CallWord::Unseal))
-    } else if is_word(piece, b"unsealall") {
+    } else if is_text(piece, b"unsealall") {
         Ok(LineWord::Call(CallWord::UnsealAll))
-    } else if is_word(piece, b"export") {
+    } else if is_text(piece, b"export") {
         Ok(LineWord::Call(CallWord::Export))
     } else {
         Err(Reason::Word)
@@ -78,19 +79,19 @@ fn lane_word(piece: &[u8]) -> Result<LineWord, Reason>
 fn common_word(piece: &[u8]) -> Result<LineWord, Reason>
     ensures { Reads (λ word. word) result (word_among (set_up_words ++ lane_words) piece.now) }
 {
-    if is_word(piece, b"rand") {
+    if is_text(piece, b"rand") {
         Ok(LineWord::Rand)
-    } else if is_word(piece, b"keygen") {
+    } else if is_text(piece, b"keygen") {
         Ok(LineWord::Key(KeyWord::Generate(KeySet::Sntrup761)))
-    } else if is_word(piece, b"secret") {
+    } else if is_text(piece, b"secret") {
         Ok(LineWord::Key(KeyWord::Secret(KeySet::Sntrup761)))
-    } else if is_word(piece, b"peer") {
+    } else if is_text(piece, b"peer") {
         Ok(LineWord::Key(KeyWord::Peer(KeySet::Sntrup761)))
-    } else if is_word(piece, b"share") {
+    } else if is_text(piece, b"share") {
         Ok(LineWord::Context(ContextWord::Share))
-    } else if is_word(piece, b"send") {
+    } else if is_text(piece, b"send") {
         Ok(LineWord::Context(ContextWord::Send))
-    } else if is_word(piece, b"recv") {
+    } else if is_text(piece, b"recv") {
         Ok(LineWord::Context(ContextWord::Recv))
     } else {
         lane_word(piece)
@@ -103,11 +104,11 @@ pub fn line_word(version: u8, piece: &[u8]) -> Result<LineWord, Reason>
 {
     if version != 2 {
         common_word(piece)
-    } else if is_word(piece, b"keygen857") {
+    } else if is_text(piece, b"keygen857") {
         Ok(LineWord::Key(KeyWord::Generate(KeySet::Sntrup857)))
-    } else if is_word(piece, b"secret857") {
+    } else if is_text(piece, b"secret857") {
         Ok(LineWord::Key(KeyWord::Secret(KeySet::Sntrup857)))
-    } else if is_word(piece, b"peer857") {
+    } else if is_text(piece, b"peer857") {
         Ok(LineWord::Key(KeyWord::Peer(KeySet::Sntrup857)))
     } else {
         common_word(piece)
@@ -121,9 +122,9 @@ pub fn role(fields: &mut Pieces) -> Result<Role, Reason>
     ensures size { OnOk result (sum_by length fields.new ≤ sum_by length fields.old) }
 {
     let piece = fields.piece()?;
-    if is_word(piece, b"send") {
+    if is_text(piece, b"send") {
         Ok(Role::Sender)
-    } else if is_word(piece, b"recv") {
+    } else if is_text(piece, b"recv") {
         Ok(Role::Recipient)
     } else {
         Err(Reason::Word)
@@ -137,9 +138,9 @@ pub fn mode(fields: &mut Pieces) -> Result<Mode, Reason>
     ensures size { OnOk result (sum_by length fields.new ≤ sum_by length fields.old) }
 {
     let piece = fields.piece()?;
-    if is_word(piece, b"base") {
+    if is_text(piece, b"base") {
         Ok(Mode::Base)
-    } else if is_word(piece, b"psk") {
+    } else if is_text(piece, b"psk") {
         Ok(Mode::Psk)
     } else {
         Err(Reason::Word)

@@ -1,5 +1,6 @@
 use Rattle.std.proofs.Common.{◌≡◌, ◌∙◌, ◌+◌, ◌<◌, ◌++◌, ℕ, List, [], ◌∷◌, ap, append_assoc, arith, drop, get_or, length, subst}
 use Rattle.std.specs.Prelude.{All}
+use Rattle.std.proofs.lemmas.Grind.{common_steps}
 use Rattle.std.proofs.lemmas.List.{drop_more}
 use Rattle.std.proofs.lemmas.List.Elements.{All-push}
 use Rattle.capsule_frames.specs.Within.{IsLineWithin}
@@ -49,3 +50,6 @@ lines-preserved c =
           jobs_at n i lines _ _ c.lines-test.true w.in-Take.is in
           record { found = cc (step, known.found); within = rw w.jobs-is known.within; count = omega arith }
     ]
+
+pub returns-clause-jobs : goal.returns-clause-jobs
+returns-clause-jobs c = grind (arith, common_steps)

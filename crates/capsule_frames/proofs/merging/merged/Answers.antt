@@ -8,3 +8,6 @@ lines-preserved c = let e = c.next_reply.ensures (drop (c.lines.line-index + 1) 
 pub returns-in-None : goal.returns-in-None
 returns-in-None c =
     let e = c.next_reply.ensures (drop (c.lines.line-index + 1) c.args.lines.now) in grind (arith, common_steps)
+
+pub returns : goal.returns
+returns c = grind (arith, common_steps)

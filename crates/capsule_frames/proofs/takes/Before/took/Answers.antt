@@ -1,7 +1,10 @@
-use Rattle.std.proofs.Common.{List, ℕ, Result, Ok, Err, ap, ◌∙◌}
+use Rattle.std.proofs.Common.{◌≡◌, List, ℕ, Result, Ok, Err, ap, ◌∙◌}
+use Rattle.std.specs.Prelude.{◌≢◌}
 use Rattle.ohttp_capsule.specs.declared.faults.CapsuleFault.{CapsuleFault}
+use Rattle.ohttp_capsule.specs.declared.faults.CapsuleFault.TheVariants.{OutOfMemory}
 use Rattle.capsule_frames.specs.declared.replies.CapsuleRefusal.{CapsuleRefusal}
-use Rattle.capsule_frames.proofs.Telling.{took_is}
+use Rattle.capsule_frames.specs.Lines.{refusal_of, took}
+use Rattle.capsule_frames.proofs.Telling.{refused_so, took_is}
 use Rattle.capsule_frames.proofs.takes.Before.took.Goals as goal
 
 pub returns-in-Ok : goal.returns-in-Ok
@@ -16,15 +19,17 @@ returns-in-Ok c =
     c.in-Some.ensures c.as_slice-pool.ensures.items c.in-Some-response_at.ensures.response
     c.asked.ensures.asked c.in-Ok.ensures.taken (λ e. cc)
 
-pub returns-in_ok-refusal_of-in-Err : goal.returns-in_ok-refusal_of-in-Err
-returns-in_ok-refusal_of-in-Err c =
-    let to : CapsuleRefusal → Result (List ℕ) CapsuleRefusal = λ r. Err r in
-    let became : Result (List ℕ) CapsuleFault = Err c.in-Err.fault in
-    ap to c.in_ok-refusal_of-in-Err.ensures.refusal
-    ∙ took_is c.args.self.now.plan.now c.args.self.now.asks.now c.args.self.now.answers.now c.args.ask
-    c.args.response
-    c.in-Some.sent.now c.asked.result.now c.as_slice-pool.result.now c.in-Some-response_at.response.now
-    became
+pub returns-in-Err : goal.returns-in-Err
+returns-in-Err c =
+    let self = c.args.self.now in
+    let fault = c.in-Err.fault in
+    let became : Result (List ℕ) CapsuleFault = Err fault in
+    let Is : Result (List ℕ) CapsuleRefusal → Type 0 =
+    λ now. now ≡ took self.plan.now self.asks.now self.answers.now c.args.ask c.args.response in
+    refused_so c.refused.result (Err (refusal_of fault)) (fault ≢ OutOfMemory) Is c.refused.ensures.refusal
+    c.refused.ensures.memory
+    (λ memory. took_is self.plan.now self.asks.now self.answers.now c.args.ask c.args.response c.in-Some.sent.now
+    c.asked.result.now c.as_slice-pool.result.now c.in-Some-response_at.response.now became
     c.in-Some.ensures c.as_slice-pool.ensures.items c.in-Some-response_at.ensures.response
     c.asked.ensures.asked c.in-Err.ensures.taken
-    (λ e. c.in_ok-refusal_of-in-Err.ensures.memory cc)
+    (λ e. memory (let same : fault ≡ OutOfMemory = cc in same)))
