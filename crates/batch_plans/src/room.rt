@@ -3,7 +3,9 @@
 ghost use Rattle.std.specs.Prelude.{◌≡◌, ◌<◌, ◌^◌, length, map, sum_by, IfOk};
 ghost use Rattle.batch_plans.specs.Within.{IsCallWithin, IsPlain, IsWithinLimits};
 ghost use Rattle.batch_plans.specs.Names.{all_live};
-ghost use Rattle.batch_plans.specs.Room.{opened_room, served_room, call_room, call_replies, call_batches, lane_room, room_for, most_room, IsLaneWithin};
+ghost use Rattle.batch_plans.specs.Room.{opened_room, served_room, call_room, call_replies};
+ghost use Rattle.batch_plans.specs.Room.{call_batches, lane_room, room_for, most_room};
+ghost use Rattle.batch_plans.specs.Room.{IsLaneWithin};
 
 use crate::calls::{call_refusal, items_of, keeps_guess, size_of};
 use crate::items::items_from;

@@ -3,7 +3,8 @@
 ghost use Rattle.std.specs.Prelude.{◌≡◌, ◌+◌, ◌<◌, ◌≤◌, ◌^◌, length, vec_len, sum_by, OnOk};
 ghost use Rattle.field_text.specs.Readings.{Gives, Reads};
 ghost use Rattle.capsule_frames.specs.LineParts.{key_parts as key_parts_of, suite_parts as suite_parts_of};
-ghost use Rattle.capsule_frames.specs.Forms.{ask as ask_of, answer as answer_of, take_line as take_of, capsule as capsule_of};
+ghost use Rattle.capsule_frames.specs.Forms.{ask as ask_of, answer as answer_of};
+ghost use Rattle.capsule_frames.specs.Forms.{take_line as take_of, capsule as capsule_of};
 
 use crate::lines::CapsuleLine;
 use crate::words;

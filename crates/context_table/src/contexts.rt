@@ -1,8 +1,11 @@
 //! The contexts of a plan.
 
 ghost use Rattle.std.specs.Prelude.{◌≡◌, ◌+◌, ◌<◌, ◌≤◌, ◌^◌, [], ◌∷◌, ◌++◌, length, IsSome, IfOk, OnOk, option_copied};
-ghost use Rattle.batch_plans.specs.Within.{IsEncWithin, IsKindWithin, IsContextWithin, IsWithinLimits};
-ghost use Rattle.context_table.specs.Contexts.{enc_at, exchange, psk_refusal, suite_of, scheduled, outcome, reply_of, slot_of, AreOutcomes, sender_exchange};
+ghost use Rattle.batch_plans.specs.Within.{IsEncWithin, IsKindWithin, IsContextWithin};
+ghost use Rattle.batch_plans.specs.Within.{IsWithinLimits};
+ghost use Rattle.context_table.specs.Contexts.{enc_at, exchange, psk_refusal, suite_of, scheduled};
+ghost use Rattle.context_table.specs.Contexts.{outcome, reply_of, slot_of, AreOutcomes};
+ghost use Rattle.context_table.specs.Contexts.{sender_exchange};
 ghost use Rattle.context_table.specs.Keys.{key_at};
 ghost use Rattle.context_table.specs.Slots.{HoldKeys};
 ghost use Rattle.context_table.specs.Streams.{context_words};

@@ -1,6 +1,7 @@
 //! What the calls of a plan ask of its contexts.
 
-ghost use Rattle.std.specs.Prelude.{◌≡◌, ◌++◌, map, IfOk, MatchOption, Some, None, [], slice_get, slice_index_or};
+ghost use Rattle.std.specs.Prelude.{◌≡◌, ◌++◌, map, IfOk, MatchOption, Some, None, [], slice_get};
+ghost use Rattle.std.specs.Prelude.{slice_index_or};
 ghost use Rattle.batch_plans.specs.Within.{IsWithinLimits};
 ghost use Rattle.context_books.specs.Asks.{batch_of};
 ghost use Rattle.journal_check.specs.Asks.{asked_in, size_in, sizes_of, AreFew, goes_on_by};

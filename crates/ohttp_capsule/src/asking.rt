@@ -7,7 +7,8 @@ ghost use Rattle.sntrup_kem.specs.Sizes.{enc_size};
 ghost use Rattle.sntrup_kem.specs.Kem.{drawn_r, IsGenerated};
 ghost use Rattle.key_schedule.specs.declared.modes.Role.TheVariants.{Sender};
 ghost use Rattle.ohttp_capsule.specs.Headers.{header_size};
-ghost use Rattle.ohttp_capsule.specs.Requests.{tag_size, least_request, context_of, asked_with, encapsulated_request};
+ghost use Rattle.ohttp_capsule.specs.Requests.{tag_size, least_request, context_of, asked_with};
+ghost use Rattle.ohttp_capsule.specs.Requests.{encapsulated_request};
 ghost use Rattle.ohttp_capsule.specs.Laws.{Asks};
 
 use crate::firsts::sealed_first;

@@ -4,7 +4,8 @@ ghost use Rattle.std.specs.Prelude.{◌≡◌, length, take, drop, map, slice_ge
 ghost use Rattle.std.specs.List.{All, concat};
 ghost use Rattle.batch_plans.specs.Replies.{IsInRange, IsPrintable};
 ghost use Rattle.field_text.specs.Buffers.{Puts};
-ghost use Rattle.batch_plans.specs.AnswersText.{reply_line, is_refused, reply_count, batch_count, guess_line, answered_lines};
+ghost use Rattle.batch_plans.specs.AnswersText.{reply_line, is_refused, reply_count, batch_count};
+ghost use Rattle.batch_plans.specs.AnswersText.{guess_line, answered_lines};
 
 use crate::reply_lines::{put_batch, put_reply};
 use batch_io::Sink;

@@ -3,7 +3,9 @@
 ghost use Rattle.std.specs.Prelude.{◌≡◌, ◌+◌, ◌<◌, ◌≤◌, ◌^◌, length, vec_len, sum_by, OnOk};
 ghost use Rattle.field_text.specs.Readings.{Gives, Reads};
 ghost use Rattle.request_frames.specs.LineParts.{shared_parts as shared_parts_of, key_parts as key_parts_of};
-ghost use Rattle.request_frames.specs.Forms.{schedule as schedule_of, share as share_of, send as send_of, recv as recv_of, context as context_of};
+ghost use Rattle.request_frames.specs.Forms.{schedule as schedule_of, share as share_of};
+ghost use Rattle.request_frames.specs.Forms.{send as send_of, recv as recv_of};
+ghost use Rattle.request_frames.specs.Forms.{context as context_of};
 
 use crate::key_words::read_kdf;
 use crate::messages::read_message;

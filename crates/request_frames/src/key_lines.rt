@@ -2,7 +2,8 @@
 
 ghost use Rattle.std.specs.Prelude.{◌≡◌, ◌+◌, ◌<◌, ◌≤◌, ◌^◌, length, vec_len, sum_by, OnOk};
 ghost use Rattle.field_text.specs.Readings.{Gives};
-ghost use Rattle.request_frames.specs.KeyForms.{rand as rand_of, seed_field, key as key_of, key_bytes as bytes_of};
+ghost use Rattle.request_frames.specs.KeyForms.{rand as rand_of, seed_field, key as key_of};
+ghost use Rattle.request_frames.specs.KeyForms.{key_bytes as bytes_of};
 
 use crate::key_words::KeyWord;
 use batch_plans::limits::MOST_FIELD;

@@ -2,7 +2,8 @@
 
 ghost use Rattle.std.specs.Prelude.{◌≡◌};
 ghost use Rattle.field_text.specs.Readings.{Reads};
-ghost use Rattle.result_lines.specs.Forms.{guess_in, mark_in, mark_size, coordinate, stamp_in, batch_word, guess_of_line, mark_of_line};
+ghost use Rattle.result_lines.specs.Forms.{guess_in, mark_in, mark_size, coordinate, stamp_in};
+ghost use Rattle.result_lines.specs.Forms.{batch_word, guess_of_line, mark_of_line};
 ghost use Rattle.result_lines.specs.Tables.{live_in, note_in, note_of_line};
 
 use crate::stamps::Stamps;
