@@ -1,7 +1,5 @@
 //! Whole batches of capsules, against another program.
 
-ghost use Rattle.std.specs.Prelude.{◌≤◌, length, vec_len, IfOk};
-
 use crate::expected::{array_of, assert_same};
 use aes_gcm::MayCheck;
 use batch_io::MemorySink;

@@ -2,7 +2,7 @@ ghost use Rattle.std.specs.Prelude.{◌≤◌, unsigned_abs};
 
 use crate::expected::{assert_at, assert_same};
 use rand_words::{SeedStream, short_random, small_random};
-use ring_core::{Multiplier, Params, Plain, Small, Sntrup761, Sntrup857};
+use ring_core::{Multiplier, Params, Plain, Rq, Small, Sntrup761, Sntrup857};
 use ring_inverse::quick::{quick_3, quick_3f};
 use ring_inverse::{Reciprocal, reciprocal_3, reciprocal_3f};
 use std::alloc::{AllocError as OutOfMemory, Global};
@@ -123,38 +123,70 @@ fn is_inverse(want: &Want) -> bool {
 }
 
 // No contract says that a candidate is right: a wrong one costs the time of an elimination.
+fn assert_quick_3<S: Params>(
+    rt: &impl Abort,
+    alloc: Global,
+    a: &Small<S>,
+    found: bool,
+    what: &str,
+) {
+    let quick = quick_3(alloc, &Plain, a).expect(rt, "memory");
+    assert_same(rt, quick.is_some(), found, what);
+}
+
+fn assert_quick_3f<S: Params>(
+    rt: &impl Abort,
+    alloc: Global,
+    f: &Small<S>,
+    found: bool,
+    what: &str,
+) {
+    let quick = quick_3f(alloc, &Plain, f).expect(rt, "memory");
+    assert_same(rt, quick.is_some(), found, what);
+}
+
+fn places_of(rt: &impl Abort, want: &Want, source: &str) -> Places {
+    match want {
+        Want::Inverse(places) => *places,
+        Want::Annihilator => panic!(rt; "{source}"),
+    }
+}
+
+fn assert_inverse_3<S: Params>(rt: &impl Abort, v: &Small<S>, want: &Want, source: &str) {
+    let places = places_of(rt, want, source);
+    for k in 0..S::P {
+        let number = i32::from(v.coefficient(k));
+        assert_at(rt, number, number_at(places, k), source, k);
+    }
+}
+
+fn assert_inverse_q<S: Params>(rt: &impl Abort, v: &Rq<S>, want: &Want, source: &str) {
+    let places = places_of(rt, want, source);
+    for k in 0..S::P {
+        assert_at(rt, v.coefficient(k), number_at(places, k), source, k);
+    }
+}
+
 fn assert_modulo_3<S: Params>(rt: &impl Abort, alloc: Global, case: &ReciprocalCase) {
-    let source = case.source;
+    let (source, want) = (case.source, &case.modulo_3);
     let a: Small<S> = element(rt, alloc, case.element);
-    let quick = quick_3(alloc, &Plain, &a).expect(rt, "memory");
-    assert_same(rt, quick.is_some(), is_inverse(&case.modulo_3), source);
-    let made = reciprocal_3(alloc, &Plain, &a).expect(rt, "memory");
-    match (&made, &case.modulo_3) {
-        (Reciprocal::Inverse(v), Want::Inverse(places)) => {
-            for k in 0..S::P {
-                let number = i32::from(v.coefficient(k));
-                assert_at(rt, number, number_at(places, k), source, k);
-            }
+    assert_quick_3(rt, alloc, &a, is_inverse(want), source);
+    match &reciprocal_3(alloc, &Plain, &a).expect(rt, "memory") {
+        Reciprocal::Inverse(v) => assert_inverse_3(rt, v, want, source),
+        Reciprocal::Annihilator(u) => {
+            assert_same(rt, is_inverse(want), false, source);
+            assert!(rt; u.weight() > 0, "{source}");
         }
-        (Reciprocal::Annihilator(u), Want::Annihilator) => assert!(rt; u.weight() > 0, "{source}"),
-        _ => assert!(rt; false, "{source}"),
     }
 }
 
 fn assert_modulo_q<S: Params>(rt: &impl Abort, alloc: Global, case: &ReciprocalCase) {
-    let source = case.source;
+    let (source, want) = (case.source, &case.modulo_q);
     let f: Small<S> = element(rt, alloc, case.element);
-    let quick = quick_3f(alloc, &Plain, &f).expect(rt, "memory");
-    assert_same(rt, quick.is_some(), is_inverse(&case.modulo_q), source);
-    let made = reciprocal_3f(alloc, &Plain, &f).expect(rt, "memory");
-    match (&made, &case.modulo_q) {
-        (Reciprocal::Inverse(v), Want::Inverse(places)) => {
-            for k in 0..S::P {
-                assert_at(rt, v.coefficient(k), number_at(places, k), source, k);
-            }
-        }
-        (Reciprocal::Annihilator(_), Want::Annihilator) => {}
-        _ => assert!(rt; false, "{source}"),
+    assert_quick_3f(rt, alloc, &f, is_inverse(want), source);
+    match &reciprocal_3f(alloc, &Plain, &f).expect(rt, "memory") {
+        Reciprocal::Inverse(v) => assert_inverse_q(rt, v, want, source),
+        Reciprocal::Annihilator(_) => assert_same(rt, is_inverse(want), false, source),
     }
 }
 
@@ -212,27 +244,17 @@ fn assert_dense_modulo_q(rt: &impl Abort, alloc: Global, a: &Small<Sntrup761>) {
 #[test]
 fn a_dense_element_has_its_inverses(rt: HostRuntime) {
     let a: Small<Sntrup761> = element(&rt, rt.alloc(), &dense());
-    assert_quick_3f(&rt, rt.alloc(), &a);
+    assert_quick_3f(&rt, rt.alloc(), &a, true, "dense");
     assert_dense_modulo_3(&rt, rt.alloc(), &a);
     assert_dense_modulo_q(&rt, rt.alloc(), &a);
-}
-
-fn assert_quick_3<S: Params>(rt: &impl Abort, alloc: Global, g: &Small<S>) {
-    let found = quick_3(alloc, &Plain, g).expect(rt, "memory");
-    assert!(rt; found.is_some());
-}
-
-fn assert_quick_3f<S: Params>(rt: &impl Abort, alloc: Global, f: &Small<S>) {
-    let found = quick_3f(alloc, &Plain, f).expect(rt, "memory");
-    assert!(rt; found.is_some());
 }
 
 // No contract says that the division steps find the inverses of what KeyGen draws.
 fn assert_found<S: Params>(rt: &impl Abort, alloc: Global, seed: u8) {
     let g = small_random(alloc, &mut SeedStream::new(&[seed; 32], 0));
-    assert_quick_3::<S>(rt, alloc, &g.expect(rt, "memory"));
+    assert_quick_3::<S>(rt, alloc, &g.expect(rt, "memory"), true, "g");
     let f = short_random(alloc, &mut SeedStream::new(&[seed; 32], 1));
-    assert_quick_3f::<S>(rt, alloc, &f.expect(rt, "memory"));
+    assert_quick_3f::<S>(rt, alloc, &f.expect(rt, "memory"), true, "f");
 }
 
 #[test]

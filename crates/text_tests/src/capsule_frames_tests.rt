@@ -113,6 +113,7 @@ fn a_batch_is_read(rt: HostRuntime) {
         },
     ];
     assert_same(&rt, batch.lines.as_slice(), &want[..], "lines");
+    drop(batch);
 }
 
 // A list of these bytes.

@@ -5,8 +5,10 @@ ghost use Rattle.hpke_context.specs.Calls.{encrypts};
 
 use super::calls::{QUESTION, REPLY, answered, asked, keys_of, taken};
 use crate::expected::assert_same;
+use byte_strings::ByteList;
 use hex::FromHex;
 use hkdf_labelled::{Aead, Kdf, Suite};
+use ohttp_capsule::Asked;
 use ring_core::{Sntrup761, Sntrup857};
 use sha2::{Digest, Sha256};
 use sntrup_kem::{KemParams, PublicKey, SecretKey};
@@ -115,6 +117,33 @@ fn assert_digest(rt: &impl Abort, bytes: &[u8], digits: &str) {
     assert_same(rt, Sha256::digest(bytes), want, digits);
 }
 
+// The response to a request, which asks this question.
+fn response_to<R: Abort + Threads + Sync, S: KemParams>(
+    rt: &R,
+    alloc: Global,
+    secret: &SecretKey<S>,
+    request: &[u8],
+    nonce: &[u8],
+    question: &[u8],
+    reply: &[u8],
+) -> ByteList {
+    let answer = answered(rt, alloc, secret, request, nonce, reply);
+    let (asked, response) = answer.expect(rt, "an answer");
+    assert!(rt; asked.as_slice() == question, "the question");
+    response
+}
+
+fn assert_reply<R: Abort + Threads + Sync>(
+    rt: &R,
+    alloc: Global,
+    asked: &Asked,
+    response: &[u8],
+    want: &[u8],
+) {
+    let reply = taken(rt, alloc, asked, response).expect(rt, "a reply");
+    assert!(rt; reply.as_slice() == want, "the reply");
+}
+
 fn assert_exchange<R: Abort + Threads + Sync, S: KemParams>(
     rt: &R,
     alloc: Global,
@@ -132,12 +161,11 @@ fn assert_exchange<R: Abort + Threads + Sync, S: KemParams>(
     assert_digest(rt, request.as_slice(), case.sha256_request);
     let nonce = [0xaa; 32];
     let size = if suite.aead == Aead::Aes128 { 16 } else { 32 };
-    let answer = answered(rt, alloc, secret, request.as_slice(), &nonce[..size], REPLY);
-    let (question, response) = answer.expect(rt, "an answer");
-    assert!(rt; question.as_slice() == QUESTION, "the question");
+    let (request, nonce) = (request.as_slice(), &nonce[..size]);
+    let response = response_to(rt, alloc, secret, request, nonce, QUESTION, REPLY);
     assert_digest(rt, response.as_slice(), case.sha256_response);
-    let reply = taken(rt, alloc, &asked, response.as_slice()).expect(rt, "a reply");
-    assert!(rt; reply.as_slice() == REPLY, "the reply");
+    assert_reply(rt, alloc, &asked, response.as_slice(), REPLY);
+    drop(asked);
 }
 
 #[test]
@@ -185,13 +213,16 @@ fn assert_text<R: Abort + Threads + Sync>(
         aead: Aead::Aes256,
     };
     let (asked, request) = asked(rt, alloc, public, &suite, text);
-    let size = request.as_slice().len();
-    assert_same(rt, size, 7 + 1_184 + length + 16, "size of the request");
-    let answer = answered(rt, alloc, secret, request.as_slice(), &[3; 32], text);
-    let (question, response) = answer.expect(rt, "an answer");
-    assert!(rt; question.as_slice() == text, "the question");
-    let size = response.as_slice().len();
-    assert_same(rt, size, 32 + length + 16, "size of the response");
-    let reply = taken(rt, alloc, &asked, response.as_slice()).expect(rt, "a reply");
-    assert!(rt; reply.as_slice() == text, "the reply");
+    let request = request.as_slice();
+    assert_same(
+        rt,
+        request.len(),
+        7 + 1_184 + length + 16,
+        "size of the request",
+    );
+    let response = response_to(rt, alloc, secret, request, &[3; 32], text, text);
+    let response = response.as_slice();
+    assert_same(rt, response.len(), 32 + length + 16, "size of the response");
+    assert_reply(rt, alloc, &asked, response, text);
+    drop(asked);
 }

@@ -240,11 +240,26 @@ const SUITE_256: Suite = Suite {
     aead: Aead::Aes256,
 };
 
+// A secret key, and the question as a request to its public key.
+fn requested<S: KemParams>(rt: &impl Abort, alloc: Global) -> (SecretKey<S>, Asked, ByteList) {
+    let (public, secret) = keys_of::<S>(rt, alloc);
+    let (asked, request) = asked(rt, alloc, &public, &SUITE, QUESTION);
+    (secret, asked, request)
+}
+
+// The question that was asked, and the response to it.
+fn responded<R: Abort + Threads + Sync>(rt: &R, alloc: Global) -> (Asked, ByteList) {
+    let (secret, asked, request) = requested::<Sntrup761>(rt, alloc);
+    let answer = answered(rt, alloc, &secret, request.as_slice(), &[0xaa; 16], REPLY);
+    let (_question, response) = answer.expect(rt, "an answer");
+    (asked, response)
+}
+
 #[test]
 fn requests_are_refused_by_the_first_cause(rt: HostRuntime) {
     let alloc = rt.alloc();
-    let (public, secret) = keys_of::<Sntrup761>(&rt, alloc);
-    let (_asked, request) = asked(&rt, alloc, &public, &SUITE, QUESTION);
+    let (secret, asked, request) = requested::<Sntrup761>(&rt, alloc);
+    drop(asked);
     let front = [0x07, 0xf7, 0x61, 0x00, 0x01, 0x00, 0x01];
     assert!(rt; request.as_slice().starts_with(&front), "the header");
     for case in &REQUESTS {
@@ -256,27 +271,29 @@ fn requests_are_refused_by_the_first_cause(rt: HostRuntime) {
 #[test]
 fn responses_are_refused_by_the_first_cause(rt: HostRuntime) {
     let alloc = rt.alloc();
-    let (public, secret) = keys_of::<Sntrup761>(&rt, alloc);
-    let (asked, request) = asked(&rt, alloc, &public, &SUITE, QUESTION);
-    let answer = answered(&rt, alloc, &secret, request.as_slice(), &[0xaa; 16], REPLY);
-    let (_question, response) = answer.expect(&rt, "an answer");
+    let (asked, response) = responded(&rt, alloc);
     for case in &RESPONSES {
         assert_response_refused(&rt, alloc, &asked, response.as_slice(), case);
     }
-    let zeros = vec![in alloc; 0u8; 1_039].expect(&rt, "memory");
-    let other = Asked {
+    let other = with_zeros(&rt, alloc, asked);
+    assert_response_refused(&rt, alloc, &other, response.as_slice(), &WHOLE);
+    drop(other);
+}
+
+// The same with an encapsulation of zeros.
+fn with_zeros(rt: &impl Abort, alloc: Global, asked: Asked) -> Asked {
+    let zeros = vec![in alloc; 0u8; 1_039].expect(rt, "memory");
+    Asked {
         context: asked.context,
         enc: PlainList::from_vec(zeros),
-    };
-    assert_response_refused(&rt, alloc, &other, response.as_slice(), &WHOLE);
+    }
 }
 
 // The response is of zeros.
 #[test]
 fn the_shortest_messages_of_sntrup857_are_read(rt: HostRuntime) {
     let alloc = rt.alloc();
-    let (public, secret) = keys_of::<Sntrup857>(&rt, alloc);
-    let (asked, request) = asked(&rt, alloc, &public, &SUITE, QUESTION);
+    let (secret, asked, request) = requested::<Sntrup857>(&rt, alloc);
     for case in &REQUESTS_857 {
         assert_request_refused(&rt, alloc, &secret, request.as_slice(), case);
     }

@@ -72,19 +72,30 @@ static KEY_REFUSALS: [(KeyLine, Option<KeyRefusal>); 7] = [
     (KeyLine::Generate857, None),
 ];
 
+fn key_lines(rt: &impl Abort, alloc: Global) -> Vec<KeyLine> {
+    let mut keys = Vec::new(alloc);
+    for case in &KEY_REFUSALS {
+        keys.push(case.0).expect(rt, "memory");
+    }
+    keys
+}
+
+fn assert_key_refusals(rt: &impl Abort, setup: &Setup) {
+    for (number, case) in KEY_REFUSALS.iter().enumerate() {
+        let reply = setup.keys.as_slice().get(number).expect(rt, "a reply");
+        assert_at(rt, key_refusal_of(reply), case.1, "key", number);
+    }
+}
+
 #[test]
 fn keys_are_refused_by_length_and_form(rt: HostRuntime) {
     let alloc = rt.alloc();
-    let mut keys = Vec::new(alloc);
-    for case in &KEY_REFUSALS {
-        keys.push(case.0).expect(&rt, "memory");
-    }
-    let plan = plan_of(&rt, alloc, ffs_and_zeros(&rt, alloc), keys, Vec::new(alloc));
+    let (pool, keys) = (ffs_and_zeros(&rt, alloc), key_lines(&rt, alloc));
+    let plan = plan_of(&rt, alloc, pool, keys, Vec::new(alloc));
     let setup = set_up_with(&rt, alloc, &plan, &Plain);
-    for (number, case) in KEY_REFUSALS.iter().enumerate() {
-        let reply = setup.keys.as_slice().get(number).expect(&rt, "a reply");
-        assert_at(&rt, key_refusal_of(reply), case.1, "key", number);
-    }
+    drop(plan);
+    assert_key_refusals(&rt, &setup);
+    drop(setup);
 }
 
 // The last context line of a plan, after others in mode base. Each case is own, by hand.

@@ -208,6 +208,7 @@ fn expect_printed(rt: &impl Abort, alloc: Global, plan: &Plan, case: &Case) {
     let answers = answers(rt, alloc, case);
     expect_whole(rt, alloc, plan, &answers, case);
     expect_cut_short(rt, alloc, plan, &answers, case);
+    drop(answers);
 }
 
 #[test]
@@ -215,7 +216,10 @@ fn a_reply_is_printed_whole_or_cut_short(rt: HostRuntime) {
     let alloc = rt.alloc();
     for case in &CASES {
         match read_live(alloc, case.batch) {
-            Ok(plan) => expect_printed(&rt, alloc, &plan, case),
+            Ok(plan) => {
+                expect_printed(&rt, alloc, &plan, case);
+                drop(plan);
+            }
             Err(_) => panic!(rt; "not read"),
         }
     }

@@ -121,6 +121,7 @@ fn a_context_is_added_called_and_retired(rt: HostRuntime) {
     ];
     assert_same(&rt, plan.lanes.as_slice().len(), 1, "how many lanes");
     expect_calls(&rt, &plan, 0, calls.as_slice());
+    drop(plan);
 }
 
 // The KEM ids of the contexts, all of whose shared secrets are given.
@@ -171,12 +172,17 @@ fn contexts_are_named_over_all_lanes(rt: HostRuntime) {
     assert_same(&rt, plan.lanes.as_slice().len(), 2, "how many lanes");
     expect_calls(&rt, &plan, 0, first.as_slice());
     expect_calls(&rt, &plan, 1, second.as_slice());
+    drop(plan);
 }
 
 // How many contexts the batch at the front of a text adds, and where it ends, or its bad line.
 fn front_of(alloc: Global, text: &[u8]) -> Result<(u32, usize), Option<BadBatch>> {
     match read_live_front(alloc, text) {
-        Ok((plan, end)) => Ok((plan.added, end)),
+        Ok((plan, end)) => {
+            let added = plan.added;
+            drop(plan);
+            Ok((added, end))
+        }
         Err(ReadBatchFault::Bad(bad)) => Err(Some(bad)),
         Err(ReadBatchFault::OutOfMemory) => Err(None),
     }

@@ -194,6 +194,7 @@ fn a_batch_is_read_with_its_plan(rt: HostRuntime) {
         Ok(plan) => {
             expect_set_up(&rt, &plan);
             expect_lanes(&rt, &plan);
+            drop(plan);
         }
         Err(_) => panic!(rt; "not read"),
     }

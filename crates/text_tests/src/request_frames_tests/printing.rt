@@ -92,6 +92,8 @@ fn each_form_is_printed_as_its_line(rt: HostRuntime) {
     let text = text.expect(&rt, "memory");
     expect_whole(&rt, alloc, &plan, &answers, text.as_bytes(), "each form");
     expect_cut_short(&rt, alloc, &plan, &answers, text.as_bytes());
+    drop(plan);
+    drop(answers);
 }
 
 fn expect_set_up(rt: &impl Abort, alloc: Global) {

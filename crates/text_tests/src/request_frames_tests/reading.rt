@@ -94,7 +94,11 @@ fn a_ciphertext_has_at_most_1048592_bytes(rt: HostRuntime) {
 // The version of the batch at the front of a text and where it ends, or its bad line.
 fn front_of(alloc: Global, text: &[u8]) -> Result<(u8, usize), Option<BadBatch>> {
     match read_front(alloc, text) {
-        Ok((plan, end)) => Ok((plan.version, end)),
+        Ok((plan, end)) => {
+            let version = plan.version;
+            drop(plan);
+            Ok((version, end))
+        }
         Err(ReadBatchFault::Bad(bad)) => Err(Some(bad)),
         Err(ReadBatchFault::OutOfMemory) => Err(None),
     }

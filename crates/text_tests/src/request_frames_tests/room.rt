@@ -160,6 +160,7 @@ fn expect_case(rt: &impl Abort, alloc: Global, plan: &Plan, case: &RoomCase)
     expect_room(rt, &answers, case);
     let places = places_of(rt, alloc, &answers);
     assert_same(rt, places.as_slice(), case.places, case.source);
+    drop(answers);
 }
 
 #[test]
@@ -168,7 +169,10 @@ fn each_call_has_its_room_or_its_refusal(rt: HostRuntime) {
     for case in &ROOMS {
         let source = case.source;
         match read_batch(alloc, case.text.as_bytes()) {
-            Ok(plan) => expect_case(&rt, alloc, &plan, case),
+            Ok(plan) => {
+                expect_case(&rt, alloc, &plan, case);
+                drop(plan);
+            }
             Err(_) => panic!(rt; "not read: {source}"),
         }
     }

@@ -80,20 +80,19 @@ fn answers_of(rt: &impl Abort, alloc: Global, case: &ReplyCase) -> Answers {
     }
 }
 
+fn expect_case(rt: &impl Abort, alloc: Global, case: &ReplyCase) {
+    let lanes = lanes_of(rt, alloc, case.lanes).expect(rt, "memory");
+    let plan = plan_of(rt, alloc, case.version, 0, case.contexts, lanes);
+    let answers = answers_of(rt, alloc, case);
+    let text = case.text.as_bytes();
+    expect_whole(rt, alloc, &plan, &answers, text, case.source);
+    drop(plan);
+    drop(answers);
+}
+
 #[test]
 fn each_call_has_its_lines(rt: HostRuntime) {
-    let alloc = rt.alloc();
     for case in &REPLIES {
-        let lanes = lanes_of(&rt, alloc, case.lanes).expect(&rt, "memory");
-        let plan = plan_of(&rt, alloc, case.version, 0, case.contexts, lanes);
-        let answers = answers_of(&rt, alloc, case);
-        expect_whole(
-            &rt,
-            alloc,
-            &plan,
-            &answers,
-            case.text.as_bytes(),
-            case.source,
-        );
+        expect_case(&rt, rt.alloc(), case);
     }
 }
