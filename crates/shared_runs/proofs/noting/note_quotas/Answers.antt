@@ -1,8 +1,10 @@
-use Rattle.std.proofs.Common.{◌≡◌, ◌<◌, ◌^◌, [], List, length, sym, ◌∙◌, ap, subst, arith, get_or}
+use Rattle.std.proofs.Common.{◌≡◌, ◌<◌, ◌^◌, ◌++◌, ◌∷◌, [], List, length, map, sym, ◌∙◌, ap, subst, arith, get_or}
 use Rattle.std.specs.List.{All}
+use Rattle.std.proofs.lemmas.List.{map_more, take_all}
 use Rattle.batch_plans.specs.declared.plan.CallLine.{CallLine}
 use Rattle.lane_workers.specs.LiveLanes.{AddsOneOf}
 use Rattle.lane_workers.proofs.Handing.{found_here}
+use Rattle.shared_runs.specs.Noting.{note_quota}
 use Rattle.shared_runs.proofs.Noted.{lanes_short}
 use Rattle.shared_runs.proofs.noting.note_quotas.Goals as goal
 
@@ -25,3 +27,21 @@ note_quota-requires-clause-calls c =
     subst (λ (calls : List CallLine). All (AddsOneOf plan.added) calls × (length calls < 2 ^ 32))
     (sym here)
     (c.requires.named k [] (omega arith), lanes_short plan c.requires.within k [] (omega arith))
+
+pub lanes-preserved : goal.lanes-preserved
+lanes-preserved c =
+    let quota = note_quota c.args.plan.now c.args.contexts.now in
+    let items = c.as_slice-calls-items.result.now in
+    let k = c.lanes.calls-index in
+    let low : k < length items = (let test = c.lanes-test.true in omega arith) in
+    let here : c.as_slice.result.now ≡ get_or items k [] =
+    c.as_slice.ensures.items ∙ found_here items k c.calls-item.result [] low c.calls-item.is in
+    c.in_ok-push.ensures.items
+    ∙ (λ i. c.lanes.invariant i ++ (c.note_quota.ensures ∙ ap quota here) i ∷ [])
+    ∙ sym (map_more quota items k [] low)
+
+pub returns : goal.returns
+returns c =
+    c.lanes.invariant ∙ ap (map (note_quota c.args.plan.now c.args.contexts.now))
+    (take_all c.lanes.calls-index c.as_slice-calls-items.result.now (omega (arith, c.lanes-test.false))
+    ∙ c.as_slice-calls-items.ensures.items)
