@@ -28,10 +28,6 @@ at_tasks : (due : ℕ → ℕ) (l : ℕ) (stage : Stage) (call guess : ℕ) (gue
 at_tasks due l stage call guess guesses rest more e = ap (λ asks. next_step due l (record { to_come = tasks_at stage call asks; guess = guess; guesses = guesses })) e
 
 module _ (due : ℕ → ℕ) (l : ℕ) (asks : List Ask) (call g : ℕ) (gs : List ℕ) where
-  -- at its end a lane does nothing
-  pub ends : (stage : Stage) → drop call asks ≡ [] → next_step due l (lane_at asks call stage g gs) ≡ moved_to (lane_at asks call stage g gs) []
-  ends stage e = at_tasks due l stage call g gs (drop call asks) [] e ∙ sym (ap (λ rest. moved_to (record { to_come = tasks_at stage call rest; guess = g; guesses = gs }) []) e)
-
   finished : (a : Ask) → moved_to (record { to_come = all_tasks (call + 1) (drop (call + 1) asks); guess = g; guesses = gs ++ guess_of a g }) [] ≡ moved_to (lane_at asks (call + 1) Fresh g (gs ++ guess_of a g)) []
   finished a = ap (λ ts. moved_to (record { to_come = ts; guess = g; guesses = gs ++ guess_of a g }) []) (fresh (call + 1) (drop (call + 1) asks))
 

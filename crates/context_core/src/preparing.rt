@@ -49,10 +49,10 @@ pub(crate) fn books(
         ≡ map (fresh_at plan.now contexts.now) (range_with_len 0 (length contexts.now))) }
 {
     let all = all_quotas(alloc, &plan.lanes, contexts)?;
-    let mut books = Vec::new(alloc);
+    let mut books = Vec::with_capacity(alloc, contexts.len())?;
     'contexts: for number in 0..contexts.len() {
         let quotas = all[number].as_slice();
-        books.push(book(alloc, contexts, number as u32, quotas)?)?;
+        books.push_reserved(book(alloc, contexts, number as u32, quotas)?);
     }
     Ok(books)
 }
@@ -132,9 +132,10 @@ pub(crate) fn lanes(alloc: Global, plan: &Plan) -> Result<Vec<Lane>, AllocError>
     ensures count { IfOk result (λ lanes. length lanes.items ≡ length plan.now.lanes) }
     ensures fresh { IfOk result (λ lanes. AreFresh plan.now.lanes lanes.items) }
 {
-    let mut lanes = Vec::new(alloc);
-    'lanes: for calls in plan.lanes.as_slice() {
-        lanes.push(lane(alloc, calls.as_slice())?)?;
+    let all = plan.lanes.as_slice();
+    let mut lanes = Vec::with_capacity(alloc, all.len())?;
+    'lanes: for calls in all {
+        lanes.push_reserved(lane(alloc, calls.as_slice())?);
     }
     Ok(lanes)
 }

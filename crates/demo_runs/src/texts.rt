@@ -3,7 +3,7 @@
 ghost use Rattle.std.specs.Prelude.{◌≡◌, ◌<◌, ◌≤◌, ◌++◌, ◌*◌, List, ℕ, length, codes, string_bytes, IfOk, OnOk, if◌then◌else◌, []};
 ghost use Rattle.std.specs.List.{flat_map, range_with_len};
 ghost use Rattle.std.specs.Fork.{slice_chunk};
-ghost use Rattle.demo_runs.specs.Texts.{front_text, seal_line, sealing_text, sealing_lane, opening_text, opening_line, opening_size};
+ghost use Rattle.demo_runs.specs.Texts.{front_text, seal_line, sealing_text, sealing_lane, opening_text, opening_line, opening_size, item_text};
 ghost use Rattle.demo_runs.specs.SetUp.{seed_bytes};
 ghost use Rattle.field_text.specs.Printing.{hex_text};
 
@@ -94,6 +94,18 @@ fn part(cts: &[[u8; CIPHERTEXT_SIZE]], n: usize) -> &[[u8; CIPHERTEXT_SIZE]]
     &cts[start..end]
 }
 
+// A ciphertext of a line, behind its associated data, which is empty.
+fn push_ciphertext(
+    alloc: Global,
+    text: &mut String,
+    ct: &[u8; CIPHERTEXT_SIZE],
+) -> Result<(), AllocError>
+    ensures { OnOk result (string_bytes text.new ≡ string_bytes text.old ++ item_text ct.now) }
+{
+    text.push_str(" - ")?;
+    text.push_str(&hex::encode(alloc, ct)?)
+}
+
 // A line that opens these.
 fn push_opening(
     alloc: Global,
@@ -104,8 +116,7 @@ fn push_opening(
 {
     text.push_str("unsealall 1")?;
     'ciphertexts: for ct in cts {
-        text.push_str(" - ")?;
-        text.push_str(&hex::encode(alloc, ct)?)?;
+        push_ciphertext(alloc, text, ct)?;
     }
     text.push_str("\n")?;
     Ok(())

@@ -9,6 +9,11 @@ Each-append P (x ∷ xs) ys all =
     let r = Each-append P xs ys all.1 in
     ((all.0, r.0), r.1)
 
+pub Each-weaker : {L : Type 0} (P Q : L → Type 0) → ((l : L) → P l → Q l) → (ls : List L)
+    → Each P ls → Each Q ls
+Each-weaker P Q weaker [] all = tt
+Each-weaker P Q weaker (l ∷ ls) all = (weaker l all.0, Each-weaker P Q weaker ls all.1)
+
 pub EachServed-append : {L : Type 0} (P : L → L → Type 0) (xs xs' ys ys' : List L)
     → EachServed P xs xs' → EachServed P ys ys' → EachServed P (xs ++ ys) (xs' ++ ys')
 EachServed-append P [] [] ys ys' a b = b

@@ -1,5 +1,5 @@
 -- Lanes that give back what they have seen, in order.
-use Rattle.std.proofs.Common.{◌≡◌, ℕ, ◌+◌, ◌-◌, ◌<◌, List, [], ◌∷◌, ◌++◌, length, map, get_or, Option, inl, inr, sym, refl, ap, ◌∙◌, subst, arith, length-append, Bor}
+use Rattle.std.proofs.Common.{◌≡◌, ℕ, ◌+◌, ◌-◌, ◌<◌, List, [], ◌∷◌, ◌++◌, length, map, Option, inl, inr, sym, refl, ap, ◌∙◌, subst, arith, length-append, Bor}
 use Rattle.std.specs.Prelude.{slice_get, slice_index_or}
 use Rattle.std.proofs.lemmas.List.{length-map, map-append}
 use Rattle.call_places.specs.declared.entries.Entry.{Entry}

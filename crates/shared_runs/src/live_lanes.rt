@@ -63,21 +63,16 @@ impl RunsLanes for LiveContexts<'_> {
         answers
     }
 
-    fn close(
-        self,
-        left: LiveLeft,
-        books: &mut Vec<Option<Book>>,
-        _notes: PlainList<Entry>,
-    ) -> PlainList<Entry> {
+    fn close(self, left: LiveLeft, books: &mut Vec<Option<Book>>, notes: &mut PlainList<Entry>) {
         let LiveContexts { shared, names } = self;
         let LiveLeft {
             shared: mut left,
             passes,
         } = left;
-        let (notes, seat) = names.close(passes);
+        let (made, seat) = names.close(passes);
         shared.counter.join(&mut left.seat, seat);
         shared.close_contexts(left, books);
         live_lanes_make_a_run();
-        PlainList::from_vec(notes.into_vec())
+        *notes = PlainList::from_vec(made.into_vec());
     }
 }

@@ -60,9 +60,10 @@ pub(crate) fn note_quotas(
     requires named { All (All (AddsOneOf plan.now.added)) plan.now.lanes }
     ensures { IfOk result (λ quotas. quotas.items ≡ note_quotas plan.now contexts.now) }
 {
-    let mut quotas = Vec::new(alloc);
-    'lanes: for calls in plan.lanes.as_slice() {
-        quotas.push(note_quota(plan, contexts, calls.as_slice()))?;
+    let lanes = plan.lanes.as_slice();
+    let mut quotas = Vec::with_capacity(alloc, lanes.len())?;
+    'lanes: for calls in lanes {
+        quotas.push_reserved(note_quota(plan, contexts, calls.as_slice()));
     }
     Ok(quotas)
 }

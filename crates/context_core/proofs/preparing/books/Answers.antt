@@ -42,6 +42,18 @@ book-requires-clause-sum c =
     c.index.result.now n same c.contexts-test.true (c.as_slice-quotas.ensures.items ∙ c.index.ensures) in
     subst (λ qs. sum qs ≤ 65536) (sym is) (quotas_few plan contexts n c.requires.within)
 
+pub push_reserved-requires : goal.push_reserved-requires
+push_reserved-requires c =
+    let t = c.contexts.invariant in
+    omega (
+      arith,
+      ap length t.done,
+      length-map-range_with_len (fresh_at c.args.plan.now c.args.contexts.now) 0 c.contexts.number,
+      t.room,
+      c.contexts.books.ok.0,
+      c.contexts-test.true,
+    )
+
 pub contexts-preserved : goal.contexts-preserved
 contexts-preserved c =
     let plan = c.args.plan.now in
@@ -54,5 +66,9 @@ contexts-preserved c =
     let more : map f (range_with_len 0 n) ++ f n ∷ [] ≡ map f (range_with_len 0 (n + 1)) =
     sym (map-range_with_len_more f 0 n n (omega arith)) in
     let book : c.in_ok-book.field-0 ≡ f n = c.in_ok-book.ensures plan is in
-    ◌∙◌ {A = List (Option BookView)} c.in_ok-push.ensures.items
-    (◌∙◌ {A = List (Option BookView)} (λ i. c.contexts.invariant i ++ book i ∷ []) more)
+    let t = c.contexts.invariant in
+    record {
+      done = ◌∙◌ {A = List (Option BookView)} c.push_reserved.ensures.items
+          (◌∙◌ {A = List (Option BookView)} (λ i. t.done i ++ book i ∷ []) more);
+      room = omega (arith, c.push_reserved.ensures.capacity, t.room);
+    }

@@ -18,6 +18,9 @@ use Rattle.context_core.specs.Preparing.{answers_of, IsEnded}
 use Rattle.context_core.proofs.Ended.{refill_is, answered_are, all_done, ended, lines_are, used, has_room, journals_are, lane_count, journals_count}
 use Rattle.context_core.proofs.rehearsals.rehearse_with.Goals as goal
 
+pub begun-requires-clause-within : goal.begun-requires-clause-within
+begun-requires-clause-within g c = c.requires.within
+
 pub begun-requires-clause-room : goal.begun-requires-clause-room
 begun-requires-clause-room g c = ap (λ (a : Answers). a.lanes) c.requires.room
 

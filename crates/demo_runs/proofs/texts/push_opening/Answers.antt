@@ -12,7 +12,7 @@ returns c =
     let items : List ℕ = flat_map item_text c.args.cts.now in
     let all : take c.ciphertexts.ct-index c.args.cts.now ≡ c.args.cts.now =
     take_all c.ciphertexts.ct-index c.args.cts.now (omega arith) in
-    let end = pushed (codes "\n") c.ciphertexts.invariant c.in_ok-push_str-4.was c.push_str-2.ensures.bytes in
+    let end = pushed (codes "\n") c.ciphertexts.invariant c.in_ok-push_str-2.was c.push_str-2.ensures.bytes in
     end ∙ ap (λ (xs : List (List ℕ)). (string_bytes c.push_str.new.self ++ flat_map item_text xs) ++ codes "\n") all
     ∙ ap (λ (text : List ℕ). (text ++ items) ++ codes "\n") word
     ∙ append_assoc (start ++ codes "unsealall 1") items (codes "\n")

@@ -55,3 +55,17 @@ lists-preserved c =
 
     not_it : (k i : ℕ) → i + 1 ≤ k → k ≡ i → ⊥
     not_it k i above e = omega arith
+
+pub returns : goal.returns
+returns c =
+    let inv = c.lists.invariant in
+    let end = c.lists-test.false in
+    let last = c.lists.auto.list-index-end in
+    let items = c.from_vec.ensures.items in
+    record {
+      lists_count = c.lists.auto.lists;
+      count = omega (arith, ap length items, inv.0);
+      each = λ number low. subst (λ (ps : List (Option PassView)).
+          Takes (list_at c.args.lists.now number) (list_at c.lists.lists number) (pass_at ps number))
+          (sym items) (inv.2 number (omega arith));
+    }

@@ -1,4 +1,5 @@
 use Rattle.std.proofs.Common.{◌≡◌, ◌+◌, ◌++◌, ◌∷◌, [], length, sym, ap, ◌∙◌, subst, arith, append_assoc, length-append, rules}
+use Rattle.std.proofs.lemmas.Grind.{common_steps}
 use Rattle.batch_plans.specs.Room.{lane_room}
 use Rattle.context_books.specs.ContextLines.{export_limits}
 use Rattle.context_books.specs.LaneCalls.{lane_calls}
@@ -58,6 +59,9 @@ prepare-requires-clause-room g c =
     made_of room plan.lanes c.args.answers.items c.lanes.yielded c.next.new.self.rest.items
     c.in-Some.answers front c.requires.room []
     ∙ ap (λ k. room (lane_calls plan k)) (sym number)
+
+pub push_reserved-requires : goal.push_reserved-requires
+push_reserved-requires g c = grind (arith, common_steps)
 
 pub lanes-preserved : goal.lanes-preserved
 lanes-preserved g c =

@@ -1,4 +1,4 @@
-use Rattle.std.proofs.Common.{◌≡◌, sym, ◌∙◌}
+use Rattle.std.proofs.Common.{sym, ◌∙◌}
 use Rattle.turn_lock.specs.Passes.{fresh_pass}
 use Rattle.shared_runs.proofs.Handed.{room_is_small}
 use Rattle.shared_runs.proofs.LiveHanded.{name_pass, below, placed_room, is_ready, own_lane}

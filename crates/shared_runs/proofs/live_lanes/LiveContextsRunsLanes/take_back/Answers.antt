@@ -33,6 +33,12 @@ put_back-requires c =
           c.finish-passes.result.1 c.finish-passes.result.2 r,
     )
 
+pub put-requires : goal.put-requires
+put-requires c =
+    let b = c.requires.back in
+    let there = own_lane c.args.self.now (length b.0) b.2 in
+    omega (arith, b.1.names.count, b.1.few, b.1.names.made, there)
+
 pub returns : goal.returns
 returns c = λ answers collected low done.
     let t = c.args.self.now in
