@@ -6,7 +6,8 @@ ghost use Rattle.call_places.specs.declared.entries.Entry.{Entry as Entry_};
 ghost use Rattle.call_places.specs.declared.entries.Place.{Place as Place_};
 ghost use Rattle.call_places.specs.Notes.{note_entry, live_at};
 ghost use Rattle.context_books.specs.Standing.{call_refusal};
-ghost use Rattle.batch_alone.specs.Tables.{next_stamp, with_note, with_places, after_call, after_calls, nothing, table_of};
+ghost use Rattle.batch_alone.specs.Tables.{next_stamp, with_note, with_places, after_call};
+ghost use Rattle.batch_alone.specs.Tables.{after_calls, nothing, table_of};
 ghost use Rattle.batch_alone.specs.Turns.{so_far, places_in, KeepsLive};
 
 use batch_plans::{CallLine, Plan};

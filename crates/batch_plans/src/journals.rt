@@ -1,6 +1,7 @@
 //! Room for the journals of a plan.
 
-ghost use Rattle.std.specs.Prelude.{◌≡◌, ◌+◌, ◌<◌, ◌^◌, ℕ, length, map, replicate, sum_by, slice_index, IfOk};
+ghost use Rattle.std.specs.Prelude.{◌≡◌, ◌+◌, ◌<◌, ◌^◌, ℕ, length, map, replicate, sum_by};
+ghost use Rattle.std.specs.Prelude.{slice_index, IfOk};
 ghost use Rattle.std.specs.List.{range_with_len};
 ghost use Rattle.batch_plans.specs.Limits.{items_of, all_items};
 ghost use Rattle.batch_plans.specs.Room.{items_on, all_items_on, blank_mark, journal_room};

@@ -27,15 +27,6 @@ on_verdict Stamps = tt
 on_verdict (Reply line) = tt
 on_verdict (Guess line) = tt
 
-abbrev pub IsUsage : Outcome → Type 0
-IsUsage outcomes.Done = ⊥
-IsUsage outcomes.Usage = Unit {0}
-IsUsage (outcomes.BadBatch line reason) = ⊥
-IsUsage outcomes.ReadFault = ⊥
-IsUsage outcomes.WriteFault = ⊥
-IsUsage outcomes.OutOfMemory = ⊥
-IsUsage (outcomes.Broken verdict) = ⊥
-
 -- those of a written text: a fault of writing and want of memory are none
 abbrev IsWritten : Outcome → Type 0
 IsWritten outcomes.Done = Unit {0}

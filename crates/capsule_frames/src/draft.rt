@@ -4,7 +4,9 @@ ghost use Rattle.std.specs.Prelude.{◌≡◌, ◌+◌, ◌≤◌, ◌++◌, ◌
 ghost use Rattle.field_text.specs.Readings.{Gives};
 ghost use Rattle.batch_plans.specs.Limits.{most_input};
 ghost use Rattle.request_frames.specs.KeyForms.{at_most};
-ghost use Rattle.capsule_frames.specs.Capsules.{has_place as place_of, empty, is_of as kind_test, count_of as count_in, with_rand as rand_of, with_key as key_of, with_capsule as capsule_of};
+ghost use Rattle.capsule_frames.specs.Capsules.{has_place as place_of, empty, is_of as kind_test};
+ghost use Rattle.capsule_frames.specs.Capsules.{count_of as count_in, with_rand as rand_of};
+ghost use Rattle.capsule_frames.specs.Capsules.{with_key as key_of, with_capsule as capsule_of};
 ghost use Rattle.capsule_frames.specs.Drafts.{plan_of, IsKept};
 
 use crate::lines::{CapsuleLine, CapsulePlan};

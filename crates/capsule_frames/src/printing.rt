@@ -6,7 +6,8 @@ ghost use Rattle.std.specs.Io.KnownBytes.{Appends};
 ghost use Rattle.batch_io.specs.Faults.{Rose};
 ghost use Rattle.field_text.specs.Printing.{AppendsPrefix, hex_text};
 ghost use Rattle.field_text.specs.Buffers.{Puts};
-ghost use Rattle.capsule_frames.specs.Text.{refusal_word, capsule_words, capsule_line, capsules_text};
+ghost use Rattle.capsule_frames.specs.Text.{refusal_word, capsule_words, capsule_line};
+ghost use Rattle.capsule_frames.specs.Text.{capsules_text};
 
 use crate::replies::{CapsuleRefusal, CapsuleReply};
 use batch_io::Sink;

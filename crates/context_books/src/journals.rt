@@ -1,13 +1,16 @@
 //! Laws of the journals of one context: which are legal, and how their items are answered.
 
-ghost use Rattle.std.specs.Prelude.{ℕ, ◌≡◌, ◌≢◌, ◌↔◌, ◌<◌, ◌+◌, ◌∷◌, ◌++◌, [], List, length, map, take, slice_get, Contains, Some, None};
+ghost use Rattle.std.specs.Prelude.{ℕ, ◌≡◌, ◌≢◌, ◌↔◌, ◌<◌, ◌+◌, ◌∷◌, ◌++◌, [], List, length, map};
+ghost use Rattle.std.specs.Prelude.{take, slice_get, Contains, Some, None};
 ghost use Rattle.std.specs.List.{range_with_len};
 ghost use Rattle.call_places.specs.declared.entries.Place.{Place};
 ghost use Rattle.call_places.specs.Orders.{IsBefore};
 ghost use Rattle.hpke_context.specs.Answers.{Cipher, Item, Seal, Unseal, answer, run};
-ghost use Rattle.context_books.specs.Batches.{Batch, Ask, ToSeal, ToOpen, items_in, item_of, lane_of, items_of, block, place, IsServed};
+ghost use Rattle.context_books.specs.Batches.{Batch, Ask, ToSeal, ToOpen, items_in, item_of};
+ghost use Rattle.context_books.specs.Batches.{lane_of, items_of, block, place, IsServed};
 ghost use Rattle.context_books.specs.Merging.{lane_places, MergesLanes};
-ghost use Rattle.context_books.specs.Legal.{Legal, OpensOn, due_after, number_of, replies, reply_of};
+ghost use Rattle.context_books.specs.Legal.{Legal, OpensOn, due_after, number_of, replies};
+ghost use Rattle.context_books.specs.Legal.{reply_of};
 ghost use Rattle.context_books.specs.Entries.{numbers_used, numbers_from};
 
 /// Along a journal the sequence numbers 0, 1, 2 and so on are used, each once: none is skipped, and

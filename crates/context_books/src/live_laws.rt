@@ -6,7 +6,8 @@ ghost use Rattle.context_books.specs.Batches.{Spot};
 ghost use Rattle.context_books.specs.Histories.{journals_of};
 ghost use Rattle.context_books.specs.Merging.{IsHistory};
 ghost use Rattle.context_books.specs.Live.{LegalTable, LiveHistory, LiveRun, run_of};
-ghost use Rattle.context_books.specs.LiveChecks.{asks_with_notes, with_table, TellActs, is_live_history};
+ghost use Rattle.context_books.specs.LiveChecks.{asks_with_notes, with_table, TellActs};
+ghost use Rattle.context_books.specs.LiveChecks.{is_live_history};
 ghost use Rattle.context_books.specs.Runs.{asks_of};
 
 /// The table is legal, and with the journals one history, exactly where all are one list of notes

@@ -6,7 +6,8 @@ ghost use Rattle.call_places.specs.declared.entries.Act.TheVariants.{Look, Retir
 ghost use Rattle.call_places.specs.Notes.{note_entry};
 ghost use Rattle.context_books.specs.Batches.{place};
 ghost use Rattle.context_books.specs.LiveChecks.{is_live_history};
-ghost use Rattle.context_books.specs.LiveRows.{told, added, looked, retired, sealed_and_opened, sealed_alone};
+ghost use Rattle.context_books.specs.LiveRows.{told, added, looked, retired, sealed_and_opened};
+ghost use Rattle.context_books.specs.LiveRows.{sealed_alone};
 
 /// Tables and journals as they may be: retired at the end, between the look and the opening that it
 /// serves, and before the look, which then finds nothing, so that nothing is opened.

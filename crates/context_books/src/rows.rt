@@ -9,7 +9,8 @@ ghost use Rattle.context_books.specs.Legal.{replies};
 ghost use Rattle.context_books.specs.Entries.{steps_from, numbers_from};
 ghost use Rattle.context_books.specs.Guesses.{missed, missed_in};
 ghost use Rattle.context_books.specs.Checks.{is_legal, is_legal_history, is_guessed};
-ghost use Rattle.context_books.specs.Rows.{toy, opening, two_lanes, two_openings, in_time, too_early, all_three, torn, stamped};
+ghost use Rattle.context_books.specs.Rows.{toy, opening, two_lanes, two_openings, in_time};
+ghost use Rattle.context_books.specs.Rows.{too_early, all_three, torn, stamped};
 
 /// Journals of the opening context: legal in both orders of the lanes, and not where a place is
 /// left out, stands twice, out of its lane's order, or inside the opening of two.

@@ -7,13 +7,13 @@ use Rattle.std.proofs.lemmas.List.FromFn.{length-map-range_with_len}
 use Rattle.call_places.specs.declared.entries.Place.{Place}
 use Rattle.hpke_context.specs.Answers.{Item}
 use Rattle.hpke_context.specs.Contexts.{ContextView}
-use Rattle.context_books.specs.Batches.{Batch, Ask, Nothing, ToSeal, ToOpen, ToOpenAll, Spot, item_of, item_in, item_in_call, context_in, lane_of, on, IsServed}
+use Rattle.context_books.specs.Batches.{item_in, item_in_call, lane_of, on, IsServed}
 use Rattle.context_books.specs.Legal.{Legal}
 use Rattle.context_books.specs.Guesses.{AllGuessed, Guessed, guess_at}
 use Rattle.context_books.specs.Histories.{journals_of}
 use Rattle.context_books.proofs.Members.{got, none_in, contains_in}
 use Rattle.context_core.specs.Core as core
-use Rattle.context_core.specs.Core.{Core, journal}
+use Rattle.context_core.specs.Core.{Core}
 use Rattle.context_core.proofs.Schedules.{journals_legal, lane_count, all_guessed, legal_together}
 use Rattle.batch_plans.specs.declared.plan.Plan.{Plan}
 use Rattle.batch_plans.specs.declared.plan.CallLine.{CallLine}

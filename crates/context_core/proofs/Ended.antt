@@ -17,7 +17,7 @@ use Rattle.context_books.proofs.Members.{got}
 use Rattle.context_books.proofs.Legals.{lane_is}
 use Rattle.context_books.proofs.HistoryJournals.{places-stamped_on}
 use Rattle.context_core.specs.Core as core
-use Rattle.context_core.specs.Core.{Core, Task, start, all_happen}
+use Rattle.context_core.specs.Core.{Core, start, all_happen}
 use Rattle.context_core.proofs.ScheduleEnds.{all_happen-append}
 use Rattle.context_core.specs.CoreStages.{Stage, Fresh, HasGuess, HasTests, HasPlaces, tasks_at}
 use Rattle.context_core.proofs.Schedules.{journals_legal, all_ended}

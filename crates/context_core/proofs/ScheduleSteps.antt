@@ -9,7 +9,7 @@ use Rattle.context_books.specs.Merging.{all_asked, own_spots}
 use Rattle.context_books.specs.Guesses.{guess_of}
 use Rattle.context_books.proofs.Lists.{own_spots-append, own_spots-asked, own_spots-asked_other, all_asked-append, append-nil, is_cases}
 use Rattle.context_core.specs.Core as core
-use Rattle.context_core.specs.Core.{Phase, Draw, Guess, Check, Commit, Finish, Task, tasks, all_tasks, Lane, Core, Moved, step, due_in, with_moved, happens_at, happens, all_happen, at_first, start}
+use Rattle.context_core.specs.Core.{Phase, Draw, Guess, Check, Commit, Finish, Task, all_tasks, Lane, Core, Moved, step, due_in, happens_at, happens, all_happen, at_first, start}
 use Rattle.context_core.proofs.ScheduleLists.{one_value, slice_get-set_same, slice_get-set_other}
 use Rattle.context_core.specs.CoreStages.{Stage, tasks_at, placed, Fresh, HasGuess, HasTests, HasPlaces}
 

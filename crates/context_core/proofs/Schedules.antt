@@ -1,5 +1,5 @@
 -- Every list of events ends in legal journals, one legal history, and guesses that may have been made.
-use Rattle.std.proofs.Common.{◌≡◌, ℕ, zero, suc, ◌+◌, ◌<◌, ◌≤◌, List, [], ◌∷◌, ◌++◌, length, take, map, sym, refl, ap, ◌∙◌, subst, arith, append_assoc, length-append, Option, Some, None, ◌⊎◌, inl, inr}
+use Rattle.std.proofs.Common.{◌≡◌, ℕ, zero, suc, ◌+◌, ◌<◌, List, [], ◌∷◌, ◌++◌, length, take, map, sym, refl, ap, ◌∙◌, subst, arith, append_assoc, length-append, Some, inl, inr}
 use Rattle.std.specs.Prelude.{slice_get, slice_index}
 use Rattle.std.proofs.lemmas.Bool.{cases_lt}
 use Rattle.std.proofs.lemmas.List.{get_or_past, get_or-append-add, length-map}
@@ -20,7 +20,7 @@ use Rattle.context_books.proofs.OneLane.{no_ask}
 use Rattle.context_books.proofs.Runs.{call_replies}
 use Rattle.context_books.proofs.HistoryJournals.{on_in, parts_legal, legal_history}
 use Rattle.context_core.specs.Core as core
-use Rattle.context_core.specs.Core.{Task, all_tasks, Lane, Core, journal, due_in, start, to_the_ends}
+use Rattle.context_core.specs.Core.{Task, Lane, Core, journal, start, to_the_ends}
 use Rattle.context_core.specs.Openings.{OpensInTurn}
 use Rattle.context_core.proofs.ScheduleSteps.{StandsIn, AllStand, LaneHolds, Holds, all_happen_keeps, start_holds}
 use Rattle.context_core.specs.CoreStages.{Stage, Fresh, HasGuess, HasTests, HasPlaces, tasks_at, placed}

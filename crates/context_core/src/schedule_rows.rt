@@ -4,7 +4,8 @@
 ghost use Rattle.std.specs.Prelude.{◌≡◌, ◌∷◌, []};
 ghost use Rattle.context_books.specs.Rows.{in_time, too_early, stamped};
 ghost use Rattle.context_core.specs.Core.{journal};
-ghost use Rattle.context_core.specs.ScheduleRows.{after, journals_after, guesses_after, seal_in_between, overtaking, lane_1_first};
+ghost use Rattle.context_core.specs.ScheduleRows.{after, journals_after, guesses_after};
+ghost use Rattle.context_core.specs.ScheduleRows.{seal_in_between, overtaking, lane_1_first};
 
 /// Without events lane 0 does all its steps, and then lane 1; so it is after events of lanes that
 /// are not there. A seal of lane 1 may come between lane 0's steps, but not inside its opening.

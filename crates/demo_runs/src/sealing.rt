@@ -5,7 +5,8 @@ ghost use Rattle.std.specs.List.{flat_map};
 ghost use Rattle.hpke_context.specs.Contexts.{ContextView};
 ghost use Rattle.batch_plans.specs.AnswersText.{reply_line};
 ghost use Rattle.demo_runs.specs.Demo.{sealed_at};
-ghost use Rattle.demo_runs.specs.Steps.{sealed_line, IsSealedReply, SealedLane, SealedLanes, AreLow, IsSealedLane, AreSealedLanes, put_all};
+ghost use Rattle.demo_runs.specs.Steps.{sealed_line, IsSealedReply, SealedLane, SealedLanes};
+ghost use Rattle.demo_runs.specs.Steps.{AreLow, IsSealedLane, AreSealedLanes, put_all};
 ghost use Rattle.demo_runs.specs.Batches.{IsSealed, is_generated, IsSealing, HasSealed};
 
 use crate::batches::{DemoBatch, ServedBatch, begin};

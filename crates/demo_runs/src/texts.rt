@@ -1,9 +1,11 @@
 //! The texts.
 
-ghost use Rattle.std.specs.Prelude.{◌≡◌, ◌<◌, ◌≤◌, ◌++◌, ◌*◌, List, ℕ, length, codes, string_bytes, IfOk, OnOk, if◌then◌else◌, []};
+ghost use Rattle.std.specs.Prelude.{◌≡◌, ◌<◌, ◌≤◌, ◌++◌, ◌*◌, List, ℕ, length, codes, string_bytes};
+ghost use Rattle.std.specs.Prelude.{IfOk, OnOk, if◌then◌else◌, []};
 ghost use Rattle.std.specs.List.{flat_map, range_with_len};
 ghost use Rattle.std.specs.Fork.{slice_chunk};
-ghost use Rattle.demo_runs.specs.Texts.{front_text, seal_line, sealing_text, sealing_lane, opening_text, opening_line, opening_size, item_text};
+ghost use Rattle.demo_runs.specs.Texts.{front_text, seal_line, sealing_text, sealing_lane};
+ghost use Rattle.demo_runs.specs.Texts.{opening_text, opening_line, opening_size, item_text};
 ghost use Rattle.demo_runs.specs.SetUp.{seed_bytes};
 ghost use Rattle.field_text.specs.Printing.{hex_text};
 

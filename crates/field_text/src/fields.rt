@@ -1,6 +1,7 @@
 //! One piece as a number, or as bytes.
 
-ghost use Rattle.std.specs.Prelude.{◌≡◌, ◌+◌, ◌*◌, ◌/◌, ◌%◌, ◌<◌, ◌≤◌, ◌^◌, ◌++◌, length, vec_len, true, false, take, min, IfOk, OnOk, OnErr, if◌then◌else◌};
+ghost use Rattle.std.specs.Prelude.{◌≡◌, ◌+◌, ◌*◌, ◌/◌, ◌%◌, ◌<◌, ◌≤◌, ◌^◌, ◌++◌, length, vec_len};
+ghost use Rattle.std.specs.Prelude.{true, false, take, min, IfOk, OnOk, OnErr, if◌then◌else◌};
 ghost use Rattle.std.specs.List.{list_all};
 ghost use Rattle.field_text.specs.Fields.{number, is_hex_digit, bytes};
 ghost use Rattle.field_text.specs.Readings.{Reads, Gives};

@@ -10,7 +10,8 @@
 //! digit (`digit_test`), and the pairs of values are the bytes that the crate `hex` decodes
 //! (`pairs_bytes`). What is behind the last whole block is read in the plain form.
 
-ghost use Rattle.std.specs.Prelude.{◌≡◌, ◌+◌, ◌*◌, ◌≤◌, ◌&&◌, ◌++◌, length, map, take, drop, true, false, IfSome, IfNone};
+ghost use Rattle.std.specs.Prelude.{◌≡◌, ◌+◌, ◌*◌, ◌≤◌, ◌&&◌, ◌++◌, length, map, take, drop, true};
+ghost use Rattle.std.specs.Prelude.{false, IfSome, IfNone};
 ghost use Rattle.std.specs.List.{list_all};
 ghost use Rattle.std.specs.Option.{SomeIff};
 ghost use Rattle.std.specs.Simd.Lanes.{chunk};

@@ -1,9 +1,11 @@
 //! Texts that are judged line by line, up to their line `end`.
 
-ghost use Rattle.std.specs.Prelude.{◌≡◌, ℕ, ◌+◌, ◌<◌, ◌≤◌, ◌^◌, length, sum_by, true, OnOk, IfOk, Some};
+ghost use Rattle.std.specs.Prelude.{◌≡◌, ℕ, ◌+◌, ◌<◌, ◌≤◌, ◌^◌, length, sum_by, true, OnOk, IfOk};
+ghost use Rattle.std.specs.Prelude.{Some};
 ghost use Rattle.field_text.specs.Cuts.{lines_of};
 ghost use Rattle.field_text.specs.Readings.{Reads, Gives, Finds};
-ghost use Rattle.field_text.specs.Lines.{Grammar, FrontText, line_after, with_word, judged, front, whole};
+ghost use Rattle.field_text.specs.Lines.{Grammar, FrontText, line_after, with_word, judged, front};
+ghost use Rattle.field_text.specs.Lines.{whole};
 
 use crate::cuts::cut_at;
 use crate::faults::{BadBatch, ReadBatchFault};

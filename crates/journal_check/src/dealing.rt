@@ -10,11 +10,14 @@
 //! history is dealt in the same way, once by lanes (`lanes_pass`) and once by contexts
 //! (`stamped_empty`).
 
-ghost use Rattle.std.specs.Prelude.{ℕ, ◌≡◌, ◌<◌, ◌++◌, ◌^◌, [], length, replicate, slice_index_or, IfOk, OnOk};
+ghost use Rattle.std.specs.Prelude.{ℕ, ◌≡◌, ◌<◌, ◌++◌, ◌^◌, [], length, replicate, slice_index_or};
+ghost use Rattle.std.specs.Prelude.{IfOk, OnOk};
 ghost use Rattle.context_books.specs.Batches.{spots as spots_of};
 ghost use Rattle.context_books.specs.Histories.{places, marks_at, journals_of};
 ghost use Rattle.journal_check.specs.Asks.{AreFew, batch_from};
-ghost use Rattle.journal_check.specs.Piles.{by_context, joined, spots_told as spots_told_of, in_lanes, lanes_told, lanes_asked as lanes_asked_of, asked_on};
+ghost use Rattle.journal_check.specs.Piles.{by_context, joined, spots_told as spots_told_of};
+ghost use Rattle.journal_check.specs.Piles.{in_lanes, lanes_told, lanes_asked as lanes_asked_of};
+ghost use Rattle.journal_check.specs.Piles.{asked_on};
 
 use crate::asks::Asked;
 use crate::piles::{Pile, empty_piles, put};

@@ -1,6 +1,7 @@
 //! Guesses.
 
-ghost use Rattle.std.specs.Prelude.{ℕ, ◌≡◌, ◌≢◌, ◌≤◌, ◌<◌, ◌+◌, ◌∷◌, ◌++◌, List, None, length, map, slice_index, All, IfOk, OnOk};
+ghost use Rattle.std.specs.Prelude.{ℕ, ◌≡◌, ◌≢◌, ◌≤◌, ◌<◌, ◌+◌, ◌∷◌, ◌++◌, List, None, length, map};
+ghost use Rattle.std.specs.Prelude.{slice_index, All, IfOk, OnOk};
 ghost use Rattle.call_places.specs.declared.entries.Place.{Place};
 ghost use Rattle.context_books.specs.Guesses.{is_in_window as is_in_window_of, missed as missed_of};
 ghost use Rattle.context_books.specs.Histories.{marks_at};
@@ -9,9 +10,13 @@ ghost use Rattle.batch_plans.specs.declared.plan.CallLine.{CallLine};
 ghost use Rattle.context_books.specs.Standing.{call_refusal};
 ghost use Rattle.context_books.specs.Asks.{ask_of};
 ghost use Rattle.context_books.specs.Runs.{journal_of};
-ghost use Rattle.result_lines.specs.Guesses.{is_right as is_right_of, wrong_guess as wrong_guess_of, wrong_guesses as wrong_guesses_of};
-ghost use Rattle.journal_check.specs.Passing.{is_right_by, due_at, Reaches, AllReach, is_opening as is_opening_of};
-ghost use Rattle.journal_check.specs.Walks.{IsRun, PointsTo, MayHave, Stands, run_in, calls_of, left_in};
+ghost use Rattle.result_lines.specs.Guesses.{is_right as is_right_of};
+ghost use Rattle.result_lines.specs.Guesses.{wrong_guess as wrong_guess_of};
+ghost use Rattle.result_lines.specs.Guesses.{wrong_guesses as wrong_guesses_of};
+ghost use Rattle.journal_check.specs.Passing.{is_right_by, due_at, Reaches, AllReach};
+ghost use Rattle.journal_check.specs.Passing.{is_opening as is_opening_of};
+ghost use Rattle.journal_check.specs.Walks.{IsRun, PointsTo, MayHave, Stands, run_in, calls_of};
+ghost use Rattle.journal_check.specs.Walks.{left_in};
 
 use crate::asks::asked_of;
 use crate::lane_walks::{CheckedRun, Walk};

@@ -3,7 +3,8 @@
 ghost use Rattle.std.specs.Prelude.{◌≡◌, ◌<◌, ◌^◌, ◌+◌, length, map, IfOk, OnOk};
 ghost use Rattle.std.specs.List.{list_all, range_with_len};
 ghost use Rattle.context_books.specs.Histories.{all_stamps, journals_of};
-ghost use Rattle.context_books.specs.Checks.{are_same, is_same_mark, is_history as is_history_of, is_legal_history, has_lane_spots};
+ghost use Rattle.context_books.specs.Checks.{are_same, is_same_mark, is_history as is_history_of};
+ghost use Rattle.context_books.specs.Checks.{is_legal_history, has_lane_spots};
 ghost use Rattle.batch_plans.specs.Within.{IsWithinLimits};
 ghost use Rattle.context_books.specs.Asks.{batch_of};
 ghost use Rattle.journal_check.specs.Asks.{AreFew, batch_from};

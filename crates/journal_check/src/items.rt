@@ -7,7 +7,8 @@ ghost use Rattle.batch_plans.specs.Limits.{most_ciphertext};
 ghost use Rattle.batch_plans.specs.Within.{IsWithinLimits};
 ghost use Rattle.call_places.specs.Spans.{IsInPool, span_bytes};
 ghost use Rattle.context_books.specs.Runs.{answer_line};
-ghost use Rattle.journal_check.specs.Runs.{asks_in, asked_at as asked_at_of, item_view, CanDo, IsAskedIn, OpensWithin};
+ghost use Rattle.journal_check.specs.Runs.{asks_in, asked_at as asked_at_of, item_view, CanDo};
+ghost use Rattle.journal_check.specs.Runs.{IsAskedIn, OpensWithin};
 
 use aes_gcm::Checks;
 use batch_plans::{CallLine, Plan, Reply, items_from};

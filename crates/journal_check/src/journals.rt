@@ -1,14 +1,19 @@
 //! Journals by themselves.
 
-ghost use Rattle.std.specs.Prelude.{ℕ, ◌≡◌, ◌<◌, ◌^◌, ◌&&◌, ◌||◌, ◌+◌, ◌==◌, not, nat_lt, [], length, map, slice_index_or, IfOk};
+ghost use Rattle.std.specs.Prelude.{ℕ, ◌≡◌, ◌<◌, ◌^◌, ◌&&◌, ◌||◌, ◌+◌, ◌==◌, not, nat_lt, []};
+ghost use Rattle.std.specs.Prelude.{length, map, slice_index_or, IfOk};
 ghost use Rattle.std.specs.List.{list_all};
 ghost use Rattle.batch_plans.specs.Within.{IsWithinLimits};
 ghost use Rattle.context_books.specs.Batches.{Batch, place as place_of};
 ghost use Rattle.context_books.specs.Legal.{is_same_place};
 ghost use Rattle.context_books.specs.Histories.{places as places_in, marks_at};
-ghost use Rattle.context_books.specs.Checks.{has_lanes as has_lanes_of, is_unbroken as is_unbroken_of, is_legal as is_legal_of};
+ghost use Rattle.context_books.specs.Checks.{has_lanes as has_lanes_of};
+ghost use Rattle.context_books.specs.Checks.{is_unbroken as is_unbroken_of};
+ghost use Rattle.context_books.specs.Checks.{is_legal as is_legal_of};
 ghost use Rattle.context_books.specs.Asks.{batch_of};
-ghost use Rattle.result_lines.specs.Journals.{stamps_rise as stamps_rise_of, is_journal as is_journal_of, broken_journal as broken_journal_of};
+ghost use Rattle.result_lines.specs.Journals.{stamps_rise as stamps_rise_of};
+ghost use Rattle.result_lines.specs.Journals.{is_journal as is_journal_of};
+ghost use Rattle.result_lines.specs.Journals.{broken_journal as broken_journal_of};
 ghost use Rattle.journal_check.specs.Asks.{AreFew, batch_from};
 ghost use Rattle.journal_check.specs.Piles.{in_lanes, asked_on};
 

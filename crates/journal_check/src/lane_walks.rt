@@ -1,6 +1,7 @@
 //! A lane that is walked beside the journals: its places are found in them one after another.
 
-ghost use Rattle.std.specs.Prelude.{ℕ, ◌≡◌, ◌≢◌, ◌<◌, ◌+◌, ◌^◌, ◌∷◌, [], length, drop, slice_get, slice_index, IfSome, IfNone, IfOk};
+ghost use Rattle.std.specs.Prelude.{ℕ, ◌≡◌, ◌≢◌, ◌<◌, ◌+◌, ◌^◌, ◌∷◌, [], length, drop, slice_get};
+ghost use Rattle.std.specs.Prelude.{slice_index, IfSome, IfNone, IfOk};
 ghost use Rattle.call_places.specs.declared.entries.Mark.{Mark};
 ghost use Rattle.context_books.specs.Batches.{own_places};
 ghost use Rattle.context_books.specs.Histories.{places, marks_at};

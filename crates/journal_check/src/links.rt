@@ -7,7 +7,8 @@
 //! `link_firsts` and `link_next` (proofs/Linked.antt) say so of the links. They are made from the end
 //! of a journal to its start, with the first place of each lane: one number a lane and a journal.
 
-ghost use Rattle.std.specs.Prelude.{ℕ, ◌≡◌, ◌≤◌, ◌<◌, ◌+◌, ◌-◌, List, Some, length, drop, slice_get, slice_set, IfOk};
+ghost use Rattle.std.specs.Prelude.{ℕ, ◌≡◌, ◌≤◌, ◌<◌, ◌+◌, ◌-◌, List, Some, length, drop};
+ghost use Rattle.std.specs.Prelude.{slice_get, slice_set, IfOk};
 ghost use Rattle.call_places.specs.declared.entries.Mark.{Mark};
 ghost use Rattle.context_books.specs.Batches.{own_places};
 ghost use Rattle.context_books.specs.Histories.{places};

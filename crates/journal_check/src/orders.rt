@@ -9,7 +9,8 @@ ghost use Rattle.context_books.specs.LiveChecks.{is_live_history as is_live_hist
 ghost use Rattle.result_lines.specs.declared.verdicts.Verdict.{Verdict};
 ghost use Rattle.result_lines.specs.Journals.{is_one_history as is_one_history_of};
 ghost use Rattle.result_lines.specs.LiveVerdicts.{called as called_of};
-ghost use Rattle.journal_check.specs.Served.{IsServed, IsServedBy, table_along, stamps_by, named_by, by_order};
+ghost use Rattle.journal_check.specs.Served.{IsServed, IsServedBy, table_along, stamps_by};
+ghost use Rattle.journal_check.specs.Served.{named_by, by_order};
 ghost use Rattle.result_lines.specs.Computed.{by_stamps, or_later, is_table as is_table_of, by_table};
 
 use crate::histories::is_one_history;

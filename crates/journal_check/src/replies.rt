@@ -1,6 +1,8 @@
 //! The replies to calls.
 
-ghost use Rattle.std.specs.Prelude.{ℕ, ◌≡◌, ◌≢◌, ◌≤◌, ◌<◌, ◌+◌, ◌∷◌, ◌++◌, ◌^◌, [], List, None, length, map, slice_index, slice_index_or, false, All, IfOk, OnOk};
+ghost use Rattle.std.specs.Prelude.{ℕ, ◌≡◌, ◌≢◌, ◌≤◌, ◌<◌, ◌+◌, ◌∷◌, ◌++◌, ◌^◌, [], List, None};
+ghost use Rattle.std.specs.Prelude.{length, map, slice_index, slice_index_or, false, All, IfOk};
+ghost use Rattle.std.specs.Prelude.{OnOk};
 ghost use Rattle.call_places.specs.declared.entries.Place.{Place};
 ghost use Rattle.call_places.specs.Spans.{IsInPool, span_bytes};
 ghost use Rattle.hpke_context.specs.Contexts.{export_limit, exported_by};
@@ -12,7 +14,8 @@ ghost use Rattle.context_books.specs.Standing.{standing_at, call_refusal};
 ghost use Rattle.context_books.specs.Runs.{place_line, export_line as export_line_of, item_lines};
 ghost use Rattle.result_lines.specs.Replies.{wrong_reply as wrong_reply_of};
 ghost use Rattle.journal_check.specs.Served.{due_by, lane_due, all_due, AreLives};
-ghost use Rattle.journal_check.specs.Walks.{Holds, IsRun, PointsTo, MayHave, Stands, run_in, calls_of, left_in};
+ghost use Rattle.journal_check.specs.Walks.{Holds, IsRun, PointsTo, MayHave, Stands, run_in};
+ghost use Rattle.journal_check.specs.Walks.{calls_of, left_in};
 
 use crate::asks::asked_of;
 use crate::items::all_of;

@@ -10,7 +10,8 @@ ghost use Rattle.context_books.specs.Lists.{In};
 ghost use Rattle.batch_plans.specs.Within.{IsWithinLimits};
 ghost use Rattle.context_books.specs.Standing.{standing_at};
 ghost use Rattle.context_books.specs.Runs.{answer_line};
-ghost use Rattle.journal_check.specs.Runs.{asked_at as asked_at_of, items_at, IsFor, IsRunOf, AreRuns, AreFor};
+ghost use Rattle.journal_check.specs.Runs.{asked_at as asked_at_of, items_at, IsFor, IsRunOf};
+ghost use Rattle.journal_check.specs.Runs.{AreRuns, AreFor};
 
 use crate::items::{Asked, answer, asked_at};
 use aes_gcm::{Checks, MayCheck};

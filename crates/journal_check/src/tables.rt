@@ -11,10 +11,12 @@ ghost use Rattle.batch_plans.specs.Limits.{most_contexts};
 ghost use Rattle.batch_plans.specs.Within.{IsWithinLimits};
 ghost use Rattle.batch_plans.specs.Names.{line_count};
 ghost use Rattle.context_books.specs.Live.{noting as noting_of};
-ghost use Rattle.context_books.specs.LiveChecks.{note_ask, note_mark, call_mark, is_live_history as is_live_history_of};
+ghost use Rattle.context_books.specs.LiveChecks.{note_ask, note_mark, call_mark};
+ghost use Rattle.context_books.specs.LiveChecks.{is_live_history as is_live_history_of};
 ghost use Rattle.result_lines.specs.Journals.{is_journal as is_journal_of};
 ghost use Rattle.journal_check.specs.Asks.{size_of as size_of_ask, AreFew, batch_from};
-ghost use Rattle.journal_check.specs.Tables.{pairs_by, all_pairs_by, lane_lengths, is_low, is_low_note, are_low, with_marks};
+ghost use Rattle.journal_check.specs.Tables.{pairs_by, all_pairs_by, lane_lengths, is_low};
+ghost use Rattle.journal_check.specs.Tables.{is_low_note, are_low, with_marks};
 ghost use Rattle.journal_check.specs.Served.{IsServedBy, table_along};
 ghost use Rattle.result_lines.specs.Computed.{is_table as is_table_of};
 

@@ -21,7 +21,7 @@ use Rattle.batch_plans.specs.Limits.{items_of}
 use Rattle.batch_plans.specs.Room.{lane_room}
 use Rattle.batch_plans.specs.Progress.{begun}
 use Rattle.batch_plans.proofs.Rooms.{lane_within}
-use Rattle.batch_plans.specs.AnswersText.{answered_lines, calls_lines}
+use Rattle.batch_plans.specs.AnswersText.{calls_lines}
 use Rattle.context_books.specs.ContextLines.{export_limits}
 use Rattle.context_books.specs.Asks.{ask_of, batch_of, cipher_at}
 use Rattle.context_books.proofs.Done.{lane_asks}

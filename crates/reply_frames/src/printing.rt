@@ -9,7 +9,9 @@ ghost use Rattle.field_text.specs.Printing.{AppendsPrefix};
 ghost use Rattle.field_text.specs.Buffers.{Puts};
 ghost use Rattle.batch_plans.specs.Lines.{context_line};
 ghost use Rattle.batch_plans.specs.AnswersText.{reply_line, answers_text, IsAnswered};
-ghost use Rattle.batch_plans.specs.ReplyText.{numbered, all_lines, setup_text, version_line, lane_lines, has_stamps, mark_line, journal_lines, bad_text};
+ghost use Rattle.batch_plans.specs.ReplyText.{numbered, all_lines, setup_text, version_line};
+ghost use Rattle.batch_plans.specs.ReplyText.{lane_lines, has_stamps, mark_line, journal_lines};
+ghost use Rattle.batch_plans.specs.ReplyText.{bad_text};
 ghost use Rattle.reply_frames.specs.LineParts.{lines_by, lanes_by, marks_behind};
 
 use crate::given_replies::put_given_calls;

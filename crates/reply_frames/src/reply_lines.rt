@@ -4,7 +4,8 @@ ghost use Rattle.std.specs.Prelude.{◌≡◌, ◌++◌, length, codes, decimal}
 ghost use Rattle.batch_plans.specs.Replies.{IsInRange};
 ghost use Rattle.call_places.specs.Spans.{span_bytes};
 ghost use Rattle.field_text.specs.Buffers.{Puts};
-ghost use Rattle.batch_plans.specs.Lines.{context_words, context_line, served_line, exported_line, refused_line};
+ghost use Rattle.batch_plans.specs.Lines.{context_words, context_line, served_line, exported_line};
+ghost use Rattle.batch_plans.specs.Lines.{refused_line};
 ghost use Rattle.batch_plans.specs.AnswersText.{reply_line, guess_line};
 ghost use Rattle.batch_plans.specs.ReplyText.{stamp_words, mark_line, bad_text};
 ghost use Rattle.batch_plans.specs.LiveText.{tells_live as live_test, bit as bit_of, note_line};

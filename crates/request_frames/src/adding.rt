@@ -1,10 +1,14 @@
 //! What each line adds to the plan of the lines so far.
 
-ghost use Rattle.std.specs.Prelude.{◌≡◌, ◌+◌, ◌<◌, ◌≤◌, ◌^◌, ◌++◌, [], ◌∷◌, length, vec_len, sum_by, OnOk, true};
+ghost use Rattle.std.specs.Prelude.{◌≡◌, ◌+◌, ◌<◌, ◌≤◌, ◌^◌, ◌++◌, [], ◌∷◌, length, vec_len};
+ghost use Rattle.std.specs.Prelude.{sum_by, OnOk, true};
 ghost use Rattle.field_text.specs.Readings.{Gives};
 ghost use Rattle.batch_plans.specs.Limits.{most_input, items_of};
 ghost use Rattle.request_frames.specs.KeyForms.{at_most};
-ghost use Rattle.request_frames.specs.Batch.{counted as counted_of, with_rand as rand_of, with_key as key_of, with_context as context_of, with_lane as lane_of, with_call as call_of, with_line as line_of, may_stand};
+ghost use Rattle.request_frames.specs.Batch.{counted as counted_of, with_rand as rand_of};
+ghost use Rattle.request_frames.specs.Batch.{with_key as key_of, with_context as context_of};
+ghost use Rattle.request_frames.specs.Batch.{with_lane as lane_of, with_call as call_of};
+ghost use Rattle.request_frames.specs.Batch.{with_line as line_of, may_stand};
 ghost use Rattle.request_frames.specs.Firsts.{with_first};
 ghost use Rattle.request_frames.specs.Added.{with_added as added_of, with_retired as retired_of};
 ghost use Rattle.request_frames.specs.Drafts.{plan_of, pool_size, IsKept};

@@ -2,7 +2,10 @@
 
 ghost use Rattle.std.specs.Prelude.{◌≡◌, ◌+◌, ◌<◌, ◌≤◌, ◌^◌, ◌%◌, [], length, vec_len, sum_by, OnOk, IfOk};
 ghost use Rattle.field_text.specs.Readings.{Gives, Reads};
-ghost use Rattle.request_frames.specs.Forms.{item as item_of, one_item as one_item_of, seal as seal_of, unseal as unseal_of, export as export_of, pairs as pairs_of, one_and_pairs as one_and_pairs_of};
+ghost use Rattle.request_frames.specs.Forms.{item as item_of, one_item as one_item_of};
+ghost use Rattle.request_frames.specs.Forms.{seal as seal_of, unseal as unseal_of};
+ghost use Rattle.request_frames.specs.Forms.{export as export_of, pairs as pairs_of};
+ghost use Rattle.request_frames.specs.Forms.{one_and_pairs as one_and_pairs_of};
 ghost use Rattle.batch_plans.specs.Limits.{most_opening};
 ghost use Rattle.request_frames.specs.Firsts.{first_items, unseal_first};
 

@@ -1,7 +1,8 @@
 //! The plan of the lines so far.
 
 ghost use Rattle.std.specs.Prelude.{◌≡◌, nat_lt, length, IfOk};
-ghost use Rattle.request_frames.specs.Batch.{has_place as place_of, may_stand as may_stand_at, empty_plan};
+ghost use Rattle.request_frames.specs.Batch.{has_place as place_of, may_stand as may_stand_at};
+ghost use Rattle.request_frames.specs.Batch.{empty_plan};
 ghost use Rattle.request_frames.specs.Drafts.{plan_of, IsKept};
 
 use crate::open_lanes::OpenLanes;

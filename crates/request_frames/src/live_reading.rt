@@ -9,7 +9,8 @@ ghost use Rattle.batch_plans.specs.Within.{IsWithinLimits};
 ghost use Rattle.request_frames.specs.LivePlans.{IsLive};
 ghost use Rattle.request_frames.specs.Batch.{refusal, no_memory};
 ghost use Rattle.request_frames.specs.PlanText.{text_of};
-ghost use Rattle.request_frames.specs.Live.{Spells, BadAt, live, BeginsWith, FrontBadAt, front_live};
+ghost use Rattle.request_frames.specs.Live.{Spells, BadAt, live, BeginsWith, FrontBadAt};
+ghost use Rattle.request_frames.specs.Live.{front_live};
 
 use crate::live_draft::LiveDraft;
 use batch_plans::Plan;

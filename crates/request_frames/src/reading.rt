@@ -4,7 +4,8 @@ ghost use Rattle.std.specs.Prelude.{◌≡◌, ◌≢◌, ℕ, ◌⊎◌, ◌≤
 ghost use Rattle.field_text.specs.declared.reasons.Reason.{Reason};
 ghost use Rattle.field_text.specs.Readings.{Finds};
 ghost use Rattle.batch_plans.specs.declared.plan.Plan.{Plan};
-ghost use Rattle.request_frames.specs.Batch.{Spells, BadAt, batch, refusal, no_memory, BeginsWith, FrontBadAt, front_batch};
+ghost use Rattle.request_frames.specs.Batch.{Spells, BadAt, batch, refusal, no_memory, BeginsWith};
+ghost use Rattle.request_frames.specs.Batch.{FrontBadAt, front_batch};
 ghost use Rattle.batch_plans.specs.Limits.{most_input};
 ghost use Rattle.batch_plans.specs.Within.{IsWithinLimits, IsPlain};
 

@@ -4,7 +4,9 @@ ghost use Rattle.std.specs.Prelude.{◌≡◌, ◌+◌, ◌++◌, ◌≤◌, len
 ghost use Rattle.std.specs.Str.{bytes_eq};
 ghost use Rattle.field_text.specs.Fields.{next};
 ghost use Rattle.field_text.specs.Readings.{Reads};
-ghost use Rattle.request_frames.specs.Words.{set_up_words, lane_words, word_among, draws, line_word as line_word_of, role as role_of, mode as mode_of, aead as aead_field};
+ghost use Rattle.request_frames.specs.Words.{set_up_words, lane_words, word_among, draws};
+ghost use Rattle.request_frames.specs.Words.{line_word as line_word_of, role as role_of};
+ghost use Rattle.request_frames.specs.Words.{mode as mode_of, aead as aead_field};
 
 use crate::key_words::KeyWord;
 use batch_plans::KeySet;

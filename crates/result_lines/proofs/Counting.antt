@@ -28,7 +28,6 @@ use Rattle.batch_plans.specs.declared.plan.CallLine.{CallLine}
 use Rattle.batch_plans.specs.declared.plan.CallLine.TheVariants as calls
 use Rattle.batch_plans.specs.declared.replies.CallRefusal.{CallRefusal}
 use Rattle.batch_plans.specs.Limits as limits
-use Rattle.batch_plans.specs.Limits.{items_from, most_opening}
 use Rattle.batch_plans.specs.Within.{IsWithinLimits}
 use Rattle.context_books.specs.Standing.{call_refusal}
 use Rattle.context_books.specs.Asks.{asked_by, ask_unless, ask_of, batch_of}

@@ -29,7 +29,7 @@ use Rattle.context_books.specs.Runs.{Run, asks_of, journal_of, guesses_of, IsAll
 use Rattle.context_books.proofs.Done.{lane_asks}
 use Rattle.result_lines.specs.declared.told.GuessLine.{GuessLine}
 use Rattle.result_lines.specs.Told.{ToldView, told_by}
-use Rattle.result_lines.specs.Printed.{told_lanes, told_text, lines_told, guesses_told, AreComplete, IsLine, IsGuessWithin, IsMarkWithin, IsTextOf, IsReadBack}
+use Rattle.result_lines.specs.Printed.{told_lanes, told_text, lines_told, IsLine, IsGuessWithin}
 use Rattle.result_lines.specs.Printed as printed
 use Rattle.result_lines.specs.PrintedLive.{IsReply}
 use Rattle.result_lines.proofs.Growing.{batches}

@@ -5,7 +5,7 @@ use Rattle.field_text.specs.declared.reasons.Reason.{Reason}
 use Rattle.field_text.specs.Cuts.{lines_of, pieces_of}
 use Rattle.field_text.proofs.Cutting.{some_piece}
 use Rattle.field_text.specs.Fields as fields
-use Rattle.field_text.specs.Fields.{◌>>=◌, number, next, exactly}
+use Rattle.field_text.specs.Fields.{◌>>=◌, number, next}
 use Rattle.batch_plans.specs.LiveText.{bit, tells_live, note_line}
 use Rattle.result_lines.specs.declared.stamps.Stamps.TheVariants.{PlacesAndNotes}
 use Rattle.result_lines.specs.declared.tables.NoteLine.{NoteLine}

@@ -13,9 +13,11 @@ ghost use Rattle.batch_plans.specs.ReplyText.{has_stamps};
 ghost use Rattle.context_books.specs.Live.{looked_up_plan};
 ghost use Rattle.result_lines.specs.declared.stamps.Stamps.TheVariants.{PlacesAndNotes};
 ghost use Rattle.result_lines.specs.Told.{ToldView, told_by};
-ghost use Rattle.result_lines.specs.Printed.{AreComplete, IsLine, IsGuessWithin, IsMarkWithin, IsTextOf, IsReadBack, IsPlaceWithin};
+ghost use Rattle.result_lines.specs.Printed.{AreComplete, IsLine, IsGuessWithin, IsMarkWithin};
+ghost use Rattle.result_lines.specs.Printed.{IsTextOf, IsReadBack, IsPlaceWithin};
 ghost use Rattle.result_lines.specs.ToldLive.{told_live_by};
-ghost use Rattle.result_lines.specs.PrintedLive.{IsReply, IsNoteWithin, IsLiveTextOf, IsLiveReadBack};
+ghost use Rattle.result_lines.specs.PrintedLive.{IsReply, IsNoteWithin, IsLiveTextOf};
+ghost use Rattle.result_lines.specs.PrintedLive.{IsLiveReadBack};
 
 /// A text that is read as a result is the text of what it tells, and tells all that it has to.
 pub fn what_is_read_is_the_text()

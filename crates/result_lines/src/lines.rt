@@ -3,7 +3,8 @@
 ghost use Rattle.std.specs.Prelude.{◌≡◌, ◌≤◌, ◌+◌, ◌<◌, Some, None, IfSome, IfNone, IfOk, length, take};
 ghost use Rattle.std.specs.Str.{bytes_eq};
 ghost use Rattle.batch_plans.specs.Limits.{most_input};
-ghost use Rattle.result_lines.specs.Places.{all_of, next_line, with_feed, line_due, guess_from, marks_of, ended};
+ghost use Rattle.result_lines.specs.Places.{all_of, next_line, with_feed, line_due, guess_from};
+ghost use Rattle.result_lines.specs.Places.{marks_of, ended};
 ghost use Rattle.result_lines.specs.Readings.{mark_at, Tells};
 
 use crate::forms::{read_guess, read_mark};

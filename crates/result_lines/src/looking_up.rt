@@ -1,6 +1,7 @@
 //! The calls of a plan as they were served, by the notes of its table.
 
-ghost use Rattle.std.specs.Prelude.{◌≡◌, ◌<◌, ℕ, ◌==◌, ◌||◌, ◌&&◌, nat_lt, false, length, if◌then◌else◌, slice_index_or, IfOk};
+ghost use Rattle.std.specs.Prelude.{◌≡◌, ◌<◌, ℕ, ◌==◌, ◌||◌, ◌&&◌, nat_lt, false, length};
+ghost use Rattle.std.specs.Prelude.{if◌then◌else◌, slice_index_or, IfOk};
 ghost use Rattle.context_books.specs.Batches.{place};
 ghost use Rattle.context_books.specs.Legal.{is_same_place};
 ghost use Rattle.batch_plans.specs.LiveText.{tells_live as tells_live_of};

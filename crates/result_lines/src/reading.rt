@@ -6,7 +6,8 @@ ghost use Rattle.batch_plans.specs.ReplyText.{numbered, has_stamps};
 ghost use Rattle.batch_plans.specs.Lines.{key_line as key_line_of, context_line as context_line_of};
 ghost use Rattle.result_lines.specs.Forms.{stamps_for};
 ghost use Rattle.result_lines.specs.Readings.{Tells};
-ghost use Rattle.result_lines.specs.Told.{with_lines, with_setup, with_lanes, with_journals, nothing_yet, told_by};
+ghost use Rattle.result_lines.specs.Told.{with_lines, with_setup, with_lanes, with_journals};
+ghost use Rattle.result_lines.specs.Told.{nothing_yet, told_by};
 
 use crate::stamps::Stamps;
 use crate::stop::Stop;

@@ -1,12 +1,16 @@
 //! The table of a result whose lanes add and retire contexts.
 
-ghost use Rattle.std.specs.Prelude.{◌≡◌, ◌+◌, Some, None, [], length, map, take, slice_get, slice_index_or, MatchOption, IfSome, IfNone, IfOk};
+ghost use Rattle.std.specs.Prelude.{◌≡◌, ◌+◌, Some, None, [], length, map, take, slice_get};
+ghost use Rattle.std.specs.Prelude.{slice_index_or, MatchOption, IfSome, IfNone, IfOk};
 ghost use Rattle.batch_plans.specs.Within.{IsWithinLimits};
 ghost use Rattle.batch_plans.specs.Names.{line_count};
 ghost use Rattle.context_books.specs.Standing.{standing_at};
-ghost use Rattle.context_books.specs.Live.{noting_of as noting_of_name, looking as looking_of, adding as adding_of, noting as noting_of_call};
+ghost use Rattle.context_books.specs.Live.{noting_of as noting_of_name, looking as looking_of};
+ghost use Rattle.context_books.specs.Live.{adding as adding_of, noting as noting_of_call};
 ghost use Rattle.field_text.specs.Cuts.{lines_of};
-ghost use Rattle.result_lines.specs.Tables.{notes_from, notes_behind, entry_by as entry_of_noting, noting_at as noting_at_place, entry_of as entry_of_note, table_told};
+ghost use Rattle.result_lines.specs.Tables.{notes_from, notes_behind, entry_by as entry_of_noting};
+ghost use Rattle.result_lines.specs.Tables.{noting_at as noting_at_place};
+ghost use Rattle.result_lines.specs.Tables.{entry_of as entry_of_note, table_told};
 
 use crate::forms::read_note;
 use batch_plans::{CallLine, EntryList, FIRST_NAME, PlainList, Plan};

@@ -3,7 +3,9 @@
 ghost use Rattle.std.specs.Prelude.{◌≡◌, ◌≤◌, ◌++◌, ◌∷◌, [], codes, decimal, length, OnOk, IfErr};
 ghost use Rattle.result_lines.specs.declared.stop.Stop.TheVariants.{OutOfMemory};
 ghost use Rattle.result_lines.specs.Readings.{Tells};
-ghost use Rattle.result_lines.specs.Told.{nothing_yet, with_line, with_reply, with_replies, with_guess, with_served, with_call, with_calls, lane_ended, with_lane, with_journal, with_end};
+ghost use Rattle.result_lines.specs.Told.{nothing_yet, with_line, with_reply, with_replies};
+ghost use Rattle.result_lines.specs.Told.{with_guess, with_served, with_call, with_calls};
+ghost use Rattle.result_lines.specs.Told.{lane_ended, with_lane, with_journal, with_end};
 ghost use Rattle.result_lines.specs.ToldLive.{with_added_journal};
 ghost use Rattle.batch_plans.specs.Limits.{most_input};
 

@@ -2,7 +2,8 @@
 
 ghost use Rattle.std.specs.Prelude.{◌≡◌, ◌≤◌, All};
 ghost use Rattle.batch_plans.specs.Limits.{most_field};
-ghost use Rattle.batch_plans.specs.Within.{IsField, IsKeyWithin, IsEncWithin, IsKindWithin, IsContextWithin, IsWithinLimits};
+ghost use Rattle.batch_plans.specs.Within.{IsField, IsKeyWithin, IsEncWithin, IsKindWithin};
+ghost use Rattle.batch_plans.specs.Within.{IsContextWithin, IsWithinLimits};
 
 use batch_plans::{ContextKind, ContextLine, EncField, KeyLine, PlainList, Plan};
 use call_places::Span;

@@ -1,4 +1,4 @@
-use Rattle.std.proofs.Common.{◌≡◌, List, Option, Some, sym, ◌∙◌, subst}
+use Rattle.std.proofs.Common.{◌≡◌, Option, Some, sym, ◌∙◌, subst}
 use Rattle.turn_lock.specs.Passes.{PassListView, fresh_from}
 use Rattle.lane_workers.specs.Handing.{Takes}
 use Rattle.lane_workers.proofs.Handing.{take_first}
