@@ -13,6 +13,7 @@ use Rattle.lane_workers.specs.Groups.{IsServed, Each, EachServed, AllServed}
 use Rattle.context_books.specs.LaneCalls.{lane_calls}
 use Rattle.lane_workers.specs.Lanes.{AreShared, LaneIsAt}
 use Rattle.lane_workers.specs.Turns.{views}
+use Rattle.batch_plans.specs.declared.replies.Answers.{Answers}
 use Rattle.shared_runs.specs.declared.begun_run.BegunRun.{BegunRun}
 use Rattle.shared_runs.specs.declared.tables.Table.{Table}
 use Rattle.shared_runs.specs.BegunRuns.{IsBegun}
@@ -113,9 +114,12 @@ are_done t counter n olds news ready served =
 -- ---- a run that is begun
 
 -- whatever lanes it has
-pub still_begun : {L : Type 0} (plan : Plan) (old new : BegunRun L)
-    → new ≡ record old { lanes = new.lanes } → IsBegun plan old → IsBegun plan new
-still_begun plan old new same b = subst (IsBegun plan) (sym same) (record {
+pub still_begun : {L : Type 0} (answers : Answers) (old new : BegunRun L)
+    → new ≡ record old { lanes = new.lanes } → IsBegun answers old → IsBegun answers new
+still_begun answers old new same b = subst (IsBegun answers) (sym same) (record {
+  keys = b.keys;
+  contexts = b.contexts;
+  journals = b.journals;
   no_answers = b.no_answers;
   answers_room = b.answers_room;
   no_books = b.no_books;

@@ -54,8 +54,14 @@ impl RunsLanes for Table<'_> {
         answers
     }
 
-    fn close(self, left: Left, books: &mut Vec<Option<Book>>, _notes: &mut PlainList<Entry>) {
+    fn close(
+        self,
+        left: Left,
+        books: &mut Vec<Option<Book>>,
+        notes: PlainList<Entry>,
+    ) -> PlainList<Entry> {
         self.close_contexts(left, books);
         served_lanes_make_a_run();
+        notes
     }
 }

@@ -63,16 +63,21 @@ impl RunsLanes for LiveContexts<'_> {
         answers
     }
 
-    fn close(self, left: LiveLeft, books: &mut Vec<Option<Book>>, notes: &mut PlainList<Entry>) {
+    fn close(
+        self,
+        left: LiveLeft,
+        books: &mut Vec<Option<Book>>,
+        _notes: PlainList<Entry>,
+    ) -> PlainList<Entry> {
         let LiveContexts { shared, names } = self;
         let LiveLeft {
             shared: mut left,
             passes,
         } = left;
-        let (made, seat) = names.close(passes);
+        let (notes, seat) = names.close(passes);
         shared.counter.join(&mut left.seat, seat);
         shared.close_contexts(left, books);
         live_lanes_make_a_run();
-        *notes = PlainList::from_vec(made.into_vec());
+        PlainList::from_vec(notes.into_vec())
     }
 }

@@ -1,6 +1,6 @@
 //! The run of a plan whose lanes add and retire contexts.
 
-ghost use Rattle.std.specs.Prelude.{ℕ, ◌≡◌, ◌↔◌, ◌+◌, ◌<◌, ◌≤◌, None, IfOk, OnOk, IsSome, length};
+ghost use Rattle.std.specs.Prelude.{ℕ, ◌≡◌, ◌↔◌, ◌+◌, ◌<◌, ◌≤◌, None, IfOk, IsSome, length};
 ghost use Rattle.std.specs.List.{All};
 ghost use Rattle.batch_plans.specs.Within.{IsWithinLimits};
 ghost use Rattle.batch_plans.specs.Names.{all_live, line_count};
@@ -10,45 +10,16 @@ ghost use Rattle.context_books.specs.Standing.{standing_at};
 ghost use Rattle.context_books.specs.ContextLines.{AreOfLines, export_limits};
 ghost use Rattle.lane_workers.specs.LiveGathered.{AreOfALiveRun};
 ghost use Rattle.lane_workers.specs.LiveLanes.{AddsAre, AddsOneOf, add_refusal};
-ghost use Rattle.shared_runs.specs.BegunRuns.{LiveLanesBegun};
-ghost use Rattle.shared_runs.specs.LiveContexts.{AddsStand};
 
-use crate::begun_run::BegunRun;
-use crate::live_contexts::{LiveContexts, LiveLeft};
+use crate::live_contexts::LiveContexts;
 use crate::serving::{begin, end};
 use batch_io::Gate;
-use batch_plans::{Answers, LaneLines, PlainList, Plan};
+use batch_plans::{Answers, PlainList, Plan};
 use hpke_context::Context;
-use lane_workers::{LiveLane, live_lanes_make_a_run, serve_live};
+use lane_workers::{live_lanes_make_a_run, serve_live};
 use std::alloc::{AllocError as OutOfMemory, Global};
 use std::sync::Wait;
 use std::thread::Threads;
-
-// The lanes of a plan before their first calls, and what they share. `placed` has their calls with the
-// places of their contexts.
-fn begin_live<'a, R: Threads + Sync>(
-    rt: &R,
-    alloc: Global,
-    plan: &'a Plan,
-    placed: &'a LaneLines,
-    contexts: &mut [Option<Context>],
-    answers: &mut Answers,
-) -> Result<(LiveContexts<'a>, LiveLeft, BegunRun<LiveLane>), OutOfMemory>
-    requires within { IsWithinLimits plan.now }
-    requires some { 0 < length plan.now.lanes }
-    requires placed { placed.now ≡ (all_live plan.now).lanes }
-    requires named { All (All (AddsOneOf plan.now.added)) plan.now.lanes }
-    requires standing { AreOfLines plan.now.contexts contexts.old }
-    requires stands { AddsStand plan.now contexts.old }
-    requires room { answers.old ≡ room_for (all_live plan.now) answers.old.keys
-        answers.old.contexts (export_limits contexts.old) }
-    ensures begun { IfOk result (λ r. LiveLanesBegun plan.now contexts.old r.0 r.1 r.2) }
-    ensures others { OnOk result (answers.new ≡ record answers.old { lanes = answers.new.lanes }) }
-{
-    let (live, mut left) = LiveContexts::new(alloc, plan, placed, contexts)?;
-    let begun = begin(rt, alloc, &live, &mut left, answers)?;
-    Ok((live, left, begun))
-}
 
 /// Serves the lanes of a plan, which may add and retire contexts, by so many workers, from 1 to 16,
 /// on contexts that they share, and fills the answers that were made for the plan and these contexts.
@@ -63,7 +34,7 @@ pub fn run_live<R: Threads + Wait + Sync, G: Gate + Sync>(
     alloc: Global,
     plan: &Plan,
     mut contexts: PlainList<Option<Context>>,
-    mut answers: Answers,
+    answers: Answers,
     workers: u32,
     gate: &G,
 ) -> Result<Answers, OutOfMemory>
@@ -89,34 +60,19 @@ pub fn run_live<R: Threads + Wait + Sync, G: Gate + Sync>(
         return Ok(answers);
     }
     let placed = plan.lanes_at_positions(alloc)?;
-    let begun = begin_live(
+    let contexts = contexts.as_mut_slice();
+    let (live, mut left) = LiveContexts::new(alloc, plan, &placed, contexts)?;
+    let mut begun = begin(rt, alloc, &live, &mut left, answers)?;
+    let shared = &live.shared;
+    serve_live(
         rt,
-        alloc,
-        plan,
-        &placed,
-        contexts.as_mut_slice(),
-        &mut answers,
+        shared.plan,
+        &shared.contexts,
+        &live.names,
+        &shared.counter,
+        &mut begun.lanes,
+        workers,
+        gate,
     );
-    drop(contexts);
-    match begun {
-        Ok((live, left, mut begun)) => {
-            let shared = &live.shared;
-            serve_live(
-                rt,
-                shared.plan,
-                &shared.contexts,
-                &live.names,
-                &shared.counter,
-                &mut begun.lanes,
-                workers,
-                gate,
-            );
-            end(live, left, begun, &mut answers);
-            Ok(answers)
-        }
-        Err(error) => {
-            drop(answers);
-            Err(error)
-        }
-    }
+    Ok(end(live, left, begun))
 }

@@ -1,44 +1,21 @@
 //! The run of a plan whose contexts stay.
 
-ghost use Rattle.std.specs.Prelude.{◌≡◌, ◌<◌, ◌≤◌, IfOk, OnOk, length};
+ghost use Rattle.std.specs.Prelude.{◌≡◌, ◌<◌, ◌≤◌, IfOk, length};
 ghost use Rattle.batch_plans.specs.Within.{IsWithinLimits};
 ghost use Rattle.batch_plans.specs.Room.{room_for};
 ghost use Rattle.batch_plans.specs.AnswersText.{IsAnswered};
 ghost use Rattle.context_books.specs.ContextLines.{AreOfLines, export_limits};
 ghost use Rattle.lane_workers.specs.Gathered.{AreOfARun};
-ghost use Rattle.shared_runs.specs.BegunRuns.{LanesBegun};
 
-use crate::begun_run::BegunRun;
 use crate::serving::{begin, end};
-use crate::tables::{Left, Table};
+use crate::tables::Table;
 use batch_io::Gate;
 use batch_plans::{Answers, PlainList, Plan};
 use hpke_context::Context;
-use lane_workers::{LaneWork, serve, served_lanes_make_a_run};
+use lane_workers::{serve, served_lanes_make_a_run};
 use std::alloc::{AllocError as OutOfMemory, Global};
 use std::sync::Wait;
 use std::thread::Threads;
-
-// The lanes of a plan before their first calls, and the contexts that they share.
-fn begin_lanes<'a, R: Threads + Sync>(
-    rt: &R,
-    alloc: Global,
-    plan: &'a Plan,
-    contexts: &mut [Option<Context>],
-    answers: &mut Answers,
-) -> Result<(Table<'a>, Left, BegunRun<LaneWork>), OutOfMemory>
-    requires within { IsWithinLimits plan.now }
-    requires lanes { 0 < length plan.now.lanes }
-    requires standing { AreOfLines plan.now.contexts contexts.old }
-    requires room { answers.old ≡ room_for plan.now answers.old.keys answers.old.contexts
-        (export_limits contexts.old) }
-    ensures begun { IfOk result (λ r. LanesBegun plan.now contexts.old r.0 r.1 r.2) }
-    ensures others { OnOk result (answers.new ≡ record answers.old { lanes = answers.new.lanes }) }
-{
-    let (table, mut left, _) = Table::new(alloc, plan, &plan.lanes, contexts, 0)?;
-    let begun = begin(rt, alloc, &table, &mut left, answers)?;
-    Ok((table, left, begun))
-}
 
 /// Serves the lanes of a plan by so many workers, from 1 to 16, on contexts that they share, and
 /// fills the answers that were made for the plan and these contexts.
@@ -51,7 +28,7 @@ pub fn run_lanes<R: Threads + Wait + Sync, G: Gate + Sync>(
     alloc: Global,
     plan: &Plan,
     mut contexts: PlainList<Option<Context>>,
-    mut answers: Answers,
+    answers: Answers,
     workers: u32,
     gate: &G,
 ) -> Result<Answers, OutOfMemory>
@@ -71,26 +48,18 @@ pub fn run_lanes<R: Threads + Wait + Sync, G: Gate + Sync>(
         served_lanes_make_a_run();
         return Ok(answers);
     }
-    let begun = begin_lanes(rt, alloc, plan, contexts.as_mut_slice(), &mut answers);
-    drop(contexts);
-    match begun {
-        Ok((table, left, mut begun)) => {
-            let counter = Some(&table.counter);
-            serve(
-                rt,
-                table.plan,
-                &table.contexts,
-                counter,
-                &mut begun.lanes,
-                workers,
-                gate,
-            );
-            end(table, left, begun, &mut answers);
-            Ok(answers)
-        }
-        Err(error) => {
-            drop(answers);
-            Err(error)
-        }
-    }
+    let contexts = contexts.as_mut_slice();
+    let (table, mut left, _) = Table::new(alloc, plan, &plan.lanes, contexts, 0)?;
+    let mut begun = begin(rt, alloc, &table, &mut left, answers)?;
+    let counter = Some(&table.counter);
+    serve(
+        rt,
+        table.plan,
+        &table.contexts,
+        counter,
+        &mut begun.lanes,
+        workers,
+        gate,
+    );
+    Ok(end(table, left, begun))
 }

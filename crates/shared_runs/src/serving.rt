@@ -22,7 +22,6 @@ use batch_plans::{Answers, LaneAnswers, PlainList};
 use call_places::Entry;
 use context_books::Book;
 use std::alloc::{AllocError as OutOfMemory, Global};
-use std::mem;
 use std::thread::Threads;
 
 /// What lanes of one kind share while they are served, and how one of them is begun and ended.
@@ -84,7 +83,12 @@ pub(crate) trait RunsLanes: Drop {
             → back self.now left.new (answers ++ result ∷ []) };
 
     /// Closes all that was shared: the books of the contexts, and the notes in place of these.
-    fn close(self, left: Self::Left, books: &mut Vec<Option<Book>>, notes: &mut PlainList<Entry>)
+    fn close(
+        self,
+        left: Self::Left,
+        books: &mut Vec<Option<Book>>,
+        notes: PlainList<Entry>,
+    ) -> PlainList<Entry>
         requires kept { kept self }
         requires back { (answers : List LaneAnswers) × back self left answers
             × (length answers ≡ length (plan self).lanes) }
@@ -96,7 +100,7 @@ pub(crate) trait RunsLanes: Drop {
             (plan self).lanes }
         ensures run { (answers : List LaneAnswers) → back self left answers
             → length answers ≡ length (plan self).lanes
-            → run self answers (map (map mark_of) (map entries_of books.new.items)) notes.new };
+            → run self answers (map (map mark_of) (map entries_of books.new.items)) result };
 }
 
 // All lanes before their first calls.
@@ -124,34 +128,43 @@ fn prepare_all<R: Threads + Sync, K: RunsLanes>(
     Ok(lanes)
 }
 
-/// All lanes before their first calls, and room for what they will leave. They get their rooms from
-/// those of all answers.
+/// All lanes before their first calls, and room for all that the run will give.
 pub(crate) fn begin<R: Threads + Sync, K: RunsLanes>(
     rt: &R,
     alloc: Global,
     shared: &K,
     left: &mut K::Left,
-    rooms: &mut Answers,
+    answers: Answers,
 ) -> Result<BegunRun<K::Lane>, OutOfMemory>
     requires kept { K.kept shared.now }
     requires few { length (K.plan shared.now).lanes ≤ 16 }
     requires given { K.given shared.now 0 left.old }
-    requires room { rooms.old ≡ room_for (K.plan shared.now) rooms.old.keys rooms.old.contexts
+    requires room { answers ≡ room_for (K.plan shared.now) answers.keys answers.contexts
         (export_limits (K.contexts shared.now)) }
-    ensures begun { IfOk result (IsBegun (K.plan shared.now)) }
+    ensures begun { IfOk result (IsBegun answers) }
     ensures ready { IfOk result (λ begun. InOrder (K.ready shared.now)
         (length (K.plan shared.now).lanes) begun.lanes.items) }
     ensures given { OnOk result (K.given shared.now (length (K.plan shared.now).lanes) left.new) }
-    ensures others { rooms.new ≡ record rooms.old { lanes = rooms.new.lanes } }
 {
-    let answers = Vec::with_capacity(alloc, rooms.lanes.as_slice().len())?;
-    let books = Vec::with_capacity(alloc, rooms.journals.as_slice().len())?;
-    let own = mem::replace(&mut rooms.lanes, PlainList::from_vec(Vec::new(alloc)));
-    let lanes = prepare_all(rt, alloc, shared, left, own.into_vec())?;
+    let Answers {
+        keys,
+        contexts,
+        lanes: rooms,
+        journals,
+        notes,
+    } = answers;
+    let rooms = rooms.into_vec();
+    let answers = Vec::with_capacity(alloc, rooms.len())?;
+    let books = Vec::with_capacity(alloc, journals.as_slice().len())?;
+    let lanes = prepare_all(rt, alloc, shared, left, rooms)?;
     Ok(BegunRun {
         lanes,
         answers,
         books,
+        keys,
+        contexts,
+        journals,
+        notes,
     })
 }
 
@@ -177,32 +190,37 @@ fn take_all_back<K: RunsLanes>(
 
 /// Takes the lanes back once they were served, closes what they shared, and fills the answers that
 /// were made for them.
-pub(crate) fn end<K: RunsLanes>(
-    shared: K,
-    mut left: K::Left,
-    begun: BegunRun<K::Lane>,
-    answers: &mut Answers,
-)
+pub(crate) fn end<K: RunsLanes>(shared: K, mut left: K::Left, begun: BegunRun<K::Lane>) -> Answers
     requires kept { K.kept shared }
     requires contexts { length (K.contexts shared) ≡ length (K.plan shared).contexts }
     requires none { K.back shared left [] }
-    requires begun { IsBegun (K.plan shared) begun }
-    requires room { answers.old.journals ≡ (room_for (K.plan shared) answers.old.keys
-        answers.old.contexts (export_limits (K.contexts shared))).journals }
+    requires room { (room : Answers) × IsBegun room begun
+        × (room ≡ room_for (K.plan shared) room.keys room.contexts
+        (export_limits (K.contexts shared))) }
     requires done { InOrder (K.done shared) (length (K.plan shared).lanes) begun.lanes.items }
-    ensures run { K.run shared answers.new.lanes answers.new.journals answers.new.notes }
-    ensures set_up { (answers.new.keys ≡ answers.old.keys)
-        × (answers.new.contexts ≡ answers.old.contexts) }
-    ensures lanes { length answers.new.lanes ≡ length (K.plan shared).lanes }
-    ensures journals { length answers.new.journals ≡ length (K.plan shared).contexts }
+    ensures run { K.run shared result.lanes result.journals result.notes }
+    ensures set_up { (room : Answers) → IsBegun room begun
+        → (result.keys ≡ room.keys) × (result.contexts ≡ room.contexts) }
+    ensures lanes { length result.lanes ≡ length (K.plan shared).lanes }
+    ensures journals { length result.journals ≡ length (K.plan shared).contexts }
 {
     let BegunRun {
         lanes,
-        answers: mut served,
+        mut answers,
         mut books,
+        keys,
+        contexts,
+        mut journals,
+        notes,
     } = begun;
-    take_all_back(&shared, &mut left, lanes, &mut served);
-    shared.close(left, &mut books, &mut answers.notes);
-    put_journals(&books, answers.journals.as_mut_slice());
-    answers.lanes = PlainList::from_vec(served);
+    take_all_back(&shared, &mut left, lanes, &mut answers);
+    let notes = shared.close(left, &mut books, notes);
+    put_journals(&books, journals.as_mut_slice());
+    Answers {
+        keys,
+        contexts,
+        lanes: PlainList::from_vec(answers),
+        journals,
+        notes,
+    }
 }

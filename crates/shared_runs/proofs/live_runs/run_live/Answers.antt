@@ -1,5 +1,4 @@
 use Rattle.std.proofs.Common.{◌≡◌, ◌==◌, List, [], Option, length, map, sym, refl, ap, ◌∙◌, subst, arith}
-use Rattle.std.specs.List.{range_with_len}
 use Rattle.std.proofs.lemmas.List.{length-map}
 use Rattle.std.proofs.lemmas.List.FromFn.{length-map-range_with_len}
 use Rattle.call_places.specs.declared.entries.Entry.{Entry}
@@ -25,25 +24,25 @@ use Rattle.shared_runs.proofs.Served.{still_begun}
 use Rattle.shared_runs.proofs.LiveReturning.{none_collected}
 use Rattle.shared_runs.proofs.live_runs.run_live.Goals as goal
 
-pub begin_live-begun-requires-clause-some : goal.begin_live-begun-requires-clause-some
-begin_live-begun-requires-clause-some g c κs within =
+pub new-requires-clause-within : goal.new-requires-clause-within
+new-requires-clause-within g c = c.requires.within
+
+pub new-requires-clause-some : goal.new-requires-clause-some
+new-requires-clause-some g c =
     some_elements c.args.plan.now.lanes (c.if-is_empty.ensures
     ∙ ap (λ (ls : List (List CallLine)). length ls == 0) c.as_slice.ensures.items)
 
-pub begin_live-begun-requires-clause-standing : goal.begin_live-begun-requires-clause-standing
-begin_live-begun-requires-clause-standing g c κs within =
-    subst (AreOfLines c.args.plan.now.contexts) (sym c.as_mut_slice.ensures.items)
+pub new-requires-clause-named : goal.new-requires-clause-named
+new-requires-clause-named g c = c.requires.named
+
+pub new-requires-clause-standing : goal.new-requires-clause-standing
+new-requires-clause-standing g c =
+    subst (AreOfLines c.args.plan.now.contexts) (sym c.as_mut_slice-contexts.ensures.items)
     c.requires.standing
 
-pub begin_live-begun-requires-clause-stands : goal.begin_live-begun-requires-clause-stands
-begin_live-begun-requires-clause-stands g c κs within =
-    subst (AddsStand c.args.plan.now) (sym c.as_mut_slice.ensures.items) c.requires.stands
-
-pub begin_live-begun-requires-clause-room : goal.begin_live-begun-requires-clause-room
-begin_live-begun-requires-clause-room g c κs within =
-    let a = c.args.answers in
-    c.requires.room ∙ ap (λ (xs : List (Option ContextView)). room_for (all_live c.args.plan.now)
-    a.keys a.contexts (export_limits xs)) (sym c.as_mut_slice.ensures.items)
+pub new-requires-clause-stands : goal.new-requires-clause-stands
+new-requires-clause-stands g c =
+    subst (AddsStand c.args.plan.now) (sym c.as_mut_slice-contexts.ensures.items) c.requires.stands
 
 pub returns-then-is_empty-clause-run : goal.returns-then-is_empty-clause-run
 returns-then-is_empty-clause-run g c =
@@ -92,94 +91,111 @@ returns-then-is_empty-clause-printable g c =
 pub returns-then-is_empty-clause-set_up : goal.returns-then-is_empty-clause-set_up
 returns-then-is_empty-clause-set_up g c = (refl, refl)
 
+pub begin-requires-clause-kept : goal.begin-requires-clause-kept
+begin-requires-clause-kept g c κs within = c.in_ok-live.ensures.live
+
+pub begin-requires-clause-few : goal.begin-requires-clause-few
+begin-requires-clause-few g c κs within =
+    let plan = c.in_ok-live.live.shared.plan.now in
+    let few = c.requires.within.lanes in
+    let same = ap (λ (p : Plan). length p.lanes) c.in_ok-live.ensures.plan in
+    omega (arith, few, same, length-map plan.lanes (map (at_position plan)))
+
+pub begin-requires-clause-given : goal.begin-requires-clause-given
+begin-requires-clause-given g c κs within = c.in_ok-live.ensures.given
+
+pub begin-requires-clause-room : goal.begin-requires-clause-room
+begin-requires-clause-room g c κs within =
+    let a = c.args.answers in
+    let r = c.in_ok-live.ensures in
+    c.requires.room
+    ∙ ap (λ (p : Plan). room_for (all_live p) a.keys a.contexts (export_limits c.args.contexts))
+    (sym r.plan)
+    ∙ ap (λ (xs : List (Option ContextView)). room_for (all_live c.in_ok-live.live.shared.plan.now)
+    a.keys a.contexts (export_limits xs)) (sym (r.contexts ∙ c.as_mut_slice-contexts.ensures.items))
+
 pub serve_live-requires-clause-workers : goal.serve_live-requires-clause-workers
 serve_live-requires-clause-workers g c κs within = c.requires.workers
 
 pub serve_live-requires-clause-shared : goal.serve_live-requires-clause-shared
 serve_live-requires-clause-shared g c κs within =
-    are_shared_live c.in-Ok.live c.in-Ok.ensures.begun.kept _ refl
+    are_shared_live c.in_ok-live.live c.in_ok-live.ensures.live _ refl
 
 pub serve_live-requires-clause-fresh : goal.serve_live-requires-clause-fresh
 serve_live-requires-clause-fresh g c κs within =
-    let t = c.in-Ok.live in
+    let t = c.in_ok-live.live in
     let n = length (all_live t.shared.plan.now).lanes in
-    all_fresh_live t c.in-Ok.ensures.begun.kept _ refl n c.deref_mut.result.now
-    (subst (InOrder (IsReadyLive t) n) (sym c.deref_mut.ensures.value) c.in-Ok.ensures.begun.ready)
+    all_fresh_live t c.in_ok-live.ensures.live _ refl n c.deref_mut.result.now
+    (subst (InOrder (IsReadyLive t) n) (sym c.deref_mut.ensures.value) c.in_ok-begun.ensures.ready)
 
 pub end-requires-clause-kept : goal.end-requires-clause-kept
-end-requires-clause-kept g c = c.in-Ok.ensures.begun.kept
+end-requires-clause-kept g c = c.in_ok-live.ensures.live
 
 pub end-requires-clause-contexts : goal.end-requires-clause-contexts
-end-requires-clause-contexts g c = c.in-Ok.ensures.begun.kept.shared.of_lines.count
+end-requires-clause-contexts g c = c.in_ok-live.ensures.live.shared.of_lines.count
 
 pub end-requires-clause-none : goal.end-requires-clause-none
 end-requires-clause-none g c =
-    let t = c.in-Ok.live in
+    let t = c.in_ok-live.live in
     let plan = t.shared.plan.now in
-    let b = c.in-Ok.ensures.begun in
-    none_collected t c.in-Ok.left b.kept
-    (subst (λ k. HasGivenLive t k c.in-Ok.left) (length-map plan.lanes (map (at_position plan)))
-    b.given)
-
-pub end-requires-clause-begun : goal.end-requires-clause-begun
-end-requires-clause-begun g c =
-    still_begun (all_live c.in-Ok.live.shared.plan.now) c.in-Ok.begun _ refl
-    c.in-Ok.ensures.begun.begun
+    none_collected t c.begin.new.left c.in_ok-live.ensures.live
+    (subst (λ k. HasGivenLive t k c.begin.new.left) (length-map plan.lanes (map (at_position plan)))
+    c.in_ok-begun.ensures.given)
 
 pub end-requires-clause-room : goal.end-requires-clause-room
 end-requires-clause-room g c =
-    let b = c.in-Ok.ensures.begun in
-    let contexts = b.contexts_are ∙ c.as_mut_slice.ensures.items in
-    let rooms = λ (p : Plan) (xs : List (Option ContextView)). map
-    (journal_room p.contexts (export_limits xs) (all_live p).lanes)
-    (range_with_len 0 (length p.contexts)) in
-    ap (λ (a : Answers). a.journals) c.in-Ok.ensures.others
-    ∙ ap (λ (a : Answers). a.journals) c.requires.room
-    ∙ (λ i. rooms (sym b.plan_is i) (sym contexts i))
+    let a = c.args.answers in
+    let r = c.in_ok-live.ensures in (
+      a,
+      still_begun a c.in_ok-begun.begun _ refl c.in_ok-begun.ensures.begun,
+      c.requires.room
+          ∙ ap (λ (p : Plan). room_for (all_live p) a.keys a.contexts (export_limits c.args.contexts))
+          (sym r.plan)
+          ∙ ap (λ (xs : List (Option ContextView)).
+          room_for (all_live c.in_ok-live.live.shared.plan.now) a.keys a.contexts (export_limits xs))
+          (sym (r.contexts ∙ c.as_mut_slice-contexts.ensures.items)),
+    )
 
 pub end-requires-clause-done : goal.end-requires-clause-done
 end-requires-clause-done g c =
-    let t = c.in-Ok.live in
-    let b = c.in-Ok.ensures.begun in
+    let t = c.in_ok-live.live in
+    let live = c.in_ok-live.ensures.live in
     let n = length (all_live t.shared.plan.now).lanes in
-    let lanes = c.in-Ok.begun.lanes in
-    let ready = subst (InOrder (IsReadyLive t) n) (sym c.deref_mut.ensures.value) b.ready in
+    let lanes = c.in_ok-begun.begun.lanes in
+    let ready = subst (InOrder (IsReadyLive t) n) (sym c.deref_mut.ensures.value)
+    c.in_ok-begun.ensures.ready in
     subst (InOrder (IsDoneLiveLane t) n) (sym (written_back lanes.len lanes.items
     c.serve_live.new.lanes lanes.ok.0
     (c.serve_live.auto.lanes ∙ ap length c.deref_mut.ensures.value)))
-    (are_done_live t _ n c.deref_mut.result.now c.serve_live.new.lanes
-    (are_shared_live t b.kept _ refl) ready c.serve_live.ensures)
+    (are_done_live t _ n c.deref_mut.result.now c.serve_live.new.lanes (are_shared_live t live _ refl)
+    ready c.serve_live.ensures)
 
-pub returns-in-Ok-clause-run : goal.returns-in-Ok-clause-run
-returns-in-Ok-clause-run g c =
-    let b = c.in-Ok.ensures.begun in
-    let a = c.end.new.answers in
+pub returns-clause-run : goal.returns-clause-run
+returns-clause-run g c =
+    let r = c.in_ok-live.ensures in
+    let a = c.end.result in
     let replies = c.args.answers.contexts in
     let run = subst (λ (p : Plan). AddsAre p replies
-    → AreOfALiveRun p replies c.args.contexts a.lanes a.journals a.notes) b.plan_is
-    (subst (λ (xs : List (Option ContextView)). AddsAre c.in-Ok.live.shared.plan.now replies
-    → AreOfALiveRun c.in-Ok.live.shared.plan.now replies xs a.lanes a.journals a.notes)
-    (b.contexts_are ∙ c.as_mut_slice.ensures.items) (c.end.ensures.run.run replies)) in
+    → AreOfALiveRun p replies c.args.contexts a.lanes a.journals a.notes) r.plan
+    (subst (λ (xs : List (Option ContextView)). AddsAre c.in_ok-live.live.shared.plan.now replies
+    → AreOfALiveRun c.in_ok-live.live.shared.plan.now replies xs a.lanes a.journals a.notes)
+    (r.contexts ∙ c.as_mut_slice-contexts.ensures.items) (c.end.ensures.run.run replies)) in
     run c.requires.adds
 
-pub returns-in-Ok-clause-set_up : goal.returns-in-Ok-clause-set_up
-returns-in-Ok-clause-set_up g c =
-    let others = c.in-Ok.ensures.others in
-    let set_up = c.end.ensures.set_up in (
-      set_up.0 ∙ ap (λ (a : Answers). a.keys) others,
-      set_up.1 ∙ ap (λ (a : Answers). a.contexts) others,
-    )
+pub returns-clause-set_up : goal.returns-clause-set_up
+returns-clause-set_up g c =
+    c.end.ensures.set_up c.args.answers
+    (still_begun c.args.answers c.in_ok-begun.begun _ refl c.in_ok-begun.ensures.begun)
 
-pub returns-in-Ok-clause-printable : goal.returns-in-Ok-clause-printable
-returns-in-Ok-clause-printable g c =
-    let plan : Plan = c.in-Ok.live.shared.plan.now in
-    let same = c.in-Ok.ensures.begun.plan_is in
-    let others = c.in-Ok.ensures.others in
-    let set_up = c.end.ensures.set_up in
+pub returns-clause-printable : goal.returns-clause-printable
+returns-clause-printable g c =
+    let plan : Plan = c.in_ok-live.live.shared.plan.now in
+    let same = c.in_ok-live.ensures.plan in
+    let set_up = c.end.ensures.set_up c.args.answers
+    (still_begun c.args.answers c.in_ok-begun.begun _ refl c.in_ok-begun.ensures.begun) in
     record {
-      keys = ap length (set_up.0 ∙ ap (λ (a : Answers). a.keys) others) ∙ c.requires.replies.0;
-      contexts = ap length (set_up.1 ∙ ap (λ (a : Answers). a.contexts) others)
-          ∙ c.requires.replies.1;
+      keys = ap length set_up.0 ∙ c.requires.replies.0;
+      contexts = ap length set_up.1 ∙ c.requires.replies.1;
       lanes = c.end.ensures.lanes ∙ length-map plan.lanes (map (at_position plan))
           ∙ ap (λ (p : Plan). length p.lanes) same;
       journals = c.end.ensures.journals ∙ ap (λ (p : Plan). length p.contexts) same;

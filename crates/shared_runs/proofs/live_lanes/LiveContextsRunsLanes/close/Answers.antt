@@ -57,12 +57,12 @@ returns-clause-run c = λ answers collected count.
     let t = c.args.self in
     let l = c.args.left in
     let live = c.requires.kept in
-    let n = c.close-made.ensures in
+    let n = c.close-notes.ensures in
     let own = own_count t answers count in
     let plan = t.shared.plan.now in
     let contexts = views t.shared.contexts in
     let books = map entries_of c.close_contexts.new.books.items in
-    let notes = c.close-made.result.0 in
+    let notes = c.close-notes.result.0 in
     let closed = c.close_contexts.ensures.closed collected.passes
     (still_put t.shared l.shared c.join.new.seat collected.passes collected.back.put)
     (passes_count t l live answers collected own) in
