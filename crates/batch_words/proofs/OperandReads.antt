@@ -1,7 +1,7 @@
 -- Words that have to stand: clap takes them where each name has its word and none is an option.
 use Rattle.std.proofs.Common.{◌≡◌, ◌∙◌, ◌<◌, ◌+◌, ◌^◌, ◌⊎◌, inl, inr, ℕ, Bool, true, false, refl, sym, ap, ap₂, arith, subst, List, [], ◌∷◌, ◌++◌, length, map, Option, Some, None, codes, append_assoc, append-nil}
 use Rattle.std.specs.List.{list_all}
-use Rattle.std.specs.Prelude.{is_some, unwrap_or, ◌&&◌, not, slice_get}
+use Rattle.std.specs.Prelude.{is_some, unwrap_or, ◌&&◌, ◌||◌, not, slice_get}
 use Rattle.std.specs.Str.{bytes_eq, chars}
 use Rattle.std.proofs.lemmas.Bool.{and_parts, and_right, not-true}
 use Rattle.std.proofs.lemmas.List.{map-append}

@@ -18,7 +18,7 @@ use Rattle.batch_words.proofs.Rules.{options_filled}
 use Rattle.batch_words.proofs.Walks.{Agrees, faults_from, rows_from}
 use Rattle.batch_words.proofs.Names.{texts_are}
 use Rattle.batch_words.proofs.OptionWords.{Reading, is_joined, is_other, is_wants, joined_spells, reading_of, wants_spells}
-use Rattle.batch_words.proofs.OptionGrammar.{dash, first_is, rest_of, rest_of-joined, rest_of-other, rest_of-value, rest_of-wants, said_all}
+use Rattle.batch_words.proofs.OptionGrammar.{dash, first_is, rest_of, rest_of-hyphen, rest_of-joined, rest_of-other, rest_of-value, rest_of-wants, said_all}
 use Rattle.batch_words.proofs.OptionReads.{Good, NoDashes, all_read}
 
 -- ---- a word `--`
