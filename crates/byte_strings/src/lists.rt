@@ -1,6 +1,6 @@
 //! Lists that contracts see as such.
 
-ghost use Rattle.std.specs.Prelude.{◌≡◌, ◌++◌, List, length, take, IfOk};
+ghost use Rattle.std.specs.Prelude.{◌≡◌, ◌++◌, ◌∷◌, [], List, length, take, IfOk, OnOk, OnErr};
 
 use std::alloc::{AllocError, Global};
 use std::marker::Model;
@@ -24,6 +24,15 @@ impl<T> PlainList<T> {
     ghost use Rattle.std.specs.Borrow.{Lends, Array, sem};
     ghost use Rattle.byte_strings.specs.contracts.lists.PlainList.{the_row};
     ghost use Rattle.std.specs.List.{refill};
+
+    /// No items. It takes no memory.
+    pub fn new(alloc: Global) -> PlainList<T>
+        ensures items { result ≡ [] }
+    {
+        PlainList {
+            items: Vec::new(alloc),
+        }
+    }
 
     /// The list of a vector's items.
     pub fn from_vec(items: Vec<T>) -> PlainList<T>
@@ -62,6 +71,18 @@ impl<T> PlainList<T> {
         ensures items { result.items ≡ self }
     {
         self.items
+    }
+}
+
+impl<T: Drop> PlainList<T> {
+    /// Puts an item behind the others. Where there is no memory for it, it is dropped, and the list
+    /// keeps what it had.
+    pub fn push(&mut self, item: T) -> Result<(), AllocError>
+        ensures items { OnOk result (self.new ≡ self.old ++ item ∷ []) }
+        ensures kept { OnErr result (self.new ≡ self.old) }
+    {
+        self.items.push(item)?;
+        Ok(())
     }
 }
 

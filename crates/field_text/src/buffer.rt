@@ -40,6 +40,14 @@ impl Buffer {
         }
     }
 
+    /// Begins anew: nothing waits, and no write has failed. What waited is lost.
+    pub fn restart(&mut self)
+        ensures { IsFresh self.new }
+    {
+        self.bytes.clear();
+        self.printed = Printed::Whole;
+    }
+
     // Writes what waits.
     fn flush<K: Sink>(&mut self, sink: &mut K)
         ensures text { Puts K.written K.faults sink.old sink.new self.old self.new [] }

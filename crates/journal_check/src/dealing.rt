@@ -17,17 +17,37 @@ ghost use Rattle.context_books.specs.Histories.{places, marks_at, journals_of};
 ghost use Rattle.journal_check.specs.Asks.{AreFew, batch_from};
 ghost use Rattle.journal_check.specs.Piles.{by_context, joined, spots_told as spots_told_of};
 ghost use Rattle.journal_check.specs.Piles.{in_lanes, lanes_told, lanes_asked as lanes_asked_of};
-ghost use Rattle.journal_check.specs.Piles.{asked_on};
+ghost use Rattle.journal_check.specs.Piles.{put_on, asked_on};
 
 use crate::asks::Asked;
-use crate::piles::{Pile, empty_piles, put};
 use crate::spots::{Spot, spots_on};
 use batch_plans::PlainList;
 use call_places::{Mark, Place};
 use std::alloc::{AllocError, Global};
 
+// So many empty piles.
+fn empty_piles<T: Drop>(alloc: Global, count: usize) -> Result<Vec<PlainList<T>>, AllocError>
+    ensures { IfOk result (λ piles. piles.items ≡ replicate count []) }
+{
+    let mut piles = Vec::new(alloc);
+    'piles: for _pile in 0..count {
+        piles.push(PlainList::new(alloc))?;
+    }
+    Ok(piles)
+}
+
+// Puts an item onto the pile of this number, where there is one.
+fn put<T: Drop>(piles: &mut [PlainList<T>], number: usize, item: T) -> Result<(), AllocError>
+    ensures { OnOk result (piles.new ≡ put_on piles.old number item) }
+{
+    if number < piles.len() {
+        piles[number].push(item)?;
+    }
+    Ok(())
+}
+
 // Deals places to the piles of their contexts.
-fn deal_places(piles: &mut [Pile<Place>], spots: &[Spot]) -> Result<(), AllocError>
+fn deal_places(piles: &mut [PlainList<Place>], spots: &[Spot]) -> Result<(), AllocError>
     ensures { OnOk result (piles.new ≡ by_context piles.old spots.now) }
 {
     'spots: for spot in spots {
@@ -39,9 +59,9 @@ fn deal_places(piles: &mut [Pile<Place>], spots: &[Spot]) -> Result<(), AllocErr
 // The places of lists of spots on each of so many contexts, one list after another.
 fn on_contexts(
     alloc: Global,
-    lists: &[Pile<Spot>],
+    lists: &[PlainList<Spot>],
     count: usize,
-) -> Result<Vec<Pile<Place>>, AllocError>
+) -> Result<Vec<PlainList<Place>>, AllocError>
     ensures { IfOk result (λ piles.
         piles.items ≡ by_context (replicate count []) (joined lists.now)) }
 {
@@ -57,7 +77,7 @@ pub(crate) fn lanes_in(
     alloc: Global,
     history: &[Spot],
     count: usize,
-) -> Result<Vec<Pile<Spot>>, AllocError>
+) -> Result<Vec<PlainList<Spot>>, AllocError>
     ensures { IfOk result (λ lanes. lanes.items ≡ lanes_told count history.now) }
 {
     let mut lanes = empty_piles(alloc, count)?;
@@ -77,7 +97,7 @@ pub(crate) fn marks_of(
     alloc: Global,
     history: &[Spot],
     count: usize,
-) -> Result<Vec<Pile<Mark>>, AllocError>
+) -> Result<Vec<PlainList<Mark>>, AllocError>
     ensures { IfOk result (λ piles. piles.items ≡ journals_of count history.now) }
 {
     let mut piles = empty_piles(alloc, count)?;
@@ -119,7 +139,7 @@ pub(crate) fn places_told(
     alloc: Global,
     lanes: usize,
     journals: &[PlainList<Mark>],
-) -> Result<Vec<Pile<Place>>, AllocError>
+) -> Result<Vec<PlainList<Place>>, AllocError>
     requires { length journals.now < 2 ^ 32 }
     ensures size { IfOk result (λ piles. length piles.items ≡ length journals.now) }
     ensures each { IfOk result (λ piles. (c : ℕ) → c < length journals.now
@@ -134,14 +154,14 @@ pub(crate) fn places_told(
 pub(crate) fn lanes_asked(
     alloc: Global,
     asks: &[PlainList<Asked>],
-) -> Result<Vec<Pile<Spot>>, AllocError>
+) -> Result<Vec<PlainList<Spot>>, AllocError>
     requires { AreFew asks.now }
     ensures { IfOk result (λ lanes. lanes.items ≡ lanes_asked_of (batch_from asks.now)) }
 {
     let mut lists = Vec::new(alloc);
     'lanes: for (lane, calls) in asks.iter().enumerate() {
         let spots = spots_on(alloc, lane as u32, calls.as_slice())?;
-        lists.push(Pile::from_vec(spots))?;
+        lists.push(PlainList::from_vec(spots))?;
     }
     Ok(lists)
 }
@@ -151,7 +171,7 @@ pub(crate) fn places_asked(
     alloc: Global,
     asks: &[PlainList<Asked>],
     count: usize,
-) -> Result<Vec<Pile<Place>>, AllocError>
+) -> Result<Vec<PlainList<Place>>, AllocError>
     requires { AreFew asks.now }
     ensures size { IfOk result (λ piles. length piles.items ≡ count) }
     ensures each { IfOk result (λ piles. (c : ℕ) → c < count

@@ -3,7 +3,8 @@
 ghost use Rattle.std.specs.Prelude.{◌≡◌, ◌<◌, ◌^◌, ◌+◌, length, map, IfOk, OnOk};
 ghost use Rattle.std.specs.List.{list_all, range_with_len};
 ghost use Rattle.context_books.specs.Histories.{all_stamps, journals_of};
-ghost use Rattle.context_books.specs.Checks.{are_same, is_same_mark, is_history as is_history_of};
+ghost use Rattle.context_books.specs.Checks.{are_same as are_same_by, is_same_mark};
+ghost use Rattle.context_books.specs.Checks.{is_history as is_history_of};
 ghost use Rattle.context_books.specs.Checks.{is_legal_history, has_lane_spots};
 ghost use Rattle.batch_plans.specs.Within.{IsWithinLimits};
 ghost use Rattle.context_books.specs.Asks.{batch_of};
@@ -13,7 +14,7 @@ ghost use Rattle.journal_check.specs.Histories.{Puts, PutsAll, is_within};
 use crate::asks::{Asked, asks_of};
 use crate::dealing::{lanes_asked, lanes_in, marks_of};
 use crate::journals::is_unbroken;
-use crate::same::{are_journals, are_lanes};
+use crate::same::are_same;
 use crate::spots::Spot;
 use batch_plans::{PlainList, Plan};
 use call_places::{Mark, Place};
@@ -74,11 +75,11 @@ fn has_journals(
     history: &[Spot],
     journals: &[PlainList<Mark>],
 ) -> Result<bool, AllocError>
-    ensures { IfOk result (λ good. good ≡ are_same (are_same is_same_mark) journals.now
+    ensures { IfOk result (λ good. good ≡ are_same_by (are_same_by is_same_mark) journals.now
         (journals_of (length journals.now) history.now)) }
 {
     let given = marks_of(alloc, history, journals.len())?;
-    Ok(are_journals(journals, &given))
+    Ok(are_same(journals, &given))
 }
 
 // Whether each lane has the places that it asks for, in order.
@@ -90,7 +91,7 @@ fn has_lanes(alloc: Global, asks: &[PlainList<Asked>], history: &[Spot]) -> Resu
 {
     let asked = lanes_asked(alloc, asks)?;
     let told = lanes_in(alloc, history, asks.len())?;
-    Ok(are_lanes(&told, &asked))
+    Ok(are_same(&told, &asked))
 }
 
 // Whether each place is on one of so many contexts, and of one of so many lanes.

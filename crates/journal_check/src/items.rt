@@ -14,8 +14,8 @@ use aes_gcm::Checks;
 use batch_plans::{CallLine, Plan, Reply, items_from};
 use call_places::{Item, Place, Span};
 use hpke_context::{CallFault, Sequential};
-use reply_frames::reply_line;
-use std::alloc::{AllocError, Global};
+use reply_frames::LinePrinter;
+use std::alloc::AllocError;
 
 /// What an item asks: to be sealed, or to be opened.
 #[derive(Clone, Copy, Debug, PartialEq, Eq)]
@@ -61,7 +61,7 @@ pub(crate) fn all_of(bytes: &[u8]) -> Span
 
 // The line of a seal.
 fn seal(
-    alloc: Global,
+    lines: &mut LinePrinter,
     sequential: &mut Sequential,
     aad: &[u8],
     text: &[u8],
@@ -75,19 +75,19 @@ fn seal(
         ≡ next sequential.old.seq (answer_now sequential.old (Seal aad.now text.now))) }
     ensures context { OnOk result (sequential.new.context ≡ sequential.old.context) }
 {
-    let mut out = vec![in alloc; 0u8; text.len() + 16]?;
+    let mut out = vec![in lines.alloc; 0u8; text.len() + 16]?;
     match sequential.seal_into(aad, text, &mut out) {
         Ok(number) => {
             let text = all_of(&out);
-            reply_line(alloc, &out, &Reply::Sealed { number, text })
+            lines.reply_line(&out, &Reply::Sealed { number, text })
         }
-        Err(_) => reply_line(alloc, &[], &Reply::Limit),
+        Err(_) => lines.reply_line(&[], &Reply::Limit),
     }
 }
 
 // The line of an opening.
 fn open(
-    alloc: Global,
+    lines: &mut LinePrinter,
     sequential: &mut Sequential,
     aad: &[u8],
     ct: &[u8],
@@ -105,14 +105,14 @@ fn open(
     ensures checked { OnOk result (checks.new ≡ checks.old + 1) }
 {
     let seq = sequential.seq();
-    let mut out = vec![in alloc; 0u8; ct.len().saturating_sub(16)]?;
+    let mut out = vec![in lines.alloc; 0u8; ct.len().saturating_sub(16)]?;
     match sequential.unseal_into(aad, ct, &mut out, checks) {
         Ok(number) => {
             let text = all_of(&out);
-            reply_line(alloc, &out, &Reply::Opened { number, text })
+            lines.reply_line(&out, &Reply::Opened { number, text })
         }
-        Err(CallFault::Failed) => reply_line(alloc, &[], &Reply::Failed { number: seq }),
-        Err(_) => reply_line(alloc, &[], &Reply::Limit),
+        Err(CallFault::Failed) => lines.reply_line(&[], &Reply::Failed { number: seq }),
+        Err(_) => lines.reply_line(&[], &Reply::Limit),
     }
 }
 
@@ -128,7 +128,7 @@ pub(crate) fn asked_at(plan: &Plan, place: Place) -> Option<Asked>
 
 /// Answers an item: the line of its answer. The context goes on as the sequential context does.
 pub(crate) fn answer(
-    alloc: Global,
+    lines: &mut LinePrinter,
     sequential: &mut Sequential,
     pool: &[u8],
     asked: Asked,
@@ -145,10 +145,10 @@ pub(crate) fn answer(
     ensures checked { OnOk result (checks.new ≤ checks.old + 1) }
 {
     match asked {
-        Asked::Seal(item) => seal(alloc, sequential, item.aad.of(pool), item.text.of(pool)),
+        Asked::Seal(item) => seal(lines, sequential, item.aad.of(pool), item.text.of(pool)),
         Asked::Open(item) => {
             open(
-                alloc,
+                lines,
                 sequential,
                 item.aad.of(pool),
                 item.text.of(pool),

@@ -19,8 +19,7 @@ ghost use Rattle.journal_check.specs.Piles.{in_lanes, asked_on};
 
 use crate::asks::{Asked, asks_of, goes_on};
 use crate::dealing::{places_asked, places_told};
-use crate::piles::Pile;
-use crate::same::{are_places, is_same};
+use crate::same::are_same;
 use batch_plans::{PlainList, Plan};
 use call_places::{Mark, Place};
 use hpke_context::Context;
@@ -53,7 +52,7 @@ fn has_lanes(marks: &[Mark], lanes: usize, by_lane: ByLane) -> bool
         → by_lane.entry.asked.now ≡ asked_on batch context
         → result ≡ has_lanes_of batch context (places_in marks.now) }
 {
-    are_of_lanes(marks, lanes) && are_places(by_lane.told, by_lane.asked)
+    are_of_lanes(marks, lanes) && are_same(by_lane.told, by_lane.asked)
 }
 
 // Whether a place is that of the next item.
@@ -137,8 +136,8 @@ fn first_broken(
     asks: &[PlainList<Asked>],
     stamps: bool,
     journals: &[PlainList<Mark>],
-    told: &[Pile<Place>],
-    asked: &[Pile<Place>],
+    told: &[PlainList<Place>],
+    asked: &[PlainList<Place>],
 ) -> Result<Option<u32>, AllocError>
     requires few { length journals.now < 2 ^ 32 }
     requires told_size { length told.now ≡ length journals.now }

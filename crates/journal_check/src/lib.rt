@@ -39,7 +39,6 @@ mod live_checking;
 mod live_replies;
 mod lives;
 mod orders;
-mod piles;
 mod replies;
 mod runs;
 mod same;

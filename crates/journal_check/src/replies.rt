@@ -25,13 +25,13 @@ use batch_plans::{CallLine, PlainList, Reply};
 use call_places::Span;
 use context_books::{refusal_of, standing};
 use hpke_context::Context;
-use reply_frames::reply_line;
+use reply_frames::LinePrinter;
 use result_lines::{Replies, Stop, is_line, live_calls};
 use std::alloc::{AllocError, Global};
 
 // The line of an export.
 fn export_line(
-    alloc: Global,
+    lines: &mut LinePrinter,
     context: &Context,
     exporter: &[u8],
     size: usize,
@@ -41,10 +41,10 @@ fn export_line(
     ensures { IfOk result (λ line. line.items
         ≡ exported_line (exported_by context.now exporter.now size)) }
 {
-    let mut out = vec![in alloc; 0u8; size]?;
+    let mut out = vec![in lines.alloc; 0u8; size]?;
     let _ = context.export_into(exporter, &mut out);
     let text = all_of(&out);
-    reply_line(alloc, &out, &Reply::Exported { text })
+    lines.reply_line(&out, &Reply::Exported { text })
 }
 
 // Holds the next reply, where one is left, against the line that is due.
@@ -62,18 +62,18 @@ fn take_line(replies: &mut Replies, due: &[u8]) -> Result<(), Stop>
 }
 
 // Holds the next reply against one that names no bytes.
-fn take_reply(replies: &mut Replies, alloc: Global, reply: Reply) -> Result<(), Stop>
+fn take_reply(replies: &mut Replies, lines: &mut LinePrinter, reply: Reply) -> Result<(), Stop>
     requires { IsInRange 0 reply }
     ensures { Holds replies.old replies.new (reply_line [] reply ∷ []) result }
 {
-    let line = reply_line(alloc, &[], &reply)?;
+    let line = lines.reply_line(&[], &reply)?;
     take_line(replies, &line)
 }
 
 // Holds the next reply against an export that is served.
 fn take_export(
     replies: &mut Replies,
-    alloc: Global,
+    lines: &mut LinePrinter,
     checked: &CheckedRun,
     context: u32,
     exporter: Span,
@@ -90,7 +90,7 @@ fn take_export(
         unreachable!()
     };
     let exporter = exporter.of(checked.plan.pool.as_slice());
-    let line = export_line(alloc, context, exporter, size as usize)?;
+    let line = export_line(lines, context, exporter, size as usize)?;
     take_line(replies, &line)
 }
 
@@ -157,7 +157,7 @@ fn take_items(
 // Holds the next replies against those to a call that is served, and passes its places.
 fn take_served(
     replies: &mut Replies,
-    alloc: Global,
+    lines: &mut LinePrinter,
     walk: &Walk,
     cursors: &mut [usize],
     call: &CallLine,
@@ -185,7 +185,7 @@ fn take_served(
             else {
                 unreachable!()
             };
-            take_export(replies, alloc, &walk.checked, context, exporter, size)
+            take_export(replies, lines, &walk.checked, context, exporter, size)
         }
     }
 }
@@ -194,7 +194,7 @@ fn take_served(
 // call's name was live, `live` says so.
 fn take_call(
     replies: &mut Replies,
-    alloc: Global,
+    lines: &mut LinePrinter,
     walk: &Walk,
     cursors: &mut [usize],
     call: &CallLine,
@@ -212,11 +212,11 @@ fn take_call(
         → PointsTo walk.now (number + 1) more cursors.new) }
 {
     if let Some(reply) = change_reply(&walk.checked, call, live) {
-        return take_reply(replies, alloc, reply);
+        return take_reply(replies, lines, reply);
     }
     match refusal_of(walk.checked.contexts, call) {
-        Some(refusal) => take_reply(replies, alloc, Reply::Refused(refusal)),
-        None => take_served(replies, alloc, walk, cursors, call),
+        Some(refusal) => take_reply(replies, lines, Reply::Refused(refusal)),
+        None => take_served(replies, lines, walk, cursors, call),
     }
 }
 
@@ -244,9 +244,10 @@ fn take_calls(
     ensures { Holds replies.old replies.new (lane_due walk.now.checked.table
         (run_in walk.now.checked) walk.now.lane calls.now) result }
 {
+    let mut lines = LinePrinter::new(alloc);
     'calls: for (number, call) in calls.iter().enumerate() {
         let live = is_live(lives, number);
-        take_call(replies, alloc, walk, cursors, call, live)?;
+        take_call(replies, &mut lines, walk, cursors, call, live)?;
     }
     Ok(())
 }

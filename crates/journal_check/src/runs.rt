@@ -18,6 +18,7 @@ use aes_gcm::{Checks, MayCheck};
 use batch_plans::{PlainList, Plan};
 use call_places::Mark;
 use hpke_context::{Context, Sequential};
+use reply_frames::LinePrinter;
 use std::alloc::{AllocError, Global};
 
 /// A journal along which its context was run: of each place the line of its reply, and the number
@@ -59,12 +60,19 @@ fn run_along(
         (items_at plan.now (places marks.now))) }
     ensures context { OnOk result (sequential.new.context ≡ sequential.old.context) }
 {
+    let mut printer = LinePrinter::new(alloc);
     let mut lines = Vec::new(alloc);
     let mut numbers = Vec::new(alloc);
     'marks: for mark in marks {
         let asked = asked_of(plan, mark);
         numbers.push(sequential.seq())?;
-        let line = answer(alloc, sequential, plan.pool.as_slice(), asked, checks)?;
+        let line = answer(
+            &mut printer,
+            sequential,
+            plan.pool.as_slice(),
+            asked,
+            checks,
+        )?;
         lines.push(PlainList::from_vec(line))?;
     }
     Ok(JournalRun { lines, numbers })

@@ -1,100 +1,66 @@
-//! Lists that are the same.
+//! Values and lists that are the same.
 
 ghost use Rattle.std.specs.Prelude.{◌≡◌};
 ghost use Rattle.context_books.specs.Legal.{is_same_place};
-ghost use Rattle.context_books.specs.Checks.{are_same, is_same_spot, is_same_mark};
+ghost use Rattle.context_books.specs.Checks.{are_same as are_same_by, is_same_spot, is_same_mark};
 
-use crate::piles::Pile;
 use crate::spots::Spot;
 use batch_plans::PlainList;
 use call_places::{Mark, Place};
 
-/// Whether two places are the same.
-pub(crate) fn is_same(p: Place, q: Place) -> bool
-    ensures { result ≡ is_same_place p q }
-{
-    p.lane == q.lane && p.call == q.call && p.item == q.item
+/// Values with a test of which are the same.
+pub(crate) trait Same {
+    ghost use Rattle.std.specs.Prelude.{Bool, ◌≡◌};
+
+    // The test.
+    ghost same: { Self → Self → Bool };
+
+    /// Whether this value is the same as that one.
+    fn is_same(&self, other: &Self) -> bool
+        ensures { result ≡ same self.now other.now };
 }
 
-/// Whether these places are those.
-pub(crate) fn are_places(ps: &[Place], qs: &[Place]) -> bool
-    ensures { result ≡ are_same is_same_place ps.now qs.now }
+impl Same for Place {
+    ghost same = { is_same_place };
+
+    fn is_same(&self, other: &Place) -> bool {
+        self.lane == other.lane && self.call == other.call && self.item == other.item
+    }
+}
+
+impl Same for Spot {
+    ghost same = { is_same_spot };
+
+    fn is_same(&self, other: &Spot) -> bool {
+        self.context == other.context && self.place.is_same(&other.place)
+    }
+}
+
+impl Same for Mark {
+    ghost same = { is_same_mark };
+
+    fn is_same(&self, other: &Mark) -> bool {
+        self.place.is_same(&other.place) && self.stamp == other.stamp
+    }
+}
+
+impl<T: Same> Same for PlainList<T> {
+    ghost same = { are_same_by T.same };
+
+    fn is_same(&self, other: &PlainList<T>) -> bool {
+        are_same(self.as_slice(), other.as_slice())
+    }
+}
+
+/// Whether the values of two lists are the same, one by one.
+pub(crate) fn are_same<T: Same>(values: &[T], others: &[T]) -> bool
+    ensures { result ≡ are_same_by T.same values.now others.now }
 {
-    if ps.len() != qs.len() {
+    if values.len() != others.len() {
         return false;
     }
-    'places: for i in 0..ps.len() {
-        if !is_same(ps[i], qs[i]) {
-            return false;
-        }
-    }
-    true
-}
-
-fn is_spot(s: &Spot, t: &Spot) -> bool
-    ensures { result ≡ is_same_spot s.now t.now }
-{
-    s.context() == t.context() && is_same(s.place(), t.place())
-}
-
-fn are_spots(ss: &[Spot], ts: &[Spot]) -> bool
-    ensures { result ≡ are_same is_same_spot ss.now ts.now }
-{
-    if ss.len() != ts.len() {
-        return false;
-    }
-    'spots: for i in 0..ss.len() {
-        if !is_spot(&ss[i], &ts[i]) {
-            return false;
-        }
-    }
-    true
-}
-
-/// Whether the spots of each lane are those.
-pub(crate) fn are_lanes(lanes: &[Pile<Spot>], others: &[Pile<Spot>]) -> bool
-    ensures { result ≡ are_same (are_same is_same_spot) lanes.now others.now }
-{
-    if lanes.len() != others.len() {
-        return false;
-    }
-    'lanes: for i in 0..lanes.len() {
-        if !are_spots(lanes[i].as_slice(), others[i].as_slice()) {
-            return false;
-        }
-    }
-    true
-}
-
-fn is_mark(m: Mark, k: Mark) -> bool
-    ensures { result ≡ is_same_mark m k }
-{
-    is_same(m.place, k.place) && m.stamp == k.stamp
-}
-
-fn are_marks(ms: &[Mark], ks: &[Mark]) -> bool
-    ensures { result ≡ are_same is_same_mark ms.now ks.now }
-{
-    if ms.len() != ks.len() {
-        return false;
-    }
-    'marks: for i in 0..ms.len() {
-        if !is_mark(ms[i], ks[i]) {
-            return false;
-        }
-    }
-    true
-}
-
-/// Whether the marks of each journal are those.
-pub(crate) fn are_journals(journals: &[PlainList<Mark>], others: &[Pile<Mark>]) -> bool
-    ensures { result ≡ are_same (are_same is_same_mark) journals.now others.now }
-{
-    if journals.len() != others.len() {
-        return false;
-    }
-    'journals: for i in 0..journals.len() {
-        if !are_marks(journals[i].as_slice(), others[i].as_slice()) {
+    'values: for i in 0..values.len() {
+        if !values[i].is_same(&others[i]) {
             return false;
         }
     }

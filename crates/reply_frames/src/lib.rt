@@ -3,9 +3,8 @@
 //! [`print_answers`] and [`print_bad`] append exactly the text that batch_plans defines, or a
 //! prefix of it if the sink failed; [`print_setup`] and [`print_reply`] do the same for parts of
 //! it, and [`print_live`] for the reply to a batch whose lanes add and retire contexts. For texts of
-//! other crates [`put_keys`] and [`put_numbered`] put a part into a buffer. [`key_line`],
-//! [`context_line`], [`reply_line`], [`note_line`] and [`numbered_line`] print one line into memory,
-//! for a caller that compares it.
+//! other crates [`put_keys`] and [`put_numbered`] put a part into a buffer. A [`LinePrinter`] prints
+//! one line after another, each into memory of its own, for a caller that compares it.
 //!
 //! No printer of a whole reply takes memory. Not here: how a batch is read, and which answers it has.
 //!
@@ -22,7 +21,7 @@ mod reply_lines;
 mod reply_words;
 
 pub use lane_replies::reply_count;
-pub use line_texts::{TextSink, context_line, key_line, note_line, numbered_line, reply_line};
+pub use line_texts::{LinePrinter, TextSink};
 pub use live_printing::print_live;
 pub use printing::{print_answers, print_bad, print_reply, print_setup};
 pub use replies::put_keys;

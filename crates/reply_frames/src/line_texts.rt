@@ -66,53 +66,75 @@ impl TextSink {
     }
 }
 
-/// A line of a word and a number.
-pub fn numbered_line(alloc: Global, word: &[u8], number: u64) -> Result<Vec<u8>, AllocError>
-    ensures { IfOk result (λ line. line.items ≡ word.now ++ decimal number ++ codes "\n") }
-{
-    let mut out = Buffer::new();
-    let mut sink = TextSink::new(alloc);
-    put_numbered(&mut out, &mut sink, word, number);
-    sink.into_line(&mut out)
+/// Prints lines of the reply text by themselves, each into memory of its own.
+///
+/// All of them pass one buffer of 32 KiB, which is made once.
+#[derive(Drop)]
+pub struct LinePrinter {
+    /// Where the memory of the lines is from.
+    pub alloc: Global,
+    out: Buffer,
 }
 
-/// The reply to the key line of this number.
-pub fn key_line(alloc: Global, number: u64, reply: &KeyReply) -> Result<Vec<u8>, AllocError>
-    ensures { IfOk result (λ line. line.items ≡ key_line number reply.now) }
-{
-    let mut out = Buffer::new();
-    let mut sink = TextSink::new(alloc);
-    put_key_line(&mut out, &mut sink, number, reply);
-    sink.into_line(&mut out)
-}
+impl LinePrinter {
+    /// A printer of lines in this memory.
+    pub fn new(alloc: Global) -> LinePrinter
+        ensures { result.alloc ≡ alloc }
+    {
+        LinePrinter {
+            alloc,
+            out: Buffer::new(),
+        }
+    }
 
-/// The reply to the context line of this number.
-pub fn context_line(alloc: Global, number: u64, reply: &ContextReply) -> Result<Vec<u8>, AllocError>
-    ensures { IfOk result (λ line. line.items ≡ context_line number reply.now) }
-{
-    let mut out = Buffer::new();
-    let mut sink = TextSink::new(alloc);
-    put_context_line(&mut out, &mut sink, number, reply);
-    sink.into_line(&mut out)
-}
+    /// A line of a word and a number.
+    pub fn numbered_line(&mut self, word: &[u8], number: u64) -> Result<Vec<u8>, AllocError>
+        ensures { IfOk result (λ line. line.items ≡ word.now ++ decimal number ++ codes "\n") }
+    {
+        self.out.restart();
+        let mut sink = TextSink::new(self.alloc);
+        put_numbered(&mut self.out, &mut sink, word, number);
+        sink.into_line(&mut self.out)
+    }
 
-/// The line of a reply, whose span is of the pool.
-pub fn reply_line(alloc: Global, pool: &[u8], reply: &Reply) -> Result<Vec<u8>, AllocError>
-    requires { IsInRange (length pool.now) reply.now }
-    ensures { IfOk result (λ line. line.items ≡ reply_line pool.now reply.now) }
-{
-    let mut out = Buffer::new();
-    let mut sink = TextSink::new(alloc);
-    put_reply(&mut out, &mut sink, pool, reply);
-    sink.into_line(&mut out)
-}
+    /// The reply to the key line of this number.
+    pub fn key_line(&mut self, number: u64, reply: &KeyReply) -> Result<Vec<u8>, AllocError>
+        ensures { IfOk result (λ line. line.items ≡ key_line number reply.now) }
+    {
+        self.out.restart();
+        let mut sink = TextSink::new(self.alloc);
+        put_key_line(&mut self.out, &mut sink, number, reply);
+        sink.into_line(&mut self.out)
+    }
 
-/// The line of a note of the table.
-pub fn note_line(alloc: Global, note: &Entry) -> Result<Vec<u8>, AllocError>
-    ensures { IfOk result (λ line. line.items ≡ note_line note.now) }
-{
-    let mut out = Buffer::new();
-    let mut sink = TextSink::new(alloc);
-    put_note(&mut out, &mut sink, note);
-    sink.into_line(&mut out)
+    /// The reply to the context line of this number.
+    pub fn context_line(&mut self, number: u64, reply: &ContextReply) -> Result<Vec<u8>, AllocError>
+        ensures { IfOk result (λ line. line.items ≡ context_line number reply.now) }
+    {
+        self.out.restart();
+        let mut sink = TextSink::new(self.alloc);
+        put_context_line(&mut self.out, &mut sink, number, reply);
+        sink.into_line(&mut self.out)
+    }
+
+    /// The line of a reply, whose span is of the pool.
+    pub fn reply_line(&mut self, pool: &[u8], reply: &Reply) -> Result<Vec<u8>, AllocError>
+        requires { IsInRange (length pool.now) reply.now }
+        ensures { IfOk result (λ line. line.items ≡ reply_line pool.now reply.now) }
+    {
+        self.out.restart();
+        let mut sink = TextSink::new(self.alloc);
+        put_reply(&mut self.out, &mut sink, pool, reply);
+        sink.into_line(&mut self.out)
+    }
+
+    /// The line of a note of the table.
+    pub fn note_line(&mut self, note: &Entry) -> Result<Vec<u8>, AllocError>
+        ensures { IfOk result (λ line. line.items ≡ note_line note.now) }
+    {
+        self.out.restart();
+        let mut sink = TextSink::new(self.alloc);
+        put_note(&mut self.out, &mut sink, note);
+        sink.into_line(&mut self.out)
+    }
 }

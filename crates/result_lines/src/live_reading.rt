@@ -17,7 +17,7 @@ use crate::told::Told;
 use batch_plans::{CallLine, ContextLine, ContextReply, KeyReply, PlainList, Plan};
 use call_places::Entry;
 use hpke_context::Context;
-use reply_frames::note_line;
+use reply_frames::LinePrinter;
 use std::alloc::Global;
 
 // The journals of contexts that are added.
@@ -56,8 +56,9 @@ fn read_all_journals(told: &mut Told, alloc: Global, plan: &Plan) -> Result<(), 
 fn read_notes(told: &mut Told, alloc: Global, notes: &[Entry]) -> Result<(), Stop>
     ensures { Tells (λ _. told.new) result (with_lines (map note_line_of notes.now) told.old) }
 {
+    let mut lines = LinePrinter::new(alloc);
     'notes: for note in notes {
-        let line = note_line(alloc, note)?;
+        let line = lines.note_line(note)?;
         told.expect(&line)?;
     }
     Ok(())

@@ -14,15 +14,16 @@ use crate::stop::Stop;
 use crate::told::Told;
 use batch_plans::{CallLine, ContextLine, ContextReply, KeyReply, PlainList, Plan};
 use hpke_context::Context;
-use reply_frames::{context_line, key_line};
+use reply_frames::LinePrinter;
 use std::alloc::Global;
 
 // The lines of the keys.
 fn read_keys(told: &mut Told, alloc: Global, keys: &[KeyReply]) -> Result<(), Stop>
     ensures { Tells (λ _. told.new) result (with_lines (numbered key_line_of 0 keys.now) told.old) }
 {
+    let mut lines = LinePrinter::new(alloc);
     'keys: for (number, reply) in keys.iter().enumerate() {
-        let line = key_line(alloc, number as u64, reply)?;
+        let line = lines.key_line(number as u64, reply)?;
         told.expect(&line)?;
     }
     Ok(())
@@ -33,8 +34,9 @@ fn read_contexts(told: &mut Told, alloc: Global, replies: &[ContextReply]) -> Re
     ensures { Tells (λ _. told.new) result
         (with_lines (numbered context_line_of 0 replies.now) told.old) }
 {
+    let mut lines = LinePrinter::new(alloc);
     'contexts: for (number, reply) in replies.iter().enumerate() {
-        let line = context_line(alloc, number as u64, reply)?;
+        let line = lines.context_line(number as u64, reply)?;
         told.expect(&line)?;
     }
     Ok(())

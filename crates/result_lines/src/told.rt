@@ -16,7 +16,7 @@ use crate::stop::Stop;
 use batch_plans::{Batch, CallLine, PlainList};
 use context_books::refusal_of;
 use hpke_context::Context;
-use reply_frames::numbered_line;
+use reply_frames::LinePrinter;
 use std::alloc::Global;
 use std::marker::Model;
 use std::mem;
@@ -124,7 +124,7 @@ impl<'a> Told<'a> {
         ensures { Tells (λ _. self.new) result
             (with_line (word.now ++ decimal number ++ codes "\n") self.old) }
     {
-        let line = numbered_line(alloc, word, number)?;
+        let line = LinePrinter::new(alloc).numbered_line(word, number)?;
         self.expect(&line)
     }
 

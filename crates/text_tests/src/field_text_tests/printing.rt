@@ -54,3 +54,22 @@ fn a_long_text_is_printed_in_pieces(rt: HostRuntime) {
     expect_long(&rt, rt.alloc(), 0, Printed::Whole, 80_000);
     expect_long(&rt, rt.alloc(), 2, Printed::Failed, 32_768);
 }
+
+// Own, by hand: what waited before the new beginning isn't written, and a failed write is forgotten.
+#[test]
+fn a_buffer_that_begins_anew_has_nothing_of_before(rt: HostRuntime) {
+    let alloc = rt.alloc();
+    let room = vec![in alloc; 0; 100].expect(&rt, "memory");
+    let failing = Vec::from_array(alloc, [1]).expect(&rt, "memory");
+    let mut sink = MemorySink::new(room, 100, failing);
+    let mut out = Buffer::new();
+    out.put_text(&mut sink, b"lost");
+    let failed = out.finish(&mut sink);
+    assert_same(&rt, failed, Printed::Failed, "outcome of the first write");
+    out.put_text(&mut sink, b"lost too");
+    out.restart();
+    out.put_text(&mut sink, b"kept");
+    let printed = out.finish(&mut sink);
+    assert_same(&rt, printed, Printed::Whole, "outcome of the second write");
+    assert_same(&rt, sink.bytes(), b"kept".as_slice(), "what is written");
+}

@@ -22,7 +22,7 @@ lanes-preserved c =
     let so_far = c.lanes.lists.items in
     let here = c.as_slice.ensures.items ∙ c.index-asks-lane.is in
     let later = lanes_from (i + 1) (drop (i + 1) asks) in
-    rw (c.in_ok-push.ensures.items, c.from_vec.ensures, c.in_ok-spots.ensures)
+    rw (c.in_ok-push.ensures.items, c.from_vec.ensures.items, c.in_ok-spots.ensures)
     (append_assoc so_far _ later
     ∙ ap (λ (calls : List Asked). so_far ++ (spots_from i 0 calls ∷ later)) here
     ∙ ap (λ (ls : List (List Asked)). so_far ++ lanes_from i ls) (sym (drop_next asks i _ c.lanes-test.true))

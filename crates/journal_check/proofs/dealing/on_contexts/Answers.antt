@@ -16,6 +16,6 @@ lists-preserved c =
     let size : length c.deal_places.new.piles ≡ c.lists.piles.len = omega (arith, c.deal_places.auto, c.deref_mut.ensures.len) in
     ap (λ (piles : List (List Place)). by_context piles (joined (drop (i + 1) lists)))
     (with_items_is c.lists.piles c.deal_places.new.piles size ∙ c.in_ok-deal_places.ensures
-    ∙ ap (by_context c.deref_mut.result.now) c.as_slice.ensures
+    ∙ ap (by_context c.deref_mut.result.now) c.as_slice.ensures.items
     ∙ ap (λ (piles : List (List Place)). by_context piles list) c.deref_mut.ensures.value)
     ∙ dealt_next c.lists.piles.items (drop i lists) list (drop (i + 1) lists) _ at c.lists.invariant

@@ -11,7 +11,7 @@ returns-then-not-legal c =
     let i = c.journals.number in
     let lt = c.journals-test.true in
     let low : i < length c.args.asked.now = omega (arith, lt, c.requires.asked_size) in
-    let due = pile_is c.args.asked.now i c.index-asked-number.result c.as_slice-due.result.now (asked_on batch i) low (c.as_slice-due.ensures ∙ c.index-asked-number.is) (c.requires.asked i lt) in
+    let due = pile_is c.args.asked.now i c.index-asked-number.result c.as_slice-due.result.now (asked_on batch i) low (c.as_slice-due.ensures.items ∙ c.index-asked-number.is) (c.requires.asked i lt) in
     broken_here c.args.stamps batch c.args.journals.now i c.index-journals-number.result c.as_slice.result.now lt (c.as_slice.ensures.items ∙ c.index-journals-number.is) _
     c.journals.invariant c.in_ok-legal.legal (c.in_ok-legal.ensures i due) c.if-not-legal.true
 
@@ -21,7 +21,7 @@ journals-preserved c =
     let i = c.journals.number in
     let lt = c.journals-test.true in
     let low : i < length c.args.asked.now = omega (arith, lt, c.requires.asked_size) in
-    let due = pile_is c.args.asked.now i c.index-asked-number.result c.as_slice-due.result.now (asked_on batch i) low (c.as_slice-due.ensures ∙ c.index-asked-number.is) (c.requires.asked i lt) in
+    let due = pile_is c.args.asked.now i c.index-asked-number.result c.as_slice-due.result.now (asked_on batch i) low (c.as_slice-due.ensures.items ∙ c.index-asked-number.is) (c.requires.asked i lt) in
     broken_later c.args.stamps batch c.args.journals.now i c.index-journals-number.result c.as_slice.result.now lt (c.as_slice.ensures.items ∙ c.index-journals-number.is) _
     c.journals.invariant c.in_ok-legal.legal (c.in_ok-legal.ensures i due) c.if-not-legal.false
 

@@ -16,7 +16,7 @@ journals-preserved c =
     let lt = c.journals-test.true in
     let asked = c.in_ok-asked.asked.items in
     let low : i < length asked = omega (arith, lt, c.in_ok-asked.ensures.size) in
-    let due = pile_is asked i _ c.as_slice.result.now (asked_on batch i) low (c.as_slice.ensures ∙ c.index.ensures) (c.in_ok-asked.ensures.each i lt) in
+    let due = pile_is asked i _ c.as_slice.result.now (asked_on batch i) low (c.as_slice.ensures.items ∙ c.index.ensures) (c.in_ok-asked.ensures.each i lt) in
     ap (λ (kept : List (List Mark)). kept ++ kept_from batch (i + 1) (drop (i + 1) c.args.journals.now)) c.in_ok-push.ensures.items
     ∙ keep_next batch c.args.journals.now i _ c.index-journals-number.result c.in_ok-first.field-0 c.journals.kept.items _ lt c.index-journals-number.is
     (c.in_ok-first.ensures ∙ ap (λ (pile : List Place). take (length pile + 1) c.index-journals-number.result) due)

@@ -1,11 +1,11 @@
 use Rattle.std.proofs.Common.{◌≡◌, ℕ, [], ap, ◌∙◌, arith}
 use Rattle.std.specs.Prelude.{replicate}
 use Rattle.std.proofs.lemmas.List.{replicate_more}
-use Rattle.journal_check.proofs.piles.empty_piles.Goals as goal
+use Rattle.journal_check.proofs.dealing.empty_piles.Goals as goal
 
 pub piles-preserved : goal.piles-preserved
 piles-preserved g c =
-    rw (c.in_ok-push.ensures.items, c.piles.invariant, c.new.ensures) (replicate_more c.piles._pile [])
+    rw (c.in_ok-push.ensures.items, c.piles.invariant, c.new.ensures.items) (replicate_more c.piles._pile [])
 
 pub returns : goal.returns
 returns g c =
