@@ -1,6 +1,6 @@
 -- What the calls of the KEM ensure, as the definitions say it.
 use Rattle.std.proofs.Common.{◌≡◌, ◌≢◌, ℕ, List, length, Option, Some, Result, Ok, Err, sym, ap, subst, ◌∙◌, inl, inr}
-use Rattle.std.specs.Prelude.{slice_get, IfOk}
+use Rattle.std.specs.Prelude.{slice_get, IfOk, MatchResult, IsOkAnd}
 use Rattle.std.proofs.lemmas.Bool.{cases_eq}
 use Rattle.ring_core.specs.Sets.{Set}
 use Rattle.sntrup_core.specs.Keys.{FindsG, FindsNoInverse}
@@ -62,3 +62,15 @@ pub key_of_reply : {A E : Type 0} (result : Result A E) (replied : A → KeyRepl
     → IfOk result (λ a. held a ≡ key_by kem bytes (replied a))
 key_of_reply (Ok a) replied held kem bytes reply is key = key ∙ sym (ap (key_by kem bytes) is)
 key_of_reply (Err e) replied held kem bytes reply is key = tt
+
+-- what is said of a reply is said of it where it is passed on
+pub passed_on : {A B E : Type 0} (first : Result A E) (result : Result B E) (replied : A → KeyReply)
+    (passed : B → KeyReply) (Made : A → B → Type 0) (P : KeyReply → Type 0)
+    → ((a : A) (b : B) → Made a b → passed b ≡ replied a) → IfOk first (λ a. P (replied a))
+    → MatchResult first (λ a. IsOkAnd result (Made a)) (λ e. result ≡ Err e)
+    → IfOk result (λ b. P (passed b))
+passed_on (Ok a) (Ok b) replied passed Made P same before made = subst P (sym (same a b made)) before
+passed_on (Ok a) (Err e) replied passed Made P same before made = absurd made
+passed_on (Err e) (Ok b) replied passed Made P same before made =
+    absurd (let other : Ok b ≡ Err e = made in cc)
+passed_on (Err e) (Err f) replied passed Made P same before made = tt
