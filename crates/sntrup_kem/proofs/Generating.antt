@@ -1,6 +1,6 @@
 -- A pair of keys from its parts.
 use Rattle.std.proofs.Common.{◌≡◌, Ok, Err, ℕ, ◌+◌, ◌*◌, ◌<◌, ℤ, List, ◌++◌, ap, sym, subst, ◌∙◌, inl, inr}
-use Rattle.std.specs.Prelude.{◌≢◌, ◌↔◌}
+use Rattle.std.specs.Prelude.{◌≢◌, ◌↔◌, Result, IfErr}
 use Rattle.ring_core.specs.Product.{IsCentred}
 use Rattle.ring_core.specs.Sets.{Set}
 use Rattle.radix_pack.specs.Codings.{small_encode, rq_encode, IsMalformed}
@@ -46,6 +46,16 @@ gave_no_fault h = cc
 pub fault_elsewhere : {A B E : Type 0} {x : A} {y : B} {e o : E} {P : Type 0} → (Ok x ≢ Err o → ((Ok x ≡ Err e) ↔ P)) → Ok y ≢ Err o → ((Ok y ≡ Err e) ↔ P)
 fault_elsewhere gave _ =
     (λ h. absurd (gave_no_fault h), λ p. absurd (gave_no_fault ((gave gave_no_fault).1 p)))
+
+-- and so it does of what a last call gave, whose only fault is the one that is left out
+pub fault_passed : {A B E : Type 0} {x : A} {e o : E} {P : Type 0} (last : Result B E) → IfErr last (λ fault. fault ≡ o) → (Ok x ≢ Err o → ((Ok x ≡ Err e) ↔ P)) → last ≢ Err o → ((last ≡ Err e) ↔ P)
+fault_passed (Ok y) only gave other = fault_elsewhere gave other
+fault_passed (Err fault) only gave other = absurd (other (ap Err only))
+
+-- no fault but that one
+pub gave_another : {B E : Type 0} {e o : E} (last : Result B E) → IfErr last (λ fault. fault ≡ o) → e ≢ o → last ≢ Err e
+gave_another (Ok y) only other h = gave_no_fault h
+gave_another (Err fault) only other h = other (cc (h, only))
 
 pub first_low : (set : Set) (word : ℕ → ℕ) (place j : ℕ) → FindsG set word place j → j < 64
 unfolding FindsG

@@ -1,6 +1,6 @@
 //! How keys are made from random words.
 
-ghost use Rattle.std.specs.Prelude.{◌≡◌, ◌≢◌, ◌↔◌, ℕ, ◌+◌, ◌*◌, ◌^◌, ◌<◌, ◌≤◌, length, take, ◌++◌, IfOk, OnOk, vec_len};
+ghost use Rattle.std.specs.Prelude.{◌≡◌, ◌≢◌, ◌↔◌, ℕ, ◌+◌, ◌*◌, ◌^◌, ◌<◌, ◌≤◌, length, take, ◌++◌, IfOk, IfErr, OnOk, vec_len};
 ghost use Rattle.radix_pack.specs.Codings.{small_length, small_encode, rq_length, rq_encode, IsMalformed};
 ghost use Rattle.rand_words.specs.Words.{TakesAtMost};
 ghost use Rattle.sntrup_core.specs.Keys.{FindsG, IsExhausted, FindsNoInverse};
@@ -31,13 +31,16 @@ fn coded<S: Params>(
     alloc: Global,
     public: &PublicPoly<S>,
     secret: &SecretPolys<S>,
-) -> Result<CodedKey, AllocError>
-    ensures public { IfOk result (λ k. k.public ≡ rq_encode S.set public.now.h) }
-    ensures f { IfOk result (λ k. k.f ≡ small_encode S.set.p secret.now.f) }
-    ensures ginv { IfOk result (λ k. k.ginv ≡ small_encode S.set.p secret.now.ginv) }
-    ensures public_count { IfOk result (λ k. length k.public ≡ rq_length S.set) }
-    ensures f_count { IfOk result (λ k. length k.f ≡ small_length S.set.p) }
-    ensures ginv_count { IfOk result (λ k. length k.ginv ≡ small_length S.set.p) }
+) -> Result<CodedKey, KeyFault>
+    ensures codings { IfOk result (λ k.
+        (k.public ≡ rq_encode S.set public.now.h)
+        × (k.f ≡ small_encode S.set.p secret.now.f)
+        × (k.ginv ≡ small_encode S.set.p secret.now.ginv)) }
+    ensures counts { IfOk result (λ k.
+        (length k.public ≡ rq_length S.set)
+        × (length k.f ≡ small_length S.set.p)
+        × (length k.ginv ≡ small_length S.set.p)) }
+    ensures fault { IfErr result (λ fault. fault ≡ KeyFault.OutOfMemory) }
 {
     Ok(CodedKey {
         public: rq_encode(alloc, &public.h)?,
@@ -58,11 +61,12 @@ fn coded_key<S: Params, R: Words, M: Multiplier>(
         × (j < 64)
         × (R.place words.new ≡ R.place words.old + (j + 2) * S.set.p)
         × IsCodedKey S.set (R.word words.old) (R.place words.old) j k.public k.f k.ginv) }
-    ensures public_count { IfOk result (λ k. length k.public ≡ rq_length S.set) }
-    ensures f_count { IfOk result (λ k. length k.f ≡ small_length S.set.p) }
-    ensures ginv_count { IfOk result (λ k. length k.ginv ≡ small_length S.set.p) }
-    ensures f_form { IfOk result (λ k. ¬ IsMalformed S.set.p k.f) }
-    ensures ginv_form { IfOk result (λ k. ¬ IsMalformed S.set.p k.ginv) }
+    ensures counts { IfOk result (λ k.
+        (length k.public ≡ rq_length S.set)
+        × (length k.f ≡ small_length S.set.p)
+        × (length k.ginv ≡ small_length S.set.p)) }
+    ensures forms { IfOk result (λ k.
+        (¬ IsMalformed S.set.p k.f) × (¬ IsMalformed S.set.p k.ginv)) }
     ensures exhausted { result ≢ Err KeyFault.OutOfMemory → ((result ≡ Err KeyFault.Exhausted)
         ↔ IsExhausted S.set (R.word words.old) (R.place words.old)) }
     ensures no_inverse { result ≢ Err KeyFault.OutOfMemory → ((result ≡ Err KeyFault.NoInverse)
@@ -76,7 +80,7 @@ fn coded_key<S: Params, R: Words, M: Multiplier>(
     ensures stays { R.word words.new ≡ R.word words.old }
 {
     let (public, secret) = keygen::<S, R, M>(alloc, words, mult)?;
-    Ok(coded(alloc, &public, &secret)?)
+    coded(alloc, &public, &secret)
 }
 
 // The next words as bytes, each its low byte first.
@@ -126,6 +130,26 @@ fn secret_bytes(alloc: Global, key: &CodedKey, rho: &ByteList) -> Result<ByteLis
     Ok(PlainList::from_vec(bytes))
 }
 
+// The pair of keys of these codings.
+fn paired<S: KemParams>(
+    alloc: Global,
+    key: CodedKey,
+    rho: &ByteList,
+) -> Result<(PublicKey<S>, SecretKey<S>), KeyFault>
+    requires counts { (length key.public ≡ rq_length S.set)
+        × (length key.f ≡ small_length S.set.p)
+        × (length key.ginv ≡ small_length S.set.p)
+        × (length rho.now ≡ small_size S.set) }
+    requires forms { (¬ IsMalformed S.set.p key.f) × (¬ IsMalformed S.set.p key.ginv) }
+    ensures keys { IfOk result (λ k.
+        (k.0 ≡ key.public)
+        × (k.1 ≡ key.f ++ key.ginv ++ key.public ++ rho.now ++ key_hash key.public)) }
+    ensures fault { IfErr result (λ fault. fault ≡ KeyFault.OutOfMemory) }
+{
+    let secret = SecretKey::from_list(secret_bytes(alloc, &key, rho)?);
+    Ok((PublicKey::from_list(key.public), secret))
+}
+
 /// KeyGen with rho (NTRU Prime round 3): a pair of keys from random words.
 ///
 /// Takes the words of [`keygen`], and where these give a key those of rho: 48 more for sntrup761,
@@ -155,6 +179,5 @@ pub fn generate<S: KemParams, R: Words, M: Multiplier>(
 {
     let key = coded_key::<S, R, M>(alloc, words, mult)?;
     let rho = draw_rho::<S, R>(alloc, words)?;
-    let secret = SecretKey::from_list(secret_bytes(alloc, &key, &rho)?);
-    Ok((PublicKey::from_list(key.public), secret))
+    paired(alloc, key, &rho)
 }

@@ -1,7 +1,7 @@
 //! What the KEM is for. Each law is the contract of a function that does nothing, but for that of
 //! an exchange, which makes the three calls.
 
-ghost use Rattle.std.specs.Prelude.{◌≡◌, ◌≢◌, ◌↔◌, ℕ, ◌+◌, ◌*◌, ◌^◌, ◌≤◌, List, IfOk};
+ghost use Rattle.std.specs.Prelude.{◌≡◌, ◌≢◌, ◌↔◌, ℕ, ◌+◌, ◌*◌, ◌^◌, ◌≤◌, List, IfOk, IfErr};
 ghost use Rattle.ring_core.specs.Sets.{sntrup761, sntrup857};
 ghost use Rattle.sntrup_core.specs.Keys.{IsExhausted, FindsNoInverse};
 ghost use Rattle.sntrup_kem.specs.Sizes.{rho_words};
@@ -15,7 +15,7 @@ use crate::params::KemParams;
 use rand_words::Words;
 use ring_core::Multiplier;
 use sntrup_core::KeyFault;
-use std::alloc::{AllocError as OutOfMemory, Global};
+use std::alloc::Global;
 
 /// With each pair of keys that [`generate`](crate::generate) gives, [`decap`](crate::decap) gives
 /// the session key of each [`encap`](crate::encap), whose r is short.
@@ -50,12 +50,14 @@ fn session_keys<S: KemParams, R: Words, M: Multiplier, N: Multiplier>(
     decapsulating: &N,
     public: &PublicKey<S>,
     secret: &SecretKey<S>,
-) -> Result<([u8; 32], [u8; 32]), OutOfMemory>
+) -> Result<([u8; 32], [u8; 32]), KeyFault>
     requires { R.place words.old + S.set.p ≤ 2 ^ 32 }
-    ensures sent { IfOk result (λ keys. keys.0
-        ≡ session_of S.set public.now (drawn_r S.set (R.word words.old) (R.place words.old))) }
-    ensures received { IfOk result (λ keys. keys.1 ≡ decapsulated S.set secret.now
-        (enc_of S.set public.now (drawn_r S.set (R.word words.old) (R.place words.old)))) }
+    ensures keys { IfOk result (λ keys.
+        (keys.0 ≡ session_of S.set public.now
+        (drawn_r S.set (R.word words.old) (R.place words.old)))
+        × (keys.1 ≡ decapsulated S.set secret.now
+        (enc_of S.set public.now (drawn_r S.set (R.word words.old) (R.place words.old))))) }
+    ensures fault { IfErr result (λ fault. fault ≡ KeyFault.OutOfMemory) }
 {
     let (enc, encapsulated) = encap(alloc, words, encapsulating, public)?;
     let decapsulated = decap(alloc, decapsulating, enc.as_slice(), secret)?;
@@ -83,5 +85,5 @@ pub fn exchanged_keys<S: KemParams, R: Words, L: Multiplier, M: Multiplier, N: M
         ↔ FindsNoInverse S.set (R.word words.old) (R.place words.old)) }
 {
     let (public, secret) = generate::<S, R, L>(alloc, words, generating)?;
-    Ok(session_keys(alloc, words, encapsulating, decapsulating, &public, &secret)?)
+    session_keys(alloc, words, encapsulating, decapsulating, &public, &secret)
 }

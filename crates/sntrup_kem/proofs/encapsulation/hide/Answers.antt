@@ -1,4 +1,5 @@
-use Rattle.std.proofs.Common.{◌≡◌, ap, ◌∙◌}
+use Rattle.std.proofs.Common.{◌≡◌, ap, ◌∙◌, arith}
+use Rattle.std.proofs.lemmas.Grind.{common_steps}
 use Rattle.radix_pack.specs.Codings.{small_encode}
 use Rattle.sntrup_kem.specs.Hashes.{hash_confirm}
 use Rattle.sntrup_kem.specs.Kem.{ciphertext}
@@ -11,3 +12,6 @@ returns-clause-enc g c =
     c.hash_confirm-confirm.ensures ∙ ap (λ t. hash_confirm t c.args.cache.now) (c.as_slice.ensures.items ∙ c.in_ok-r_enc.ensures.bytes)
     in
     cc (c.in_ok-joined.ensures, first, second)
+
+pub returns-clause-count : goal.returns-clause-count
+returns-clause-count g c = grind (arith, common_steps)
