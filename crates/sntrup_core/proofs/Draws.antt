@@ -1,5 +1,6 @@
 -- The draws of g, one after another.
-use Rattle.std.proofs.Common.{◌≡◌, ℕ, ◌+◌, ◌*◌, ◌%◌, ◌^◌, ◌<◌, ◌≤◌, ℤ, List, arith, ap, sym, subst, ◌∙◌, inl, inr, below_more}
+use Rattle.std.proofs.Common.{◌≡◌, ℕ, ◌+◌, ◌*◌, ◌%◌, ◌^◌, ◌<◌, ◌≤◌, ℤ, List, arith, ap, sym, subst, ◌∙◌, inl, inr, below_more, Ok, Err}
+use Rattle.std.specs.Prelude.{◌≢◌, ◌↔◌, ◌⊎◌, Result, IfOk, IfErr}
 use Rattle.std.proofs.lemmas.Bool.{cases_order}
 use Rattle.std.proofs.lemmas.Nat.{mul-le}
 use Rattle.ring_core.specs.Product.{product, IsCentred}
@@ -8,6 +9,8 @@ use Rattle.ring_inverse.specs.Reciprocals.{triple, IsInverse, HasInverse}
 use Rattle.rand_words.specs.Samples.{small, short}
 use Rattle.rand_words.specs.Words.{words_from}
 use Rattle.rand_words.proofs.SampleLaws.{IsCentred-small_words, IsCentred-short_words, length-words_from}
+use Rattle.sntrup_core.specs.declared.keys.KeyFault.{KeyFault}
+use Rattle.sntrup_core.specs.declared.keys.KeyFault.TheVariants.{Exhausted, NoInverse, OutOfMemory}
 use Rattle.sntrup_core.specs.Keys.{drawn_g, drawn_f, FindsNone, FindsG, IsExhausted, FindsNoInverse, IsKey, IsInvertible, IsFoundWith}
 use Rattle.sntrup_core.proofs.Residues.{IsCentred-from_3}
 use Rattle.sntrup_core.proofs.Quotient.{quotient_is}
@@ -94,6 +97,26 @@ key_from set word place j g ginv f v h two least odd d cv inverse e =
             ∙ d.g_is.0;
       },
     )
+
+-- the same, of polynomials that are f and 1 / g
+pub key_with : (set : Set) (word : ℕ → ℕ) (place j : ℕ) (g ginv f v h f' ginv' : List ℤ) → 2 ≤ set.p → 2 < set.q → set.q % 2 ≡ 1 → Drawn set word place j g ginv f → f' ≡ f → ginv' ≡ ginv → IsCentred set.q set.p v → IsInverse set.q set.p (triple f) v → h ≡ product set.q set.p v g → (i : ℕ) × FindsG set word place i × IsKey set word place i h f' ginv'
+key_with set word place j g ginv f v h f' ginv' two least odd d ef eg cv inverse e =
+    let F : List ℤ → Type 0 = λ t. (i : ℕ) × FindsG set word place i × IsKey set word place i h t ginv' in
+    let G : List ℤ → Type 0 = λ t. (i : ℕ) × FindsG set word place i × IsKey set word place i h f t in
+    subst F (sym ef) (subst G (sym eg) (key_from set word place j g ginv f v h two least odd d cv inverse e))
+
+-- the faults there are once f is drawn
+pub never_exhausted : {A : Type 0} (last : Result A KeyFault) (P : Type 0) → IfErr last (λ fault. (fault ≡ OutOfMemory) ⊎ ((fault ≡ NoInverse) × P)) → last ≢ Err Exhausted
+never_exhausted (Ok x) P only h = cc
+never_exhausted (Err fault) P (inl m) h = cc
+never_exhausted (Err fault) P (inr n) h = let is = n.0 in cc
+
+pub no_inverse_exactly : {A : Type 0} (last : Result A KeyFault) (set : Set) (word : ℕ → ℕ) (place j : ℕ) (g ginv f : List ℤ) → Drawn set word place j g ginv f → IfOk last (λ _. HasInverse set.q set.p (triple f)) → IfErr last (λ fault. (fault ≡ OutOfMemory) ⊎ ((fault ≡ NoInverse) × (¬ HasInverse set.q set.p (triple f)))) → last ≢ Err OutOfMemory → ((last ≡ Err NoInverse) ↔ FindsNoInverse set word place)
+no_inverse_exactly (Ok x) set word place j g ginv f d has only other =
+    (λ h. absurd (cc), λ n. absurd (has_no_fault set word place j g ginv f has.0 d has.1 has.2 n))
+no_inverse_exactly (Err fault) set word place j g ginv f d has (inl m) other = absurd (other (ap Err m))
+no_inverse_exactly (Err fault) set word place j g ginv f d has (inr n) other =
+    (λ _. no_inverse_from set word place j g ginv f d n.1, λ _. ap Err n.0)
 
 pub drawn_from : (set : Set) (word word' : ℕ → ℕ) (place next : ℕ) (g ginv f : List ℤ) (found : IsFoundWith set word place next g ginv) → word' ≡ word → f ≡ short set (words_from word' next set.p) → Drawn set word place found.0 g ginv f
 drawn_from set word word' place next g ginv f found e h = record {

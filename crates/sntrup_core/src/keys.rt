@@ -1,10 +1,11 @@
 //! Keys and how they are drawn.
 
-ghost use Rattle.std.specs.Prelude.{◌≡◌, ◌≢◌, ◌↔◌, ℕ, ◌+◌, ◌*◌, ◌^◌, ◌≤◌, IfOk, IfSome, IfNone, OnOk, Some};
-ghost use Rattle.ring_inverse.specs.Reciprocals.{HasInverse};
+ghost use Rattle.std.specs.Prelude.{◌≡◌, ◌≢◌, ◌↔◌, ◌⊎◌, ℕ, ◌+◌, ◌*◌, ◌^◌, ◌≤◌, ℤ, List, IfOk, IfErr, IfSome, IfNone, OnOk, Some};
+ghost use Rattle.ring_core.specs.Product.{product, IsCentred};
+ghost use Rattle.ring_inverse.specs.Reciprocals.{triple, IsInverse, HasInverse};
 ghost use Rattle.rand_words.specs.Samples.{small};
 ghost use Rattle.rand_words.specs.Words.{words_from, TakesAtMost};
-ghost use Rattle.sntrup_core.specs.declared.keys.KeyFault.TheVariants.{OutOfMemory};
+ghost use Rattle.sntrup_core.specs.declared.keys.KeyFault.TheVariants.{NoInverse, OutOfMemory};
 ghost use Rattle.sntrup_core.specs.Faults.{fault_text};
 ghost use Rattle.sntrup_core.specs.Keys.{FindsG, IsExhausted, FindsNoInverse, IsKey, IsInvertible, IsFoundWith};
 
@@ -123,6 +124,28 @@ fn find_invertible<S: Params, R: Words, M: Multiplier>(
     Ok(None)
 }
 
+// The key of g and f, where 3f has an inverse.
+fn key_of<S: Params, M: Multiplier>(
+    alloc: Global,
+    mult: &M,
+    found: Invertible<S>,
+    f: Small<S>,
+) -> Result<(PublicPoly<S>, SecretPolys<S>), KeyFault>
+    ensures key { IfOk result (λ k. (k.1.f ≡ f) × (k.1.ginv ≡ found.ginv)
+        × (v : List ℤ) × IsCentred S.set.q S.set.p v × IsInverse S.set.q S.set.p (triple f) v
+        × (k.0.h ≡ product S.set.q S.set.p v found.g)) }
+    ensures fault { IfErr result (λ fault. (fault ≡ OutOfMemory)
+        ⊎ ((fault ≡ NoInverse) × (¬ HasInverse S.set.q S.set.p (triple f)))) }
+{
+    let reciprocal = reciprocal_3f(alloc, mult, &f)?;
+    let Reciprocal::Inverse(v) = reciprocal else {
+        return Err(KeyFault::NoInverse);
+    };
+    let h = mult.mul_q_small(alloc, &v, &found.g)?;
+    let ginv = found.ginv;
+    Ok((PublicPoly { h }, SecretPolys { f, ginv }))
+}
+
 /// KeyGen (NTRU Prime round 3): a key from random words.
 ///
 /// Draws g until it has an inverse in R/3, at most 64 times; then f; then h is g/(3f). Takes
@@ -154,11 +177,5 @@ pub fn keygen<S: Params, R: Words, M: Multiplier>(
         return Err(KeyFault::Exhausted);
     };
     let f = short_random::<S, R>(alloc, words)?;
-    let reciprocal = reciprocal_3f(alloc, mult, &f)?;
-    let Reciprocal::Inverse(v) = reciprocal else {
-        return Err(KeyFault::NoInverse);
-    };
-    let h = mult.mul_q_small(alloc, &v, &found.g)?;
-    let ginv = found.ginv;
-    Ok((PublicPoly { h }, SecretPolys { f, ginv }))
+    key_of(alloc, mult, found, f)
 }

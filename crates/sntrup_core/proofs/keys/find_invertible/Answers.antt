@@ -1,4 +1,5 @@
-use Rattle.std.proofs.Common.{◌≡◌, ℕ, ◌*◌, arith, ap, refl, ◌∙◌}
+use Rattle.std.proofs.Common.{◌≡◌, ℕ, ◌+◌, ◌*◌, arith, ap, refl, ◌∙◌}
+use Rattle.std.proofs.lemmas.Nat.{mul-le}
 use Rattle.sntrup_core.specs.Keys.{FindsNone, IsExhausted}
 use Rattle.sntrup_core.proofs.Draws.{room_for_draw, FindsNone-more, found_with}
 use Rattle.sntrup_core.proofs.keys.find_invertible.Goals as goal
@@ -43,4 +44,12 @@ returns-clause-none g c =
     let end : c.loop-draw._draw ≡ 64 = omega arith in (
       λ i l. c.loop-draw.invariant.none i (omega arith),
       omega (arith, c.loop-draw.invariant.place, ap {B = ℕ} (λ t. t * g.S.Params.set.p) end),
+    )
+
+pub returns-in-Some-clause-at_most : goal.returns-in-Some-clause-at_most
+returns-in-Some-clause-at_most g c =
+    let p = g.S.Params.set.p in
+    let most = mul-le (c.loop-draw._draw + 1) p 64 p (omega arith) (omega arith) in (
+      omega (arith, c.in_ok-drawn.ensures.taken, c.loop-draw.invariant.place),
+      omega (arith, c.in_ok-drawn.ensures.taken, c.loop-draw.invariant.place, most),
     )
