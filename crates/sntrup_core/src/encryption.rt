@@ -3,7 +3,7 @@
 ghost use Rattle.std.specs.Prelude.{◌≡◌, pos, ◌-◌, ◌≤◌, ◌++◌, map, replicate, vec_len, IfOk};
 ghost use Rattle.ring_core.specs.Bounds.{IsWithin};
 ghost use Rattle.ring_core.specs.Product.{centred};
-ghost use Rattle.sntrup_core.specs.Encryption.{rounded, encrypted, decrypted};
+ghost use Rattle.sntrup_core.specs.Encryption.{rounded, encrypted, shortened, decrypted};
 
 use crate::choosing::{choose_list, mask_of};
 use crate::keys::{PublicPoly, SecretPolys};
@@ -71,6 +71,15 @@ fn ones_and_zeros(alloc: Global, p: usize, w: usize) -> Result<Vec<i8>, OutOfMem
     Ok(list)
 }
 
+// The polynomial where it is short, and else w ones followed by zeros.
+fn shortened<S: Params>(alloc: Global, r: &Small<S>) -> Result<Small<S>, OutOfMemory>
+    ensures { IfOk result (λ list. list ≡ shortened S.set r.now) }
+{
+    let mut list = ones_and_zeros(alloc, S::P, S::W)?;
+    choose_list(mask_of(r.weight(), S::W), r.as_slice(), &mut list);
+    Ok(Small::from_vec(list))
+}
+
 /// Decrypt (NTRU Prime round 3): e = 3 f c in R/q, taken modulo 3, times 1/g.
 ///
 /// Where the result is not short, it is w ones followed by zeros. So every `c` is taken. These are
@@ -86,7 +95,5 @@ pub fn decrypt<S: Params, M: Multiplier>(
     let tripled = times_3f(alloc, mult, c, &secret.f)?;
     let e = Small::from_vec(residues_3(alloc, tripled.as_slice())?);
     let r = mult.mul_3(alloc, &e, &secret.ginv)?;
-    let mut list = ones_and_zeros(alloc, S::P, S::W)?;
-    choose_list(mask_of(r.weight(), S::W), r.as_slice(), &mut list);
-    Ok(Small::from_vec(list))
+    shortened(alloc, &r)
 }
