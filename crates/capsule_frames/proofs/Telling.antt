@@ -30,16 +30,15 @@ refused_so (Err error) refusal Memory So is memory so = tt
 -- what becomes of an ask, whose key is found
 pub sent_is : (plan : Plan) (keys : List KeyReply) (slots : List (Option Key))
     (number k id : ℕ) (kdf : Kdf) (aead : Aead) (text : Span) (key : Key) (word : ℕ → ℕ)
-    (pool bytes : List ℕ) (made : SentView)
+    (pool bytes : List ℕ) (made : Result SentView CapsuleRefusal)
     → HoldKeys plan keys slots → Some (view_of key) ≡ held_in (slice_get slots k)
     → word ≡ context_words plan number → pool ≡ plan.pool → bytes ≡ span_bytes pool text
-    → made ≡ sent_to (view_of key).kem (view_of key).public id kdf aead word bytes
-    → Ok made ≡ sent plan keys number k id kdf aead text
+    → made ≡ Ok (sent_to (view_of key).kem (view_of key).public id kdf aead word bytes)
+    → made ≡ sent plan keys number k id kdf aead text
 unfolding sent
 sent_is plan keys slots number k id kdf aead text key word pool bytes made held found words pool_is
     bytes_is is =
-    let stands : SentView → Result SentView CapsuleRefusal = λ s. Ok s in
-    ap stands is
+    is
     ∙ ap (λ (w : ℕ → ℕ). sent_by (Some (view_of key)) id kdf aead w bytes) words
     ∙ ap (sent_by (Some (view_of key)) id kdf aead (context_words plan number))
     (bytes_is ∙ ap (λ (p : List ℕ). span_bytes p text) pool_is)

@@ -13,7 +13,7 @@ use crate::jobs::{AnswerJob, jobs};
 use crate::known::KnownText;
 use crate::lines::CapsulePlan;
 use crate::replies::CapsuleRefusal;
-use crate::results::{AnswerResult, AskResult, Given, push_last};
+use crate::results::{AnswerResult, AskResult, Given, push_last, push_made};
 use aes_gcm::MayCheck;
 use batch_plans::{EncField, Plan};
 use context_table::{Key, KeyPair, KeyTable};
@@ -224,7 +224,7 @@ fn filled<'p>(
 {
     let mut answers = Vec::new(alloc);
     'slots: for slot in slots {
-        push_last(&mut answers, slot?)?;
+        push_made(&mut answers, slot)?;
     }
     Ok(answers)
 }

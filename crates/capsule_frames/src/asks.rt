@@ -1,6 +1,6 @@
 //! The asks of a plan.
 
-ghost use Rattle.std.specs.Prelude.{◌≡◌, ◌≢◌, ◌^◌, ◌<◌, ◌≤◌, length, IfOk, IsSome};
+ghost use Rattle.std.specs.Prelude.{◌≡◌, ◌≢◌, ◌^◌, ◌<◌, ◌≤◌, length, Ok, IfOk, IsSome};
 ghost use Rattle.hkdf_labelled.specs.declared.suites.Aead.TheVariants.{ExportOnly};
 ghost use Rattle.batch_plans.specs.Within.{IsField};
 ghost use Rattle.context_table.specs.Slots.{view_of, HoldKeys};
@@ -11,7 +11,7 @@ ghost use Rattle.capsule_frames.specs.Orders.{asks_from};
 
 use crate::lines::{CapsuleLine, CapsulePlan};
 use crate::replies::CapsuleRefusal;
-use crate::results::{AskResult, Sent, push_last};
+use crate::results::{AskResult, Sent, push_made};
 use batch_plans::Plan;
 use call_places::Span;
 use context_table::{Key, KeyPair, KeyTable, context_stream};
@@ -41,19 +41,19 @@ fn sent_to<'p, S: KemParams, M: Multiplier>(
     key: &KeyPair<S>,
     job: AskJob,
     text: &'p [u8],
-) -> Result<Sent<'p>, OutOfMemory>
+) -> Result<AskResult<'p>, OutOfMemory>
     requires start { ⟦<SeedStream as Words>⟧.place words ≡ 0 }
     requires size { S.ENC ≤ 1184 }
     requires aead { job.aead ≢ ExportOnly }
     requires text { length text.now ≤ most_text }
-    ensures { IfOk result (λ s. s ≡ sent_to key.now.kem key.now.public job.id job.kdf job.aead
-        (⟦<SeedStream as Words>⟧.word words) text.now) }
+    ensures { IfOk result (λ s. s ≡ Ok (sent_to key.now.kem key.now.public job.id job.kdf job.aead
+        (⟦<SeedStream as Words>⟧.word words) text.now)) }
 {
     let public = key.public();
     let (asked, request) = ask(
         alloc, &mut words, mult, public, job.id, job.kdf, job.aead, text,
     )?;
-    Ok(Sent::new(asked, request, text))
+    Ok(Ok(Sent::new(asked, request, text)))
 }
 
 // The same to a key of either parameter set.
@@ -64,12 +64,12 @@ fn sent_by<'p, M: Multiplier>(
     key: &Key,
     job: AskJob,
     text: &'p [u8],
-) -> Result<Sent<'p>, OutOfMemory>
+) -> Result<AskResult<'p>, OutOfMemory>
     requires start { ⟦<SeedStream as Words>⟧.place words ≡ 0 }
     requires aead { job.aead ≢ ExportOnly }
     requires text { length text.now ≤ most_text }
-    ensures { IfOk result (λ s. s ≡ sent_to (view_of key.now).kem (view_of key.now).public job.id
-        job.kdf job.aead (⟦<SeedStream as Words>⟧.word words) text.now) }
+    ensures { IfOk result (λ s. s ≡ Ok (sent_to (view_of key.now).kem (view_of key.now).public
+        job.id job.kdf job.aead (⟦<SeedStream as Words>⟧.word words) text.now)) }
 {
     match key {
         Key::Of761(pair) => sent_to(alloc, words, mult, pair, job, text),
@@ -102,7 +102,7 @@ impl<'p, M: Multiplier> Client<'_, 'p, M> {
         let words = context_stream(self.plan, job.number);
         match self.keys.key(job.key) {
             None => Ok(Err(CapsuleRefusal::NoKey)),
-            Some(key) => Ok(Ok(sent_by(alloc, words, self.mult, key, job, text)?)),
+            Some(key) => sent_by(alloc, words, self.mult, key, job, text),
         }
     }
 }
@@ -145,7 +145,7 @@ pub(crate) fn all_asks<'p, M: Multiplier>(
                 aead,
                 text,
             };
-            push_last(&mut asks, client.sent(alloc, job)?)?;
+            push_made(&mut asks, client.sent(alloc, job))?;
         }
     }
     Ok(asks)

@@ -1,6 +1,6 @@
 //! What capsule lines leave for later ones.
 
-ghost use Rattle.std.specs.Prelude.{◌≡◌, ◌++◌, [], ◌∷◌, OnOk};
+ghost use Rattle.std.specs.Prelude.{◌≡◌, ◌++◌, [], ◌∷◌, OnOk, IsOkAnd};
 
 use crate::known::KnownText;
 use crate::replies::CapsuleRefusal;
@@ -144,4 +144,14 @@ pub(crate) fn push_last<T: Drop>(list: &mut Vec<T>, last: T) -> Result<(), OutOf
     ensures { OnOk result (list.new.items ≡ list.old.items ++ last ∷ []) }
 {
     Ok(list.push(last)?)
+}
+
+/// One more behind others, where it was made. Want of memory drops it.
+pub(crate) fn push_made<T: Drop>(
+    list: &mut Vec<T>,
+    made: Result<T, OutOfMemory>,
+) -> Result<(), OutOfMemory>
+    ensures { OnOk result (IsOkAnd made (λ last. list.new.items ≡ list.old.items ++ last ∷ [])) }
+{
+    push_last(list, made?)
 }

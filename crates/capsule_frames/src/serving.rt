@@ -50,7 +50,7 @@ pub fn serve_capsules<'p, R: Threads + Sync, M: Multiplier + Sync>(
 {
     let keys = key_table(alloc, &plan.plan, mult)?;
     let asks = all_asks(alloc, plan, mult, &keys)?;
-    let answers = all_answers(rt, alloc, plan, mult, &keys, &asks)?;
+    let answers = all_answers(rt, alloc, plan, mult, &keys, &asks);
     let permission = MayCheck::on_threads(rt);
     served(permission, alloc, plan, keys.replies, asks, answers)
 }
@@ -67,7 +67,7 @@ pub fn serve_capsules_alone<'p, M: Multiplier>(
 {
     let keys = key_table(alloc, &plan.plan, mult)?;
     let asks = all_asks(alloc, plan, mult, &keys)?;
-    let answers = all_answers_alone(permission, alloc, plan, mult, &keys, &asks)?;
+    let answers = all_answers_alone(permission, alloc, plan, mult, &keys, &asks);
     served(permission, alloc, plan, keys.replies, asks, answers)
 }
 
@@ -78,15 +78,16 @@ fn served<'p>(
     plan: &'p CapsulePlan,
     keys: KeyReplies,
     asks: Vec<AskResult<'p>>,
-    answers: Vec<AnswerResult<'p>>,
+    answers: Result<Vec<AnswerResult<'p>>, OutOfMemory>,
 ) -> Result<CapsuleAnswers<'p>, OutOfMemory>
     requires within { IsWithin plan.now }
     requires set_up { IsKeySetUp plan.now.plan keys }
     requires asks { asks.items ≡ asks_from plan.now.plan keys 0 plan.now.lines }
-    requires answers { answers.items
-        ≡ map (given_for plan.now.plan keys asks.items) (jobs_from 0 plan.now.lines) }
+    requires answers { IfOk answers (λ v. v.items
+        ≡ map (given_for plan.now.plan keys asks.items) (jobs_from 0 plan.now.lines)) }
     ensures { IfOk result (λ a. AreReplies plan.now a.keys a.replies) }
 {
+    let answers = answers?;
     let takes = all_takes(permission, alloc, plan, &asks, &answers)?;
     let replies = merged(alloc, plan.lines.as_slice(), asks, answers, takes)?;
     Ok(CapsuleAnswers {

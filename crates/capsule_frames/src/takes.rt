@@ -10,7 +10,7 @@ use crate::finding::{first, left_by, refused};
 use crate::known::KnownText;
 use crate::lines::{CapsuleLine, CapsulePlan};
 use crate::replies::CapsuleRefusal;
-use crate::results::{AnswerResult, AskResult, TakeResult, push_last};
+use crate::results::{AnswerResult, AskResult, TakeResult, push_made};
 use aes_gcm::MayCheck;
 use batch_plans::{EncField, Plan};
 use ohttp_capsule::take_by;
@@ -107,7 +107,7 @@ pub(crate) fn all_takes<'p>(
                     asks: first(asks, asks_before),
                     answers: first(answers, answers_before),
                 };
-                push_last(&mut takes, before.took(permission, alloc, ask, response)?)?
+                push_made(&mut takes, before.took(permission, alloc, ask, response))?
             }
         }
     }
