@@ -71,7 +71,7 @@ pub fn serve_capsules_alone<'p, M: Multiplier>(
     served(permission, alloc, plan, keys.replies, asks, answers)
 }
 
-// The replies to a plan, by what became of its keys, its asks and its answers.
+// The replies to a plan, by its keys, its asks and its answers, where there was memory for these.
 fn served<'p>(
     permission: MayCheck,
     alloc: Global,
