@@ -7,7 +7,6 @@ printed in that of the format.
 from __future__ import annotations
 
 import secrets
-import threading
 from binascii import hexlify
 from typing import Any, Dict, Iterable, Iterator, List, NoReturn, Optional, Sequence, Tuple, TypeVar, Union
 
@@ -26,16 +25,17 @@ from .asked import (
     UnsealCall,
 )
 from .command import Runner, output_of
-from .errors import AlreadyRun, BadBatch, BuildFailed, CommandNotFound, OutOfMemory, OverLimit, ReadFault, UsageError
+from .errors import OverLimit
+from .once import Runs
 from .reply import Reply
 from .suites import LIMITS, MOST_MESSAGES, SEED_SIZE, SNTRUP761, TAG_SIZE, Aead, Kdf, Kem, Limits, Psk
 
 C = TypeVar("C", bound=Call[Any])
-# Outcomes of which docs/FORMAT.md says that nothing was written: the batch can be run again.
-NOTHING_WRITTEN = (OverLimit, CommandNotFound, UsageError, BadBatch, ReadFault, OutOfMemory, BuildFailed)
 # What one argument of a command holds on Linux.
 MOST_SCHEDULE = 131_071
 LINES_OF_PIECE = 256
+MOST_WORKERS = 16
+MULTIPLIERS = ("plain", "karatsuba", "lanes")
 
 
 def octets(data: bytes, most: int, what: str) -> bytes:
@@ -51,6 +51,11 @@ def number(value: int, least: int, most: int, what: str) -> bytes:
     if not least <= value <= most:
         raise OverLimit(f"{what} is {value:,}, and has to be from {least:,} to {most:,}")
     return b"%d" % value
+
+
+def suite(kdf: int, aead: int) -> bytes:
+    """The fields KDF and AEAD; a ValueError where there is no such one."""
+    return b"%d %d" % (Kdf(kdf), Aead(aead))
 
 
 class Line:
@@ -97,8 +102,7 @@ class SeededBatch:
         self.keys: List[Key] = []
         self._key_lines: List[bytes] = []
         self._seed = seed
-        self._closed: Optional[str] = None  # what ran it
-        self._lock = threading.Lock()
+        self._runs = Runs()
 
     def keygen(self, kem: Kem = SNTRUP761) -> Key:
         """A new key pair: `reply[it]` has its `public` and `secret` bytes."""
@@ -118,7 +122,7 @@ class SeededBatch:
         return self.keys[number] if number < len(self.keys) else Key(self, number)
 
     def _key(self, word: bytes, kem: Kem, data: Optional[bytes]) -> Key:
-        self._is_open()
+        self._runs.need_open()
         if kem.suffix and self.version == 1:
             raise ValueError(f"keys of {kem.name} want a batch of version 2")
         if len(self.keys) == self.limits.keys:
@@ -131,7 +135,7 @@ class SeededBatch:
         return self.keys[-1]
 
     def _need_seed(self) -> None:
-        self._is_open()
+        self._runs.need_open()
         if self._seed is None:
             self._seed = secrets.token_bytes(SEED_SIZE)
 
@@ -141,10 +145,6 @@ class SeededBatch:
 
     def _first_key_line(self) -> int:
         return 2 if self._seed is None else 3
-
-    def _is_open(self) -> None:
-        if self._closed is not None:
-            raise AlreadyRun(f"this batch was run ({self._closed}), and nothing can be added to it: make another Batch")
 
     def _own(self, asked: Union[AnyAsked, AddedName]) -> None:
         if asked.batch is not self:
@@ -350,9 +350,9 @@ class Batch(SeededBatch):
         """A sender's context to a public key (RFC 9180, 5.1.1, 5.1.2): `reply[it].enc` is for the recipient."""
         self._own(key)
         self._need_seed()
-        self._seals = True
         rest = self._rest(info, psk, mode, limit)
-        return self._context(b"send %d %d %d%b" % (kdf, aead, key.number, rest))
+        self._seals = True
+        return self._context(b"send %b %d%b" % (suite(kdf, aead), key.number, rest))
 
     def recv(
         self,
@@ -374,7 +374,7 @@ class Batch(SeededBatch):
         else:
             given = octets(enc, self.limits.field, "an encapsulation")
         rest = self._rest(info, psk, mode, limit)
-        return self._context(b"recv %d %d %d %b%b" % (kdf, aead, key.number, given, rest))
+        return self._context(b"recv %b %d %b%b" % (suite(kdf, aead), key.number, given, rest))
 
     def context(self, number: int) -> Context:
         """The context of this number, whether there is such a line or not."""
@@ -386,7 +386,7 @@ class Batch(SeededBatch):
 
     def lane(self) -> Lane:
         """A lane. The calls of one lane are answered in their order; of two lanes, in any order."""
-        self._is_open()
+        self._runs.need_open()
         if len(self.lanes) == self.limits.lanes:
             raise OverLimit(f"a batch has at most {self.limits.lanes} lanes")
         self.lanes.append(Lane(self, len(self.lanes)))
@@ -409,7 +409,7 @@ class Batch(SeededBatch):
         self._seals |= role == "send"
         kem = number(kem_id, 0, 65_535, "a KEM's id")
         given = octets(secret, self.limits.field, "a shared secret")
-        head = b" %b %b %d %d %b" % (role.encode(), kem, Kdf(kdf), Aead(aead), given)
+        head = b" %b %b %b %b" % (role.encode(), kem, suite(kdf, aead), given)
         return head + self._rest(info, psk, mode, limit)
 
     def _rest(self, info: bytes, psk: Optional[Psk], mode: Optional[str], limit: int) -> bytes:
@@ -428,7 +428,7 @@ class Batch(SeededBatch):
         return self.contexts[-1]
 
     def _add_context(self, is_added: bool = False) -> None:
-        self._is_open()
+        self._runs.need_open()
         if len(self.contexts) + self._added == self.limits.contexts:
             raise OverLimit(f"a batch has at most {self.limits.contexts} contexts")
         if is_added:
@@ -441,7 +441,7 @@ class Batch(SeededBatch):
         self.adds_contexts = True
 
     def _count(self, items: int, exported: int) -> None:
-        self._is_open()
+        self._runs.need_open()
         if self._items + items > self.limits.items:
             raise OverLimit(f"a batch has at most {self.limits.items:,} items")
         if self._exported + exported > self.limits.exported:
@@ -508,27 +508,18 @@ class Batch(SeededBatch):
         return self._answered(["rehearse", word], runner)
 
     def _answered(self, words: Sequence[str], runner: Optional[Runner]) -> Reply:
-        before = self._close(words)
-        try:
+        how = " ".join(words)
+        with self._runs.run(how, lambda first: self._may_follow(first, how)):
             output = output_of(runner, words, self._within(), self.asked_at)
-        except NOTHING_WRITTEN:
-            self._closed = before
-            raise
         return Reply(self, output, is_live=words[0] == "live")
 
-    def _close(self, words: Sequence[str]) -> Optional[str]:
-        how = " ".join(words)
-        with self._lock:
-            before = self._closed
-            if before is not None and self._seals and not self._for_tests and (words[0], before) != ("rehearse", how):
-                raise AlreadyRun(
-                    f"this batch seals, and was run before ({before[:60]}). A second run may answer its lanes in another "
-                    "order, and then one key and nonce seal two messages. Make another Batch, with a fresh seed"
-                )
-            self._closed = how
-            return before
+    def _may_follow(self, first: str, how: str) -> bool:
+        """Whether this run may come after that first one: then no number seals another message than in the first."""
+        return not self._seals or self._for_tests or (how == first and how.startswith("rehearse "))
 
 
 def options(workers: Optional[int], mult: Optional[str]) -> List[str]:
-    given = [] if workers is None else ["--workers", str(workers)]
+    given = [] if workers is None else ["--workers", number(workers, 1, MOST_WORKERS, "workers").decode()]
+    if mult not in (None, *MULTIPLIERS):
+        raise ValueError(f"mult is one of {', '.join(MULTIPLIERS)}")
     return given if mult is None else [*given, "--mult", mult]

@@ -7,7 +7,7 @@ from typing import Dict, Iterator, List, Optional, TypeVar, Union, cast
 
 from .answers import LineAnswer, printed
 from .asked import Answer, AnyAsked, Ask, Asked, Key, Take
-from .batch import SeededBatch, number, octets, options
+from .batch import SeededBatch, number, octets, options, suite
 from .command import Runner, Text, output_of
 from .errors import OverLimit, ReplyError
 from .lines import Lines
@@ -47,7 +47,7 @@ class CapsuleBatch(SeededBatch):
         """A client's request to a public key (RFC 9458, 4.3); `id` is the key's identifier, from 0 to 255."""
         self._own(key)
         self._need_seed()
-        fields = b"%d %b %d %d" % (key.number, number(id, 0, 255, "a key identifier"), Kdf(kdf), _cipher(aead))
+        fields = b"%d %b %b" % (key.number, number(id, 0, 255, "a key identifier"), suite(kdf, _cipher(aead)))
         place = self._put(b"ask", b"%b %b" % (fields, octets(text, self.limits.message, "a text")))
         return self._keep(Ask(self, place, aead))
 
@@ -90,7 +90,7 @@ class CapsuleBatch(SeededBatch):
         return octets(message, self.limits.message + more + TAG_SIZE, what)
 
     def _put(self, word: bytes, fields: bytes) -> int:
-        self._is_open()
+        self._runs.need_open()
         count = self._counts[word]
         if count == self.limits.contexts:
             raise OverLimit(f"a batch has at most {count} lines `{word.decode()}`")
@@ -113,8 +113,8 @@ class CapsuleBatch(SeededBatch):
 
     def run(self, *, mult: Optional[str] = None, runner: Optional[Runner] = None) -> CapsuleReply:
         words = ["capsules", *options(None, mult)]
-        output = output_of(runner, words, self._within(), self.asked_at)
-        self._closed = " ".join(words)
+        with self._runs.run(" ".join(words), lambda first: True):
+            output = output_of(runner, words, self._within(), self.asked_at)
         return CapsuleReply(self, output)
 
 

@@ -5,10 +5,12 @@ from __future__ import annotations
 import os
 import shutil
 import subprocess
+import sys
+from contextlib import contextmanager
 from dataclasses import dataclass
 from io import BufferedRandom
 from mmap import ACCESS_READ, mmap
-from typing import Callable, Dict, Iterable, NamedTuple, Optional, Protocol, Sequence, Tuple, Type, Union, cast
+from typing import Callable, Dict, Iterable, Iterator, NamedTuple, Optional, Protocol, Sequence, Tuple, Type, Union, cast
 
 from .errors import (
     BadBatch,
@@ -42,24 +44,46 @@ class Runner(Protocol):
     def __call__(self, words: Sequence[str], pieces: Iterable[Text]) -> Finished: ...
 
 
-REPOSITORY = os.path.dirname(os.path.dirname(os.path.dirname(os.path.abspath(__file__))))
+HERE = os.path.dirname(os.path.abspath(__file__))
+REPOSITORY = os.path.dirname(os.path.dirname(HERE))
+NAME = "hpkebatch"
 
 
 def launcher() -> Optional[str]:
     """The repository's launcher, where this package stands in a clone."""
-    path = os.path.join(REPOSITORY, "hpkebatch")
+    path = os.path.join(REPOSITORY, NAME)
     is_clone = os.path.isfile(os.path.join(REPOSITORY, "tools", "build"))
     return path if is_clone and os.access(path, os.X_OK) else None
 
 
+def packed() -> Optional[str]:
+    """The program that a wheel has beside this package's modules."""
+    path = os.path.join(HERE, "program", NAME)
+    return path if os.access(path, os.X_OK) else None
+
+
+def on_path() -> Optional[str]:
+    """The command of the PATH, but for the script that runs this package under the same name."""
+    for folder in os.get_exec_path():
+        found = shutil.which(NAME, path=folder)
+        if found is not None and not _is_own(found):
+            return found
+    return None
+
+
+def _is_own(path: str) -> bool:
+    return bool(sys.argv[0]) and os.path.exists(sys.argv[0]) and os.path.samefile(path, sys.argv[0])
+
+
 def find_command(path: Optional[Path] = None) -> str:
-    """The command: `path`, else that of HPKEBATCH, else `hpkebatch` of the PATH, else the repository's launcher."""
+    """The command: `path`, else that of HPKEBATCH, else the wheel's, else `hpkebatch` of the PATH, else the
+    repository's launcher."""
     if path is not None:
         return os.fspath(path)
-    found = os.environ.get("HPKEBATCH") or shutil.which("hpkebatch") or launcher()
+    found = os.environ.get("HPKEBATCH") or packed() or on_path() or launcher()
     if found is None:
         raise CommandNotFound(
-            "the command hpkebatch isn't on the PATH; install its package, or name the program in HPKEBATCH"
+            "the program hpkebatch isn't on the PATH; install its package, or name the program in HPKEBATCH"
         )
     return found
 
@@ -75,26 +99,43 @@ class Command:
         # A launcher may build for minutes, and tells of it on standard error.
         errors = None if path == launcher() else subprocess.PIPE
         run = _run_in_memory if hasattr(os, "memfd_create") else _run_by_pipes
-        try:
-            return run([path, *words], pieces, errors)
-        except OSError as fault:
-            raise CommandNotFound(f"{path} can't be run: {fault.strerror}") from fault
+        return run([path, *words], pieces, errors)
+
+
+@contextmanager
+def _starting(path: str) -> Iterator[None]:
+    """A fault before the command ran: nothing was written."""
+    try:
+        yield
+    except OSError as fault:
+        raise CommandNotFound(f"{path} can't be run: {fault.strerror}") from fault
 
 
 def _run_by_pipes(words: Sequence[str], pieces: Iterable[Text], errors: Optional[int]) -> Finished:
-    done = subprocess.run(words, input=b"".join(pieces), stdout=subprocess.PIPE, stderr=errors, check=False)
+    with _starting(words[0]):
+        done = subprocess.run(words, input=b"".join(pieces), stdout=subprocess.PIPE, stderr=errors, check=False)
     return Finished(done.returncode, done.stdout, done.stderr or b"")
 
 
 def _run_in_memory(words: Sequence[str], pieces: Iterable[Text], errors: Optional[int]) -> Finished:
     """By files that stand in memory alone: faster than pipes for large texts, and no secret gets to a disk."""
-    with _memory_file() as source, _memory_file() as sink:
-        source.writelines(pieces)
-        source.seek(0)
-        done = subprocess.run(words, stdin=source, stdout=sink, stderr=errors, check=False)
-        is_empty = os.fstat(sink.fileno()).st_size == 0
-        output: Text = b"" if is_empty else mmap(sink.fileno(), 0, access=ACCESS_READ)
-        return Finished(done.returncode, output, done.stderr or b"")
+    with _starting(words[0]):
+        source, sink = _memory_file(), _memory_file()
+    with source, sink:
+        with _starting(words[0]):
+            source.writelines(pieces)
+            source.seek(0)
+            done = subprocess.run(words, stdin=source, stdout=sink, stderr=errors, check=False)
+        return Finished(done.returncode, _mapped(sink, done.returncode), done.stderr or b"")
+
+
+def _mapped(file: BufferedRandom, status: int) -> Text:
+    if os.fstat(file.fileno()).st_size == 0:
+        return b""
+    try:
+        return mmap(file.fileno(), 0, access=ACCESS_READ)
+    except OSError as fault:
+        raise RunFailed(status, f"its reply can't be read: {fault.strerror}") from fault
 
 
 def _memory_file() -> BufferedRandom:

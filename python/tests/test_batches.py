@@ -1,9 +1,12 @@
 """Batches: what the builder refuses, what runs once, and which call a bad line belongs to."""
 
 import copy
+import os
 import pickle
 import threading
 import unittest
+from concurrent.futures import ProcessPoolExecutor
+from multiprocessing import get_context
 
 from common import Told, command, example
 from hpkebatch import (
@@ -27,6 +30,15 @@ from hpkebatch import (
 )
 
 SECRET = b"s" * 32
+BATCH = None
+
+
+def run_batch_of_module():
+    try:
+        BATCH.run(runner=command)
+    except AlreadyRun as fault:
+        return type(fault).__name__
+    return "it ran"
 
 
 def two_ends():
@@ -150,6 +162,15 @@ class Building(unittest.TestCase):
             lambda: batch.share("both", 32, b""),
             lambda: batch.share("recv", 32, b"", aead=3),
             lambda: batch.share("recv", 32, b"", kdf=4),
+            lambda: batch.send(batch.peer(b"a"), kdf=9),
+            lambda: batch.send(batch.peer(b"a"), aead=3),
+            lambda: batch.recv(batch.peer(b"a"), b"", kdf=0),
+            lambda: batch.recv(batch.peer(b"a"), b"", aead=9),
+            lambda: batch.lane().add("recv", 32, b"", aead=3),
+            lambda: CapsuleBatch().ask(CapsuleBatch().keygen(), 1, b"", kdf=4),
+            lambda: Batch().run(workers=0, runner=command),
+            lambda: Batch().live(workers=17, runner=command),
+            lambda: Batch().run(mult="fast", runner=command),
             lambda: batch.share("recv", 32, b"", mode="auth"),
             lambda: batch.recv(Batch().peer(b"a"), b""),
             lambda: CapsuleBatch().ask(CapsuleBatch().peer(b""), 1, b""),
@@ -243,6 +264,92 @@ class Once(unittest.TestCase):
         for thread in threads:
             thread.join()
         self.assertEqual(len(refused), 7)
+
+    def test_a_failed_run_does_not_open_what_another_closed(self):
+        """Two threads rehearse, and one of them runs out of memory: the batch was run all the same."""
+        batch = self.sealing()
+        begun, failed = threading.Event(), threading.Event()
+
+        def slow(words, pieces):
+            begun.set()
+            failed.wait()
+            return command(words, pieces)
+
+        thread = threading.Thread(target=batch.rehearse, kwargs={"runner": slow})
+        thread.start()
+        begun.wait()
+        for _ in range(2):  # while that run is under way, and when it is done
+            with self.assertRaises(OutOfMemory):
+                batch.rehearse(runner=Told(status=6))
+            with self.assertRaises(AlreadyRun):
+                batch.run(runner=command)
+            with self.assertRaises(AlreadyRun):
+                batch.lanes[0].seal(batch.contexts[0], b"another")
+            failed.set()
+            thread.join()
+
+    def test_a_run_that_is_interrupted_counts(self):
+        def interrupted(words, pieces):
+            raise KeyboardInterrupt
+
+        batch = self.sealing()
+        with self.assertRaises(KeyboardInterrupt):
+            batch.run(runner=interrupted)
+        with self.assertRaises(AlreadyRun):
+            batch.run(runner=command)
+
+    def test_a_forked_process_does_not_run_it(self):
+        """Whether it was run before the fork or not; its parent still may."""
+        for runs_before in (False, True):
+            batch = self.sealing()
+            if runs_before:
+                batch.rehearse(runner=command)
+            child = os.fork()
+            if child == 0:
+                told = 0
+                for call in (batch.run, batch.live, batch.rehearse, batch.lane, batch.keygen):
+                    try:
+                        call()
+                    except AlreadyRun as fault:
+                        told += "of the process that this one was forked from" in str(fault)
+                os._exit(told)
+            self.assertEqual(os.waitstatus_to_exitcode(os.waitpid(child, 0)[1]), 5)
+            batch.rehearse(runner=command)
+
+    def test_workers_of_a_pool_do_not_run_a_batch_of_the_module(self):
+        global BATCH
+        BATCH = self.sealing()
+        with ProcessPoolExecutor(2, mp_context=get_context("fork")) as executor:
+            self.assertEqual({future.result() for future in [executor.submit(run_batch_of_module) for _ in range(4)]}, {"AlreadyRun"})
+        BATCH.run(runner=command)
+
+    def test_a_fork_while_another_thread_begins_a_run(self):
+        """The lock that it holds is another one in the forked process."""
+        from hpkebatch.once import _Here
+
+        with _Here.lock:
+            child = os.fork()
+            if child == 0:
+                batch = self.sealing()
+                os._exit(len(batch.rehearse(runner=command).journals))
+            self.assertEqual(os.waitstatus_to_exitcode(os.waitpid(child, 0)[1]), 1)
+
+    def test_openings_and_capsules_may_run_in_a_forked_process(self):
+        batch = Batch()
+        batch.lane().export(batch.share("recv", 32, SECRET), b"", 1)
+        capsules = CapsuleBatch()
+        key = capsules.keygen()
+        child = os.fork()
+        if child == 0:
+            batch.run(runner=command)
+            capsules.run(runner=command)
+            try:
+                capsules.ask(key, 7, b"other")  # by the same seed as what the parent asks
+            except AlreadyRun:
+                os._exit(7)
+            os._exit(0)
+        self.assertEqual(os.waitstatus_to_exitcode(os.waitpid(child, 0)[1]), 7)
+        capsules.ask(key, 7, b"text")
 
     def test_a_batch_is_not_copied(self):
         for copied in (copy.copy, copy.deepcopy, pickle.dumps):

@@ -7,6 +7,7 @@ from unittest import mock
 
 from common import HOME, PROGRAM, Told
 from hpkebatch import (
+    AlreadyRun,
     BadBatch,
     Batch,
     BuildFailed,
@@ -21,6 +22,7 @@ from hpkebatch import (
     find_command,
 )
 from hpkebatch import command as module
+from hpkebatch.command import output_of
 
 
 def script(folder, name, text):
@@ -45,6 +47,17 @@ class Finding(unittest.TestCase):
                 with mock.patch.object(module, "REPOSITORY", "/nowhere"), self.assertRaises(CommandNotFound):
                     find_command()
 
+    def test_the_wheels_program_and_never_this_script_itself(self):
+        with tempfile.TemporaryDirectory() as folder, tempfile.TemporaryDirectory() as other:
+            own, there = script(folder, "hpkebatch", "exit 0\n"), script(other, "hpkebatch", "exit 0\n")
+            with mock.patch.dict(os.environ, {"PATH": f"{folder}:{other}"}), mock.patch("sys.argv", [own]):
+                os.environ.pop("HPKEBATCH", None)
+                self.assertEqual(find_command(), there)
+                with mock.patch.object(module, "HERE", folder):
+                    os.mkdir(os.path.join(folder, "program"))
+                    packed = script(os.path.join(folder, "program"), "hpkebatch", "exit 0\n")
+                    self.assertEqual(find_command(), packed)
+
     def test_a_command_that_is_not_there(self):
         for path in ("/nowhere/hpkebatch", os.path.dirname(PROGRAM)):
             with self.assertRaises(CommandNotFound):
@@ -66,12 +79,22 @@ class Statuses(unittest.TestCase):
 
     def test_the_program_has_these_statuses(self):
         with self.assertRaises(UsageError):
-            Batch().run(workers=17, runner=Command(PROGRAM))
+            output_of(Command(PROGRAM), ["run", "--workers", "17"], [])
         with tempfile.TemporaryDirectory() as folder:
             killed = Command(script(folder, "killed", "kill -9 $$\n"))
             with self.assertRaises(RunFailed) as raised:
                 Batch().run(runner=killed)
             self.assertEqual(raised.exception.status, -9)
+
+    def test_a_reply_that_cannot_be_read_was_written(self):
+        batch = Batch()
+        batch.lane().seal(batch.share("send", 32, b"s" * 32), b"text")
+        with mock.patch.object(module, "mmap", side_effect=OSError(12, "Cannot allocate memory")):
+            with self.assertRaises(RunFailed) as raised:
+                batch.run(runner=Command(PROGRAM))
+        self.assertIn("its reply can't be read", str(raised.exception))
+        with self.assertRaises(AlreadyRun):
+            batch.run(runner=Command(PROGRAM))
 
     def test_pipes_do_as_well(self):
         batch = Batch(version=1)
