@@ -5,72 +5,96 @@
     sealed = hpkebatch.seal([b"one", b"two"], to=pair.public)
     hpkebatch.open(sealed, key=pair.secret)          # [b"one", b"two"]
 
-`seal`, `open`, `export` and `generate_key` are one call each. `Batch` and `CapsuleBatch` have a method for each line of
-docs/FORMAT.md. `python -m hpkebatch` seals and opens files. The command does the work; `Command` says how it is found.
+`seal`, `open`, `export` and `generate_key` are one call each, and `write_pair`, `read_public_key` and `read_secret_key`
+keep keys in files. `Batch` and `CapsuleBatch` have a method for each line of docs/FORMAT.md. `python -m hpkebatch` seals
+and opens files. The command does the work; `Command` says how it is found.
 """
 
 from .answers import (
-    AddedAnswer as AddedAnswer,
-    AnsweredAnswer as AnsweredAnswer,
-    AskedAnswer as AskedAnswer,
-    ContextAnswer as ContextAnswer,
-    ExportedAnswer as ExportedAnswer,
-    FailedAnswer as FailedAnswer,
-    KeyAnswer as KeyAnswer,
-    LimitAnswer as LimitAnswer,
-    OpenedAllAnswer as OpenedAllAnswer,
-    OpenedAnswer as OpenedAnswer,
-    Refusal as Refusal,
-    RetiredAnswer as RetiredAnswer,
-    SealedAnswer as SealedAnswer,
-    TookAnswer as TookAnswer,
+    AddedAnswer,
+    AnsweredAnswer,
+    AskedAnswer,
+    ContextAnswer,
+    ExportedAnswer,
+    FailedAnswer,
+    KeyAnswer,
+    LimitAnswer,
+    OpenedAllAnswer,
+    OpenedAnswer,
+    Refusal,
+    RetiredAnswer,
+    SealedAnswer,
+    TookAnswer,
 )
-from .asked import Asked as Asked, Call as Call, Context as Context, Key as Key
-from .batch import Batch as Batch, Lane as Lane
-from .capsules import CapsuleBatch as CapsuleBatch, CapsuleReply as CapsuleReply
-from .command import Command as Command, Finished as Finished, Runner as Runner, find_command as find_command
+from .asked import Asked, Call, Context, Key
+from .batch import Batch, Lane
+from .capsules import CapsuleBatch, CapsuleReply
+from .command import Command, Finished, Runner, find_command
 from .errors import (
-    AlreadyRun as AlreadyRun,
-    BadBatch as BadBatch,
-    BuildFailed as BuildFailed,
-    CallError as CallError,
-    CommandNotFound as CommandNotFound,
-    FileFault as FileFault,
-    HpkeBatchError as HpkeBatchError,
-    IllegalReply as IllegalReply,
-    LimitReached as LimitReached,
-    MessageNotOpened as MessageNotOpened,
-    OpenFailed as OpenFailed,
-    OutOfMemory as OutOfMemory,
-    OverLimit as OverLimit,
-    ReadFault as ReadFault,
-    Refused as Refused,
-    ReplyError as ReplyError,
-    RunFailed as RunFailed,
-    UsageError as UsageError,
-    WriteFault as WriteFault,
+    AlreadyRun,
+    BadBatch,
+    BuildFailed,
+    CallError,
+    CommandNotFound,
+    FileFault,
+    HpkeBatchError,
+    IllegalReply,
+    KeyRefused,
+    LimitReached,
+    MessageNotOpened,
+    OpenFailed,
+    OutOfMemory,
+    OverLimit,
+    ReadFault,
+    Refused,
+    ReplyError,
+    RunFailed,
+    UsageError,
+    WriteFault,
+    WrongKey,
+)
+from .keys import (
+    KeyPair,
+    PublicKey,
+    SecretKey,
+    fingerprint,
+    read_public_key,
+    read_secret_key,
+    write_pair,
 )
 from .messages import (
-    Exported as Exported,
-    KeyPair as KeyPair,
-    Part as Part,
-    Sealed as Sealed,
-    export as export,
-    generate_key as generate_key,
+    Exported,
+    export,
+    generate_key,
     open as open,
-    seal as seal,
+    seal,
+    unseal,
 )
-from .reading import read_batch as read_batch, read_capsules as read_capsules
-from .reply import Journal as Journal, Note as Note, Place as Place, Reply as Reply, check as check
+from .reading import read_batch, read_capsules
+from .reply import Journal, Note, Place, Reply, check
+from .sealed import Part, Sealed
 from .suites import (
-    LIMITS as LIMITS,
-    SNTRUP761 as SNTRUP761,
-    SNTRUP857 as SNTRUP857,
-    Aead as Aead,
-    Kdf as Kdf,
-    Kem as Kem,
-    Limits as Limits,
-    Psk as Psk,
+    LIMITS,
+    SNTRUP761,
+    SNTRUP857,
+    Aead,
+    Kdf,
+    Kem,
+    Limits,
+    Psk,
 )
 
-__version__ = "0.2.0"
+__version__ = "0.3.0"
+
+# All but `open`, which would take the place of Python's own: `unseal` is the same call.
+__all__ = [
+    "AddedAnswer", "Aead", "AlreadyRun", "AnsweredAnswer", "Asked", "AskedAnswer", "BadBatch", "Batch", "BuildFailed",
+    "Call", "CallError", "CapsuleBatch", "CapsuleReply", "Command", "CommandNotFound", "Context", "ContextAnswer",
+    "Exported", "ExportedAnswer", "FailedAnswer", "FileFault", "Finished", "HpkeBatchError", "IllegalReply", "Journal",
+    "Kdf", "Kem", "Key", "KeyAnswer", "KeyPair", "KeyRefused", "LIMITS", "Lane", "LimitAnswer", "LimitReached",
+    "Limits", "MessageNotOpened", "Note", "OpenFailed", "OpenedAllAnswer", "OpenedAnswer", "OutOfMemory", "OverLimit",
+    "Part", "Place", "Psk", "PublicKey", "ReadFault", "Refusal", "Refused", "Reply", "ReplyError", "RetiredAnswer",
+    "RunFailed", "Runner", "SNTRUP761", "SNTRUP857", "Sealed", "SealedAnswer", "SecretKey", "TookAnswer", "UsageError",
+    "WriteFault", "WrongKey", "check", "export", "find_command", "fingerprint", "generate_key", "read_batch",
+    "read_capsules", "read_public_key", "read_secret_key", "seal", "unseal", "write_pair",
+]

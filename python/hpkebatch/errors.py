@@ -2,7 +2,7 @@
 
 from __future__ import annotations
 
-from typing import Optional, Union
+from typing import Any, List, Optional, Sequence, Tuple, Union
 
 
 class HpkeBatchError(Exception):
@@ -143,20 +143,47 @@ class LimitReached(CallError):
         return f"{self.asked} is past the LIMIT of its context"
 
 
-class MessageNotOpened(HpkeBatchError):
-    """`hpkebatch.open` met a message that doesn't open. `index` is its place in `ciphertexts`, from 0.
+class WrongKey(HpkeBatchError):
+    """What was sealed names another recipient. `recipient` is the beginning of that key's fingerprint, and `own` that of
+    the key that was given."""
 
-    The messages behind it in its part can't be opened either: a context counts the messages that it opened.
-    """
-
-    def __init__(self, index: int, part: int) -> None:
-        super().__init__(index, part)
-        self.index, self.part = index, part
+    def __init__(self, recipient: str, kem: str, own: str, own_kem: str) -> None:
+        super().__init__(recipient, kem, own, own_kem)
+        self.recipient, self.kem, self.own, self.own_kem = recipient, kem, own, own_kem
 
     def __str__(self) -> str:
+        sets = "" if self.kem == self.own_kem else f", a key of {self.kem}"
+        return f"it was sealed to another key: to {self.recipient} ..{sets}, and this key is {self.own} .."
+
+
+class KeyRefused(HpkeBatchError, ValueError):
+    """A secret key has the right size and not the right form."""
+
+    def __str__(self) -> str:
+        return "the secret key is spoilt: its polynomials aren't those of a key"
+
+
+class MessageNotOpened(HpkeBatchError):
+    """`hpkebatch.open` met a message that doesn't open, or an end mark.
+
+    `index` is the message's place in the list, from 0; `part` is the part that it stands in. `opened` has the messages
+    before it, which are whole. `is_end` says that all messages of the part opened, and the end mark behind them didn't.
+    """
+
+    def __init__(self, index: int, part: int, is_end: bool = False, opened: Sequence[bytes] = ()) -> None:
+        super().__init__(index, part, is_end)  # without the messages: a traceback may print these
+        self.index, self.part, self.is_end = index, part, is_end
+        self.opened: List[bytes] = list(opened)
+
+    def __reduce__(self) -> Tuple[Any, ...]:
+        return type(self), (self.index, self.part, self.is_end, self.opened)
+
+    def __str__(self) -> str:
+        if self.is_end:
+            return f"the end mark of part {self.part} doesn't open: the list was cut or spliced"
         return (
-            f"message {self.index} (in part {self.part}) doesn't open: it was changed or is out of order, or key, "
-            "info, psk or associated data are others than the sender's"
+            f"message {self.index} (in part {self.part}) doesn't open: it was changed, or messages of the list are "
+            "missing, moved or of another list, or info, psk or associated data are others than the sender's"
         )
 
 

@@ -1,133 +1,57 @@
-"""Key files and sealed files.
+"""Sealed files (docs/FORMAT.md, "Key files and sealed files"): sealed and opened part by part, many in one batch.
 
-A key file is text: a line that says what it is, and the key in base64.
-
-    hpkebatch public key: sntrup761
-    5qB3QdgITnwwaf1OfGaf...
-
-A sealed file holds one file for one recipient:
-
-    hpkebatch sealed 1                19 bytes, with a line feed
-    KEM, KDF, AEAD                    2 bytes each, as in RFC 9180's suite_id
-    id                                32 random bytes
-    size                              8 bytes: how long the file is
-    for each part: enc, chunks        the file in chunks of 1 MiB, the last one shorter; 7 chunks a part
-
-Numbers have their high byte first. An empty file has one empty chunk. A part is a context of mode base: its info is
-`hpkebatch file`, the 65 bytes of this head, and the number of the part in 8 bytes; its chunks are its messages number
-0, 1 and so on, with no associated data. So each byte of a sealed file is bound to its place.
+A file is cut into chunks of 1 MiB, the last one shorter, and each four of them are a part; an empty file is one part
+with no chunk. Behind its head a sealed file has of each part its chunks, sealed, and the 16 bytes of its end mark.
 """
 
 from __future__ import annotations
 
-import base64
 import hashlib
 import os
 import secrets
-import textwrap
-from binascii import Error as NotBase64
-from dataclasses import dataclass
-from typing import BinaryIO, Callable, Dict, Iterator, List, NamedTuple, Optional, Sequence, Tuple
+from contextlib import contextmanager
+from dataclasses import dataclass, replace
+from itertools import islice
+from typing import Callable, Iterable, Iterator, List, NamedTuple, Optional, Protocol, Sequence, Union
 
+from . import arguments
 from .command import Runner
-from .errors import FileFault
-from .messages import Contents, KeyPair, Suite, open_contexts, seal_contexts
-from .suites import KEMS, LIMITS, TAG_SIZE, Aead, Kdf, Kem, kem_of_public, kem_of_secret
+from .errors import FileFault, RunFailed, WrongKey
+from .keys import HASH_SIZE, PublicKey, SecretKey
+from .new_file import IS_THERE, NewFile, write_all
+from .parts import OpenedPart, PartTask, Root, RootAsked, grouped, measured, open_parts, recipient_roots, seal_parts, sender_roots
+from .sealed import Head, Reader, Suite, recipient_of
+from .sources import MOST_IN_MEMORY, STANDARD, Source, name_of, naming, opened
+from .suites import ID_SIZE, TAG_SIZE, Aead, Kdf, Limits, Psk
 
-MAGIC = b"hpkebatch sealed 1\n"
+MAGIC = b"hpkebatch sealed 2\n"
+OLD_MAGIC = b"hpkebatch sealed 1\n"
 SUFFIX = ".hpke"
-ID_SIZE = 32
-HEAD_SIZE = len(MAGIC) + 6 + ID_SIZE + 8
+SIZE_SIZE = 8
+HEAD_SIZE = len(MAGIC) + 6 + HASH_SIZE + ID_SIZE + SIZE_SIZE  # without the encapsulation
 CHUNK = 1_048_576
-CHUNKS_OF_PART = 7  # four parts fill a batch, so that four workers have a lane each
-SUITE = Suite(Kdf.HKDF_SHA256, Aead.AES_256_GCM)
-
-# ---- key files
-
-
-def write_pair(pair: KeyPair, name: str) -> Tuple[str, str]:
-    """Writes NAME.key, for its owner alone, and NAME.pub. Files that are there already stay as they are."""
-    paths = f"{name}.key", f"{name}.pub"
-    for path in paths:
-        if os.path.lexists(path):
-            raise FileFault(path, "it is there already, and isn't written over")
-    kem = kem_of_public(pair.public).name
-    for path, mode, kind, key in zip(paths, (0o600, 0o644), ("secret", "public"), (pair.secret, pair.public)):
-        digits = textwrap.fill(base64.b64encode(key).decode(), 76)
-        descriptor = os.open(path, os.O_WRONLY | os.O_CREAT | os.O_EXCL, mode)
-        with os.fdopen(descriptor, "w", encoding="ascii") as file:
-            file.write(f"hpkebatch {kind} key: {kem}\n{digits}\n")
-    return paths
+CHUNKS_OF_PART = 4
+FILES_AT_ONCE = 64
+# What is sealed or opened in one run: four parts, a lane and a worker for each.
+OF_ONE_RUN = Limits(input=37_748_736)
 
 
-def read_key(path: str, kind: str) -> bytes:
-    """The key of a file; `kind` is "public" or "secret"."""
-    with open(path, "rb") as file:
-        head, _, digits = file.read(8192).partition(b"\n")
-    other = {"public": "secret", "secret": "public"}[kind]
-    if head.startswith(f"hpkebatch {other} key: ".encode()):
-        raise FileFault(path, f"it holds a {other} key, and a {kind} key is wanted here")
-    for kem in KEMS:
-        if head == f"hpkebatch {kind} key: {kem.name}".encode():
-            return _decoded(path, digits, kem.public_size if kind == "public" else kem.secret_size)
-    raise FileFault(path, f"it isn't a {kind} key of hpkebatch")
-
-
-def _decoded(path: str, digits: bytes, size: int) -> bytes:
-    try:
-        key = base64.b64decode(b"".join(digits.split()), validate=True)
-    except NotBase64:
-        raise FileFault(path, "its key is spoilt: it isn't base64") from None
-    if len(key) != size:
-        raise FileFault(path, f"its key is spoilt: it has {len(key):,} bytes, and should have {size:,}")
-    return key
-
-
-def fingerprint(public: bytes) -> str:
-    """A short name of a public key, to compare by eye: the first half of its SHA-256."""
-    digits = hashlib.sha256(public).hexdigest()[:32]
-    return " ".join(digits[at : at + 4] for at in range(0, len(digits), 4))
-
-
-# ---- the head of a sealed file, and what follows from it
+# ---- the form
 
 
 @dataclass(frozen=True)
-class Head:
-    kem: Kem
-    suite: Suite
-    id: bytes
+class Layout:
+    """How a file of this size is cut."""
+
     size: int
-
-    def to_bytes(self) -> bytes:
-        ids = (self.kem.id, self.suite.kdf, self.suite.aead)
-        return MAGIC + b"".join(it.to_bytes(2, "big") for it in ids) + self.id + self.size.to_bytes(8, "big")
-
-    @staticmethod
-    def from_bytes(path: str, data: bytes) -> Head:
-        if not data.startswith(MAGIC):
-            raise FileFault(path, "it isn't a sealed file of hpkebatch")
-        if len(data) < HEAD_SIZE:
-            raise FileFault(path, "it is spoilt: it is cut within its head")
-        ids = [int.from_bytes(data[at : at + 2], "big") for at in range(len(MAGIC), len(MAGIC) + 6, 2)]
-        kems = [kem for kem in KEMS if kem.id == ids[0]]
-        if not kems or ids[1] not in list(Kdf) or ids[2] not in (Aead.AES_128_GCM, Aead.AES_256_GCM):
-            raise FileFault(path, "it is spoilt, or of a newer version: its head names no suite")
-        size = int.from_bytes(data[-8:], "big")
-        return Head(kems[0], Suite(Kdf(ids[1]), Aead(ids[2])), data[len(MAGIC) + 6 : -8], size)
 
     @property
     def chunks(self) -> int:
-        return max(1, -(-self.size // CHUNK))
+        return -(-self.size // CHUNK)
 
     @property
     def parts(self) -> int:
-        return -(-self.chunks // CHUNKS_OF_PART)
-
-    @property
-    def sealed_size(self) -> int:
-        """How long the sealed file is."""
-        return HEAD_SIZE + self.parts * self.kem.enc_size + self.size + self.chunks * TAG_SIZE
+        return max(1, -(-self.chunks // CHUNKS_OF_PART))
 
     def sizes(self, part: int) -> List[int]:
         """How many bytes each chunk of a part has."""
@@ -135,193 +59,349 @@ class Head:
         end = min(first + CHUNKS_OF_PART, self.chunks)
         return [min(CHUNK, self.size - at * CHUNK) for at in range(first, end)]
 
-    def info(self, part: int) -> bytes:
-        return b"hpkebatch file" + self.to_bytes() + part.to_bytes(8, "big")
+    def sealed_size(self, head: Head) -> int:
+        """How long the sealed file is."""
+        return HEAD_SIZE + len(head.enc) + self.size + (self.chunks + self.parts) * TAG_SIZE
+
+
+def layout_of(head: Head) -> Layout:
+    return Layout(int.from_bytes(head.counts, "big"))
+
+
+def read_head(source: Source) -> Head:
+    """The head of a sealed file."""
+    data = source.read(HEAD_SIZE)
+    if data.startswith(OLD_MAGIC):
+        raise FileFault(source.name, "it was sealed by hpkebatch 0.2.0, whose form isn't read any more")
+    if not data.startswith(MAGIC):
+        raise FileFault(source.name, "it isn't a sealed file of hpkebatch")
+    try:
+        reader = Reader(data)
+        reader.take(len(MAGIC))
+        suite = reader.suite()
+        recipient, id, counts = reader.take(HASH_SIZE), reader.take(ID_SIZE), reader.take(SIZE_SIZE)
+        enc = Reader(source.read(suite.kem.enc_size)).take(suite.kem.enc_size)
+    except ValueError as fault:
+        raise FileFault(source.name, f"it is spoilt in its head: {fault}") from None
+    return Head(MAGIC, suite, recipient, id, counts, enc)
+
+
+# ---- where it is written
+
+
+class Sink(Protocol):
+    def write(self, pieces: Iterable[bytes]) -> None:
+        """Takes what comes of a part."""
+
+    def finish(self, mode: int) -> None:
+        """Gives out what is whole."""
+
+    def close(self) -> None:
+        """Lets go of it, finished or not."""
+
+
+class ToStandardOutput:
+    def write(self, pieces: Iterable[bytes]) -> None:
+        with naming("standard output"):
+            for piece in pieces:
+                write_all(1, piece)
+
+    def finish(self, mode: int) -> None:
+        pass
+
+    def close(self) -> None:
+        pass
+
+
+class Held(ToStandardOutput):
+    """Kept in memory until it is whole."""
+
+    def __init__(self) -> None:
+        self.pieces: List[bytes] = []
+
+    def write(self, pieces: Iterable[bytes]) -> None:
+        self.pieces += pieces
+
+    def finish(self, mode: int) -> None:
+        super().write(self.pieces)
+
+
+class Checked(ToStandardOutput):
+    """Written nowhere: the first time over a file that memory can't hold."""
+
+    def __init__(self, digests: List[bytes]) -> None:
+        self.digests = digests
+
+    def write(self, pieces: Iterable[bytes]) -> None:
+        self.digests.append(_digest(pieces))
+
+
+class CheckedAgain(ToStandardOutput):
+    """Written out: the second time, as long as it is what was checked."""
+
+    def __init__(self, digests: List[bytes]) -> None:
+        self.digests = iter(digests)
+
+    def write(self, pieces: Iterable[bytes]) -> None:
+        if next(self.digests) != _digest(pieces):
+            raise FileFault("standard output", "the file changed while it was opened")
+        super().write(pieces)
+
+
+def _digest(pieces: Iterable[bytes]) -> bytes:
+    hashed = hashlib.sha256()
+    for piece in pieces:
+        hashed.update(piece)
+    return hashed.digest()
 
 
 # ---- sealing and opening many files
 
-
 Told = Callable[[int], None]  # of so many bytes that are done
-
-
-class Unit(NamedTuple):
-    """A part of a file, as it was read."""
-
-    file: int
-    part: int
-    head: Head
-    enc: bytes
-    chunks: List[bytes]
+Answer = Union[List[bytes], str]  # what is written of a part, or what is wrong with it
 
 
 class Job(NamedTuple):
-    """A file to read, and the one to write."""
+    """A file to read, and the one to write; `-` is standard input or output."""
 
     source: str
     target: str
 
 
+class File:
+    """A file that is being sealed or opened. Where memory can't hold it, it is gone through twice: see `Checked`."""
+
+    def __init__(self, job: Job) -> None:
+        self.job, self.name = job, name_of(job.source)
+        self.fault: Optional[FileFault] = None
+        self.source: Optional[Source] = None
+        self.sink: Optional[Sink] = None
+        self.sinks: List[Callable[[], Sink]] = []  # of each time that it is gone through
+
+    def begin(self, head: Head, layout: Layout, sinks: Sequence[Callable[[], Sink]]) -> None:
+        self.head, self.layout, self.sinks = head, layout, list(sinks)
+
+    def give(self, root: Root) -> None:
+        self.head, self.secret = replace(self.head, enc=root.enc), root.secret
+        self.infos = list(islice(self.head.part_infos(), self.layout.parts))
+
+    def task(self, part: int, texts: Sequence[bytes], end: bytes = b"") -> PartTask:
+        return PartTask(self.head.suite, self.secret, self.infos[part], texts, None, end)
+
+    def close(self) -> None:
+        """Lets go of what is open. Of a file that isn't whole nothing is left."""
+        for it in (self.sink, self.source):
+            if it is not None:
+                it.close()
+        self.sink = self.source = None
+
+    def fail(self, fault: Exception) -> None:
+        why = fault.why if isinstance(fault, FileFault) else str(fault)
+        if isinstance(fault, FileFault) and fault.path != self.name:
+            why = f"not written to {fault.path}: {why}"
+        self.fault = self.fault or FileFault(self.name, why)
+        self.close()
+
+    @contextmanager
+    def keeping_faults(self) -> Iterator[None]:
+        try:
+            yield
+        except (FileFault, WrongKey, RunFailed) as fault:
+            self.fail(fault)
+
+
+class Unit(NamedTuple):
+    """A part of a file, as it was read. `turn` counts how often the file was gone through before."""
+
+    file: File
+    turn: int
+    part: int
+    task: PartTask
+
+
 class Work:
     """Reads files, has their parts sealed or opened, and writes the others. A fault of one file leaves the others."""
 
-    def __init__(self, jobs: Sequence[Job], told: Told) -> None:
-        self.jobs, self.told = jobs, told
-        self.faults: Dict[int, FileFault] = {}
-        self._output: Optional[BinaryIO] = None
-        self._scratch = ""
+    def __init__(
+        self, jobs: Sequence[Job], told: Told, psk: Optional[Psk] = None, info: bytes = b"", runner: Optional[Runner] = None
+    ) -> None:
+        self.jobs, self.told, self.runner = jobs, told, runner
+        self.psk, self.info = arguments.psk(psk), MAGIC + arguments.info(info)
 
     def run(self) -> List[FileFault]:
         """What was wrong, of each file that isn't done."""
-        try:
-            self._run()
-        finally:
-            self._end()
-        return [self.faults[file] for file in sorted(self.faults)]
+        faults: List[FileFault] = []
+        for first in range(0, len(self.jobs), FILES_AT_ONCE):
+            files = [File(job) for job in self.jobs[first : first + FILES_AT_ONCE]]
+            try:
+                self._run(files)
+            finally:
+                for file in files:
+                    file.close()
+            faults += [file.fault for file in files if file.fault is not None]
+        return faults
 
-    def _run(self) -> None:
-        group: List[Unit] = []
-        size = 0
-        for unit in self._units():
-            more = sum(map(_cost, unit.chunks))
-            if group and (size + more > LIMITS.input - 2_000_000 or len(group) == LIMITS.contexts):
-                self._do(group)
-                group, size = [], 0
-            group.append(unit)
-            size += more
-        if group:
+    def _run(self, files: Sequence[File]) -> None:
+        for file in files:
+            with file.keeping_faults():
+                if file.job.target != STANDARD and os.path.lexists(file.job.target):
+                    raise FileFault(file.job.target, IS_THERE)
+                file.source = opened(file.job.source)
+                self.begin(file, file.source)
+        begun = [file for file in files if file.fault is None]
+        for file, root in zip(begun, self.roots(begun)):
+            file.give(root)
+        for group in grouped(self._units(begun), lambda unit: measured(unit.task), OF_ONE_RUN):
             self._do(group)
 
-    def _units(self) -> Iterator[Unit]:
-        for file, job in enumerate(self.jobs):
-            try:
-                self._look_at(file, job)
-                with open(job.source, "rb") as source:
-                    head = self.head_of(job, source)
-                    for part in range(head.parts):
-                        if file in self.faults:
-                            break
-                        yield self.read(file, part, head, source)
-                    else:
-                        self._expect_end(job, source)
-            except OSError as fault:
-                self.faults[file] = FileFault(job.source, fault.strerror or "it can't be read")
-            except FileFault as fault:
-                self.faults[file] = fault
+    def _units(self, files: Sequence[File]) -> Iterator[Unit]:
+        for file in files:
+            for turn in range(len(file.sinks)):
+                for part in range(file.layout.parts):
+                    with file.keeping_faults():
+                        if file.source is not None:
+                            yield Unit(file, turn, part, self.read(file, file.source, part))
 
-    def _look_at(self, file: int, job: Job) -> None:
-        earlier = any(other.target == job.target for other in self.jobs[:file])
-        if earlier or os.path.lexists(job.target):
-            raise FileFault(job.source, f"{job.target} is there already, and isn't written over")
+    def _do(self, group: Sequence[Unit]) -> None:
+        try:
+            answers = self.answers(group)
+        except RunFailed as fault:
+            answers = [str(fault)] * len(group)
+        for unit, answer in zip(group, answers):
+            with unit.file.keeping_faults():
+                if unit.file.source is not None:
+                    self._write(unit, unit.file.source, answer)
+            self.told(sum(map(len, unit.task.texts)))
 
-    def _expect_end(self, job: Job, source: BinaryIO) -> None:
-        if source.read(1):
-            raise FileFault(job.source, "it grew while it was read")
-
-    def _do(self, group: List[Unit]) -> None:
-        for unit, pieces in zip(group, self.answers(group)):
-            try:
-                if unit.file not in self.faults:
-                    self._write(unit, pieces)
-            except OSError as fault:
-                self.faults[unit.file] = FileFault(self.jobs[unit.file].target, fault.strerror or "it can't be written")
-            except FileFault as fault:
-                self.faults[unit.file] = fault
-            self.told(sum(map(len, unit.chunks)))
-
-    def _write(self, unit: Unit, pieces: List[bytes]) -> None:
-        """Writes to a file beside the target, which gets its name when it is whole."""
-        target = self.jobs[unit.file].target
+    def _write(self, unit: Unit, source: Source, answer: Answer) -> None:
+        file = unit.file
+        if isinstance(answer, str):
+            raise FileFault(file.name, answer)
         if unit.part == 0:
-            self._end()
-            self._scratch = f"{target}.{secrets.token_hex(4)}.part"
-            self._output = open(self._scratch, "xb")
-        assert self._output is not None
-        self._output.writelines(pieces)
-        if unit.part == unit.head.parts - 1:
-            self._output.close()
-            os.replace(self._scratch, target)
-            self._output = None
+            file.sink = file.sinks[unit.turn]()
+        assert file.sink is not None
+        file.sink.write(answer)
+        if unit.part == file.layout.parts - 1:
+            file.sink.finish(0o600 | (0o666 & source.mode))
+            if unit.turn == len(file.sinks) - 1:
+                file.close()
 
-    def _end(self) -> None:
-        """Removes what is of a file that isn't whole."""
-        if self._output is not None:
-            self._output.close()
-            os.remove(self._scratch)
-            self._output = None
+    # ---- what sealing and opening differ in
 
-    def head_of(self, job: Job, source: BinaryIO) -> Head:
+    def begin(self, file: File, source: Source) -> None:
+        """Begins the file, with its head and its sinks."""
         raise NotImplementedError
 
-    def read(self, file: int, part: int, head: Head, source: BinaryIO) -> Unit:
+    def roots(self, files: Sequence[File]) -> List[Root]:
         raise NotImplementedError
 
-    def answers(self, group: List[Unit]) -> Iterator[List[bytes]]:
+    def read(self, file: File, source: Source, part: int) -> PartTask:
         raise NotImplementedError
 
-
-def _cost(chunk: bytes) -> int:
-    """How much of a batch a chunk takes, with what its context takes at the least."""
-    return 2 * len(chunk) + 4096
+    def answers(self, units: Sequence[Unit]) -> Sequence[Answer]:
+        raise NotImplementedError
 
 
 class Sealing(Work):
-    def __init__(self, jobs: Sequence[Job], to: bytes, told: Told, runner: Optional[Runner] = None) -> None:
-        super().__init__(jobs, told)
-        self.to, self.runner = to, runner
+    """Seals files to a public key."""
 
-    def head_of(self, job: Job, source: BinaryIO) -> Head:
-        size = os.fstat(source.fileno()).st_size
-        return Head(kem_of_public(self.to), SUITE, secrets.token_bytes(ID_SIZE), size)
+    def __init__(
+        self,
+        jobs: Sequence[Job],
+        to: PublicKey,
+        told: Told,
+        psk: Optional[Psk] = None,
+        info: bytes = b"",
+        runner: Optional[Runner] = None,
+    ) -> None:
+        super().__init__(jobs, told, psk, info, runner)
+        self.to, self.suite = to, Suite(to.kem, Kdf.HKDF_SHA256, Aead.AES_256_GCM)
 
-    def read(self, file: int, part: int, head: Head, source: BinaryIO) -> Unit:
-        chunks = [source.read(size) for size in head.sizes(part)]
-        if [len(chunk) for chunk in chunks] != head.sizes(part):
-            raise FileFault(self.jobs[file].source, "it became shorter while it was read")
-        return Unit(file, part, head, b"", chunks)
+    def begin(self, file: File, source: Source) -> None:
+        counts = source.size.to_bytes(SIZE_SIZE, "big")
+        head = Head(MAGIC, self.suite, recipient_of(self.to), secrets.token_bytes(ID_SIZE), counts, b"")
+        file.begin(head, Layout(source.size), [sink_of(file.job.target)])
 
-    def answers(self, group: List[Unit]) -> Iterator[List[bytes]]:
-        contents = [Contents(unit.head.info(unit.part), unit.chunks) for unit in group]
-        for unit, part in zip(group, seal_contexts(self.to, contents, SUITE, runner=self.runner)):
-            head = unit.head.to_bytes() if unit.part == 0 else b""
-            yield [head, part.enc, *part.ciphertexts]
+    def roots(self, files: Sequence[File]) -> List[Root]:
+        asked = [RootAsked(self.info, self.suite.kdf)] * len(files)
+        return sender_roots(self.to, asked, self.psk, self.runner)
+
+    def read(self, file: File, source: Source, part: int) -> PartTask:
+        sizes = file.layout.sizes(part)
+        chunks = [source.read(size) for size in sizes]
+        if [len(chunk) for chunk in chunks] != sizes:
+            raise FileFault(file.name, "it became shorter while it was read")
+        if part == file.layout.parts - 1 and source.read(1):
+            raise FileFault(file.name, "it grew while it was read")
+        return file.task(part, chunks)
+
+    def answers(self, units: Sequence[Unit]) -> Sequence[Answer]:
+        made = seal_parts([unit.task for unit in units], self.runner)
+        heads = [[unit.file.head.to_bytes()] if unit.part == 0 else [] for unit in units]
+        return [[*head, *it.ciphertexts, it.end] for head, it in zip(heads, made)]
 
 
 class Opening(Work):
-    def __init__(self, jobs: Sequence[Job], key: bytes, told: Told, runner: Optional[Runner] = None) -> None:
-        super().__init__(jobs, told)
-        self.key, self.runner = key, runner
+    """Opens sealed files by a secret key."""
 
-    def head_of(self, job: Job, source: BinaryIO) -> Head:
-        head = Head.from_bytes(job.source, source.read(HEAD_SIZE))
-        if head.kem != kem_of_secret(self.key):
-            raise FileFault(job.source, f"it was sealed to a key of {head.kem.name}, and this key is of the other set")
-        size = os.fstat(source.fileno()).st_size
-        if size != head.sealed_size:
-            what = "cut" if size < head.sealed_size else "too long"
-            raise FileFault(job.source, f"it is spoilt: {what}, {size:,} bytes in place of {head.sealed_size:,}")
-        return head
+    def __init__(
+        self,
+        jobs: Sequence[Job],
+        key: SecretKey,
+        told: Told,
+        psk: Optional[Psk] = None,
+        info: bytes = b"",
+        runner: Optional[Runner] = None,
+    ) -> None:
+        super().__init__(jobs, told, psk, info, runner)
+        self.key = key
 
-    def read(self, file: int, part: int, head: Head, source: BinaryIO) -> Unit:
-        enc = source.read(head.kem.enc_size)
-        return Unit(file, part, head, enc, [source.read(size + TAG_SIZE) for size in head.sizes(part)])
+    def begin(self, file: File, source: Source) -> None:
+        head = read_head(source)
+        wrong = head.fault_of(self.key)
+        if wrong is not None:
+            raise wrong
+        layout = layout_of(head)
+        due = layout.sealed_size(head)
+        if source.size != due:
+            what = "cut" if source.size < due else "too long"
+            raise FileFault(file.name, f"it is spoilt: {what}, {source.size:,} bytes in place of {due:,}")
+        file.begin(head, layout, self._sinks(file.job.target, layout))
 
-    def answers(self, group: List[Unit]) -> Iterator[List[bytes]]:
-        suites = {unit.head.suite for unit in group}
-        found: Dict[int, List[bytes]] = {}
-        for suite in suites:
-            places = [place for place, unit in enumerate(group) if unit.head.suite == suite]
-            units = [group[place] for place in places]
-            contents = [(unit.enc, Contents(unit.head.info(unit.part), unit.chunks)) for unit in units]
-            for place, unit, opened in zip(places, units, open_contexts(self.key, contents, suite, runner=self.runner)):
-                found[place] = opened if isinstance(opened, list) else []
-                if isinstance(opened, int):
-                    self.faults.setdefault(unit.file, self._spoilt(unit, opened))
-        return iter([found[place] for place in range(len(group))])
+    def _sinks(self, target: str, layout: Layout) -> Sequence[Callable[[], Sink]]:
+        if target != STANDARD:
+            return [sink_of(target)]
+        if layout.size <= MOST_IN_MEMORY:
+            return [Held]
+        digests: List[bytes] = []
+        return [lambda: Checked(digests), lambda: CheckedAgain(digests)]
 
-    def _spoilt(self, unit: Unit, chunk: int) -> FileFault:
-        path = self.jobs[unit.file].source
-        at = unit.part * CHUNKS_OF_PART + chunk
-        if at == 0:
-            return FileFault(path, "it doesn't open: it is spoilt in its first MiB, or was sealed to another key")
-        return FileFault(path, f"it is spoilt in its MiB number {at + 1}; nothing of it was written")
+    def roots(self, files: Sequence[File]) -> List[Root]:
+        asked = [RootAsked(self.info, file.head.suite.kdf, file.head.enc) for file in files]
+        return recipient_roots(self.key, asked, self.psk, self.runner)
+
+    def read(self, file: File, source: Source, part: int) -> PartTask:
+        if part == 0:
+            source.rewind()
+            source.read(len(file.head.to_bytes()))
+        chunks = [source.read(size + TAG_SIZE) for size in file.layout.sizes(part)]
+        return file.task(part, chunks, source.read(TAG_SIZE))
+
+    def answers(self, units: Sequence[Unit]) -> Sequence[Answer]:
+        made = open_parts([unit.task for unit in units], self.runner)
+        return [it.texts if it.is_whole else _fault(unit, it) for unit, it in zip(units, made)]
+
+
+def _fault(unit: Unit, opened_part: OpenedPart) -> str:
+    if len(opened_part.texts) == len(unit.task.texts):
+        return f"it is cut or spliced, or psk or info aren't the sender's: the end mark of its part {unit.part} doesn't open"
+    at = unit.part * CHUNKS_OF_PART + len(opened_part.texts)
+    if at == 0:
+        return "it doesn't open from its first MiB on: it is spoilt, or psk or info aren't the sender's"
+    return f"it is spoilt in its MiB number {at + 1}; nothing of it was written"
+
+
+def sink_of(target: str) -> Callable[[], Sink]:
+    if target == STANDARD:
+        return ToStandardOutput
+    return lambda: NewFile(target)

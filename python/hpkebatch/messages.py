@@ -1,6 +1,6 @@
 """One call each: make a key pair, seal messages to a public key, open them, export a secret.
 
-Each call draws its own seed, so no key and nonce is used twice, also where an executor runs a task a second time.
+Each call draws its own seeds, so no key and nonce is used for two messages, also where an executor runs a task twice.
 """
 
 from __future__ import annotations
@@ -8,39 +8,52 @@ from __future__ import annotations
 import secrets
 from concurrent.futures import Executor
 from dataclasses import dataclass
-from itertools import accumulate
-from typing import Callable, Generic, Iterable, Iterator, List, NamedTuple, Optional, Sequence, Tuple, TypeVar, Union
+from itertools import accumulate, islice
+from typing import (
+    Any,
+    Callable,
+    Generic,
+    Iterable,
+    Iterator,
+    List,
+    Literal,
+    NamedTuple,
+    Optional,
+    Sequence,
+    Tuple,
+    TypeVar,
+    Union,
+    overload,
+)
 
-from .batch import Batch, Lane
+from . import arguments
+from .batch import Batch
 from .command import Runner
 from .errors import MessageNotOpened
-from .suites import LIMITS, SNTRUP761, Aead, Kdf, Kem, Limits, Psk, kem_of_public, kem_of_secret
+from .keys import KeyPair, PublicKey, SecretKey, public_key, secret_key
+from .parts import (
+    COST_OF_MESSAGE,
+    OpenedPart,
+    PartTask,
+    Root,
+    RootAsked,
+    SealedPart,
+    exported,
+    grouped,
+    measured,
+    open_parts,
+    recipient_roots,
+    seal_parts,
+    sender_roots,
+)
+from .sealed import MESSAGES_MAGIC, Head, Part, Sealed, Suite, counts_of, recipient_of
+from .suites import ID_SIZE, LIMITS, SNTRUP761, TAG_SIZE, Aead, Kdf, Kem, Limits, Psk
 
+AnyPublic = Union[PublicKey, bytes]
+AnySecret = Union[SecretKey, bytes]
 Progress = Callable[[int, int], None]
-T = TypeVar("T")
-MOST_WORKERS = 4
-PART_MARK = b"\0hpkebatch part"
-MAGIC = b"hpkebatch messages 1\n"
-
-
-@dataclass(frozen=True, repr=False)
-class KeyPair:
-    public: bytes
-    secret: bytes
-
-    def __repr__(self) -> str:
-        return f"<KeyPair of {kem_of_public(self.public).name}, public key {self.public[:4].hex()}..>"
-
-
-@dataclass(frozen=True, repr=False)
-class Part:
-    """Messages that were sealed under one encapsulation, in their order."""
-
-    enc: bytes
-    ciphertexts: Tuple[bytes, ...]
-
-    def __repr__(self) -> str:
-        return f"<Part of {len(self.ciphertexts)} messages>"
+R = TypeVar("R")
+PARTS_OF_BATCH = 4  # at the least: so many workers have a lane each
 
 
 @dataclass(frozen=True, repr=False)
@@ -54,81 +67,6 @@ class Exported:
         return f"<Exported: a secret of {len(self.secret)} bytes>"
 
 
-@dataclass(frozen=True, repr=False)
-class Sealed:
-    """Sealed messages, in one part or several. Nothing in it is secret.
-
-    A batch holds up to 65,536 messages and some 32 MiB of them. More messages are sealed in several parts, each
-    with an encapsulation of its own. The parts are bound to their places and their count: `open` fails where one is
-    missing or moved. It doesn't find that messages are missing at the end of the last part.
-    """
-
-    parts: Tuple[Part, ...]
-    kdf: Kdf = Kdf.HKDF_SHA256
-    aead: Aead = Aead.AES_256_GCM
-
-    def __repr__(self) -> str:
-        return f"<Sealed: {len(self)} messages in {len(self.parts)} parts>"
-
-    def __len__(self) -> int:
-        return sum(len(part.ciphertexts) for part in self.parts)
-
-    @property
-    def enc(self) -> bytes:
-        """The encapsulation, where there is one part."""
-        if len(self.parts) != 1:
-            raise ValueError(f"there are {len(self.parts)} parts, each with an encapsulation of its own: see `parts`")
-        return self.parts[0].enc
-
-    @property
-    def ciphertexts(self) -> List[bytes]:
-        """The ciphertexts of all parts, in the order of the messages."""
-        return [text for part in self.parts for text in part.ciphertexts]
-
-    def to_bytes(self) -> bytes:
-        """All of it as one byte string: sizes and counts are 4 bytes each, high byte first."""
-        pieces = [MAGIC, self.kdf.to_bytes(2, "big"), self.aead.to_bytes(2, "big"), _size(len(self.parts))]
-        for part in self.parts:
-            pieces += [_size(len(part.enc)), part.enc, _size(len(part.ciphertexts))]
-            for text in part.ciphertexts:
-                pieces += [_size(len(text)), text]
-        return b"".join(pieces)
-
-    @staticmethod
-    def from_bytes(data: bytes) -> Sealed:
-        """What `to_bytes` made; a ValueError where the bytes are cut or of another form."""
-        source = _Source(data)
-        if source.take(len(MAGIC)) != MAGIC:
-            raise ValueError("these bytes aren't sealed messages of hpkebatch")
-        kdf, aead = Kdf(source.number(2)), Aead(source.number(2))
-        parts = []
-        for _ in range(source.number(4)):
-            enc = source.take(source.number(4))
-            parts.append(Part(enc, tuple(source.take(source.number(4)) for _ in range(source.number(4)))))
-        if source.at != len(data):
-            raise ValueError("bytes follow the last sealed message")
-        return Sealed(tuple(parts), kdf, aead)
-
-
-class _Source:
-    def __init__(self, data: bytes) -> None:
-        self.data, self.at = data, 0
-
-    def take(self, size: int) -> bytes:
-        piece = self.data[self.at : self.at + size]
-        if len(piece) != size:
-            raise ValueError("the sealed messages are cut")
-        self.at += size
-        return piece
-
-    def number(self, size: int) -> int:
-        return int.from_bytes(self.take(size), "big")
-
-
-def _size(value: int) -> bytes:
-    return value.to_bytes(4, "big")
-
-
 # ---- what users call
 
 
@@ -138,86 +76,165 @@ def generate_key(kem: Kem = SNTRUP761, *, runner: Optional[Runner] = None) -> Ke
     key = batch.keygen(kem)
     answer = batch.run(workers=1, runner=runner)[key]
     assert answer.public is not None and answer.secret is not None
-    return KeyPair(answer.public, answer.secret)
+    return KeyPair(PublicKey(answer.public), SecretKey(answer.secret))
+
+
+@overload
+def seal(
+    messages: Iterable[bytes],
+    *,
+    to: AnyPublic,
+    info: bytes = ...,
+    aads: Optional[Iterable[bytes]] = ...,
+    psk: Optional[Psk] = ...,
+    kdf: Kdf = ...,
+    aead: Aead = ...,
+    alone: Literal[False] = ...,
+    executor: Optional[Executor] = ...,
+    runner: Optional[Runner] = ...,
+    progress: Optional[Progress] = ...,
+    limits: Limits = ...,
+) -> Sealed: ...
+
+
+@overload
+def seal(
+    messages: Iterable[bytes],
+    *,
+    to: AnyPublic,
+    info: bytes = ...,
+    aads: Optional[Iterable[bytes]] = ...,
+    psk: Optional[Psk] = ...,
+    kdf: Kdf = ...,
+    aead: Aead = ...,
+    alone: Literal[True],
+    executor: Optional[Executor] = ...,
+    runner: Optional[Runner] = ...,
+    progress: Optional[Progress] = ...,
+    limits: Limits = ...,
+) -> List[Sealed]: ...
 
 
 def seal(
     messages: Iterable[bytes],
     *,
-    to: bytes,
+    to: AnyPublic,
     info: bytes = b"",
     aads: Optional[Iterable[bytes]] = None,
     psk: Optional[Psk] = None,
     kdf: Kdf = Kdf.HKDF_SHA256,
     aead: Aead = Aead.AES_256_GCM,
+    alone: bool = False,
     executor: Optional[Executor] = None,
     runner: Optional[Runner] = None,
     progress: Optional[Progress] = None,
     limits: Limits = LIMITS,
-) -> Sealed:
-    """Seals messages, of up to 1 MiB each, to the public key `to`.
+) -> Union[Sealed, List[Sealed]]:
+    """Seals messages, of up to 1 MiB each, to the public key `to`: one `Sealed`, which opens as a whole.
+
+    With `alone` it is a list of them, one for each message, each with an encapsulation of its own: what is lost or
+    spoilt of one leaves the others.
 
     `info` and `aads` (associated data, one for each message) aren't sent: `open` wants the same. Without `psk`
-    whoever has the public key can seal: then a message that opens is whole, but may be anybody's.
+    whoever has the public key can seal: then what opens is whole, but may be anybody's.
 
-    Messages that one batch can't hold are sealed in several parts (see `Sealed`). An `executor` runs the parts:
-    one of threads, of processes, or of many machines, which then are given the messages and the psk, and by `open` the
-    secret key. Without one the parts run here, one after another. `progress` is called with the count of messages that are done, and of all.
+    Many messages are sealed in several parts. An `executor` runs the parts: one of threads, of processes, or of many
+    machines. It is given the messages and a secret that belongs to them alone, and no key. Without one they run here.
+    `progress` is called with the count of messages that are done, and of all.
     """
-    kem_of_public(to)
-    if isinstance(messages, (bytes, bytearray, memoryview, str)):
-        raise TypeError("messages is a list of byte strings: write [message] for a single one")
-    pieces = list(_cut(list(messages), _listed(aads), _room(info, psk, limits), limits))
-    tasks = [
-        (to, [Contents(part_info(info, place, len(pieces)), texts, some)], Suite(kdf, aead), psk, runner, limits)
-        for place, (texts, some) in enumerate(pieces)
-    ]
-    counts = [len(texts) for texts, _ in pieces]
-    parts = [made[0] for made in _run_all(seal_contexts, tasks, counts, executor, progress)]
-    return Sealed(tuple(parts), kdf, aead)
+    key, psk, info = public_key(to, "to"), arguments.psk(psk), arguments.info(info)
+    suite = arguments.suite(key.kem, kdf, aead)
+    texts = arguments.octets_of_each(messages, "message", limits.message)
+    whole = Piece(texts, arguments.aads_for(aads, len(texts), limits))
+    pieces = [[it] for it in whole.singles()] if alone else [list(_cut(whole, limits))]
+    roots = sender_roots(key, [RootAsked(MESSAGES_MAGIC + info, suite.kdf)] * len(pieces), psk, runner, limits)
+    heads = [_head(suite, key, some, root) for some, root in zip(pieces, roots)]
+    tasks = [task for head, root, some in zip(heads, roots, pieces) for task in _sealing_tasks(head, root, some)]
+    parts = iter(_run_all(seal_parts, tasks, executor, runner, progress, limits))
+    sealed = [_sealed(head, islice(parts, len(some))) for head, some in zip(heads, pieces)]
+    return sealed if alone else sealed[0]
+
+
+AnySealed = Union[Sealed, Iterable[Sealed]]
+
+
+@overload
+def open(
+    sealed: AnySealed,
+    *,
+    key: AnySecret,
+    info: bytes = ...,
+    aads: Optional[Iterable[bytes]] = ...,
+    psk: Optional[Psk] = ...,
+    on_failure: Literal["raise"] = ...,
+    executor: Optional[Executor] = ...,
+    runner: Optional[Runner] = ...,
+    progress: Optional[Progress] = ...,
+    limits: Limits = ...,
+) -> List[bytes]: ...
+
+
+@overload
+def open(
+    sealed: AnySealed,
+    *,
+    key: AnySecret,
+    info: bytes = ...,
+    aads: Optional[Iterable[bytes]] = ...,
+    psk: Optional[Psk] = ...,
+    on_failure: Literal["none"],
+    executor: Optional[Executor] = ...,
+    runner: Optional[Runner] = ...,
+    progress: Optional[Progress] = ...,
+    limits: Limits = ...,
+) -> List[Optional[bytes]]: ...
 
 
 def open(
-    sealed: Sealed,
+    sealed: AnySealed,
     *,
-    key: bytes,
+    key: AnySecret,
     info: bytes = b"",
     aads: Optional[Iterable[bytes]] = None,
     psk: Optional[Psk] = None,
+    on_failure: str = "raise",
     executor: Optional[Executor] = None,
     runner: Optional[Runner] = None,
     progress: Optional[Progress] = None,
     limits: Limits = LIMITS,
-) -> List[bytes]:
-    """The messages, opened with the secret key `key`. Raises MessageNotOpened for the first that doesn't open."""
-    kem_of_secret(key)
-    counts = [len(part.ciphertexts) for part in sealed.parts]
-    dealt = _dealt(_listed(aads), counts)
-    tasks = [
-        (
-            key,
-            [(part.enc, Contents(part_info(info, place, len(counts)), part.ciphertexts, some))],
-            Suite(sealed.kdf, sealed.aead),
-            psk,
-            runner,
-            limits,
-        )
-        for place, (part, some) in enumerate(zip(sealed.parts, dealt))
-    ]
-    texts: List[bytes] = []
-    for place, (opened,) in enumerate(_run_all(open_contexts, tasks, counts, executor, progress)):
-        if isinstance(opened, int):
-            raise MessageNotOpened(len(texts) + opened, place)
-        texts += opened
-    return texts
+) -> Union[List[bytes], List[Optional[bytes]]]:
+    """The messages, opened with the secret key `key`. Those of several `Sealed` come in one list.
+
+    Nothing is given before all was tried. The first message that doesn't open raises MessageNotOpened, which has those
+    before it. With `on_failure="none"` the list has None for it, and for those behind it in its part: a context
+    counts what it opened. A part with no messages has its end mark alone, and raises in any case where that fails.
+    What is sealed to another key raises WrongKey, or is None where `on_failure` is "none" and some is sealed to this one.
+    """
+    own, psk, info = secret_key(key, "key"), arguments.psk(psk), arguments.info(info)
+    if on_failure not in ("raise", "none"):
+        raise ValueError('on_failure is "raise" or "none"')
+    lists = _lists(sealed)
+    is_ours = _named(lists, own, on_failure == "raise")
+    dealt = _dealt(arguments.aads_for(aads, sum(map(len, lists)), limits), list(map(len, lists)))
+    ours = [(it, some) for it, some, is_named in zip(lists, dealt, is_ours) if is_named]
+    asked = [RootAsked(MESSAGES_MAGIC + info, it.kdf, it.enc) for it, _ in ours]
+    roots = recipient_roots(own, asked, psk, runner, limits)
+    tasks = [task for (it, some), root in zip(ours, roots) for task in _opening_tasks(it, root, some)]
+    _test_sizes(tasks, limits)
+    opened = iter(_run_all(open_parts, tasks, executor, runner, progress, limits))
+    parts = [(place, next(opened) if is_named else None) for it, is_named in zip(lists, is_ours) for place in range(len(it.parts))]
+    return _texts(parts, [count for it in lists for count in it.counts], on_failure == "raise")
+
+
+unseal = open
 
 
 def export(
     label: bytes,
     size: int,
     *,
-    to: Optional[bytes] = None,
-    key: Optional[bytes] = None,
+    to: Optional[AnyPublic] = None,
+    key: Optional[AnySecret] = None,
     enc: Optional[bytes] = None,
     info: bytes = b"",
     psk: Optional[Psk] = None,
@@ -230,199 +247,159 @@ def export(
     The sender gives `to`, the recipient's public key, and sends the `enc` of the result. The recipient gives `key`,
     its secret key, and that `enc`. `label` is the exporter context; it, info, psk and suite are the same at both ends.
     """
+    label, psk, info = arguments.octets(label, "label", LIMITS.field), arguments.psk(psk), arguments.info(info)
+    arguments.test_export(size, kdf, aead)
     batch = Batch()
     if to is not None and key is None and enc is None:
-        peer = batch.peer(to, kem_of_public(to))
-        context = batch.send(peer, info, kdf=kdf, aead=aead, psk=psk, limit=1)
+        public = public_key(to, "to")
+        context = batch.send(batch.peer(public.data, public.kem), info, kdf=kdf, aead=aead, psk=psk, limit=1)
     elif to is None and key is not None and enc is not None:
-        own = batch.secret(key, kem_of_secret(key))
-        context = batch.recv(own, enc, info, kdf=kdf, aead=aead, psk=psk, limit=1)
+        own = secret_key(key, "key")
+        enc = arguments.encapsulation(enc, own.kem)
+        context = batch.recv(batch.secret(own.data, own.kem), enc, info, kdf=kdf, aead=aead, psk=psk, limit=1)
     else:
         raise TypeError("export wants `to`, or `key` and `enc`")
-    call = batch.lane().export(context, label, size)
-    reply = batch.run(workers=1, runner=runner)
-    used = reply[context].enc or enc
-    assert used is not None
-    return Exported(used, reply[call].secret)
+    (root,) = exported(batch, [context], label, size, runner)
+    return Exported(root.enc or enc or b"", root.secret)
 
 
-# ---- parts
+# ---- lists and their parts
 
 
-def part_info(info: bytes, place: int, count: int) -> bytes:
-    """The info of a part: that of the caller where there is one part, and else with its place and their count."""
-    if count == 1:
-        return info
-    return info + PART_MARK + place.to_bytes(8, "big") + count.to_bytes(8, "big")
+class Piece(NamedTuple):
+    """Messages, and their associated data."""
+
+    texts: Sequence[bytes]
+    aads: Optional[Sequence[bytes]]
+
+    def cut(self, first: int, end: int) -> Piece:
+        return Piece(self.texts[first:end], None if self.aads is None else self.aads[first:end])
+
+    def singles(self) -> List[Piece]:
+        return [self.cut(place, place + 1) for place in range(len(self.texts))]
 
 
-Piece = Tuple[List[bytes], Optional[List[bytes]]]  # messages, and their associated data
-
-
-def _listed(aads: Optional[Iterable[bytes]]) -> Optional[List[bytes]]:
-    return None if aads is None else list(aads)
-
-
-def _room(info: bytes, psk: Optional[Psk], limits: Limits) -> int:
-    """How many bytes of a batch are left for its calls, also where they are opened again."""
-    given = len(info) + (len(psk.secret) + len(psk.id) if psk else 0)
-    return limits.input - 2 * given - 8192
-
-
-def _cut(messages: List[bytes], aads: Optional[List[bytes]], room: int, limits: Limits) -> Iterator[Piece]:
-    """The messages in pieces that a batch can hold, both to seal and to open them."""
-    if aads is not None and len(aads) != len(messages):
-        raise ValueError(f"there are {len(messages):,} messages and {len(aads):,} aads")
+def _cut(whole: Piece, limits: Limits) -> Iterator[Piece]:
+    """The messages in parts, of which a batch holds several. No messages are one part."""
+    most, room = max(1, limits.items // PARTS_OF_BATCH - 1), limits.input // PARTS_OF_BATCH - 8192
     first = size = 0
-    for place, text in enumerate(messages):
-        if len(text) > limits.message:
-            raise ValueError(f"message {place} has {len(text):,} bytes, and at most {limits.message:,} are allowed")
-        # `unseal 0 AAD CT` and its line feed
-        more = 44 + 2 * len(text) + (2 * len(aads[place]) if aads else 0)
-        if place > first and (size + more > room or place - first == limits.items):
-            yield _piece(messages, aads, first, place)
+    for place, text in enumerate(whole.texts):
+        more = COST_OF_MESSAGE + 2 * len(text) + (0 if whole.aads is None else 2 * len(whole.aads[place]))
+        if place > first and (size + more > room or place - first == most):
+            yield whole.cut(first, place)
             first, size = place, 0
         size += more
-    yield _piece(messages, aads, first, len(messages))
+    yield whole.cut(first, len(whole.texts))
 
 
-def _piece(messages: List[bytes], aads: Optional[List[bytes]], first: int, end: int) -> Piece:
-    return messages[first:end], None if aads is None else aads[first:end]
+def _head(suite: Suite, key: PublicKey, pieces: Sequence[Piece], root: Root) -> Head:
+    counts = counts_of([len(it.texts) for it in pieces])
+    return Head(MESSAGES_MAGIC, suite, recipient_of(key), secrets.token_bytes(ID_SIZE), counts, root.enc)
 
 
-def _dealt(aads: Optional[List[bytes]], counts: Sequence[int]) -> List[Optional[List[bytes]]]:
-    """The associated data of each part."""
+def _sealing_tasks(head: Head, root: Root, pieces: Sequence[Piece]) -> List[PartTask]:
+    return [PartTask(head.suite, root.secret, info, *it) for info, it in zip(head.part_infos(), pieces)]
+
+
+def _opening_tasks(sealed: Sealed, root: Root, aads: Optional[Sequence[bytes]]) -> List[PartTask]:
+    rows = zip(sealed.head.part_infos(), sealed.parts, _dealt(aads, sealed.counts))
+    return [PartTask(sealed.head.suite, root.secret, info, part.ciphertexts, some, part.end) for info, part, some in rows]
+
+
+def _sealed(head: Head, parts: Iterable[SealedPart]) -> Sealed:
+    made = tuple(Part(tuple(it.ciphertexts), it.end) for it in parts)
+    return Sealed(*head.suite, head.recipient, head.id, head.enc, made)
+
+
+def _lists(sealed: AnySealed) -> List[Sealed]:
+    if isinstance(sealed, arguments.BYTES):
+        raise TypeError("sealed is of type bytes: Sealed.from_bytes reads it")
+    lists = [sealed] if isinstance(sealed, Sealed) else list(sealed)
+    for it in lists:
+        if not isinstance(it, Sealed):
+            raise TypeError(f"a {type(it).__name__} isn't Sealed")
+        if not it.parts or len(it.enc) != it.kem.enc_size or it.aead == Aead.EXPORT_ONLY:
+            raise ValueError("this isn't what seal gave: it has no part, or an encapsulation of another size")
+    return lists
+
+
+def _named(lists: Sequence[Sealed], key: SecretKey, is_each_needed: bool) -> List[bool]:
+    """Which lists name this key. WrongKey is raised where none does, or one doesn't and each has to."""
+    faults = [it.head.fault_of(key) for it in lists]
+    wrong = [fault for fault in faults if fault is not None]
+    if wrong and (is_each_needed or len(wrong) == len(lists)):
+        raise wrong[0]
+    return [fault is None for fault in faults]
+
+
+def _dealt(aads: Optional[Sequence[bytes]], counts: Sequence[int]) -> List[Optional[Sequence[bytes]]]:
+    """The associated data of each list, or of each part."""
     if aads is None:
         return [None] * len(counts)
-    if len(aads) != sum(counts):
-        raise ValueError(f"there are {sum(counts):,} messages and {len(aads):,} aads")
     return [aads[end - count : end] for count, end in zip(counts, accumulate(counts))]
 
 
+def _test_sizes(tasks: Sequence[PartTask], limits: Limits) -> None:
+    for task in tasks:
+        size, calls = measured(task)
+        is_long = max(map(len, task.texts), default=0) > limits.message + TAG_SIZE
+        if is_long or size > limits.input - 4096 or calls > limits.items:
+            raise ValueError("a part holds more than hpkebatch puts into one: it can't be opened")
+
+
+def _texts(
+    parts: Iterable[Tuple[int, Optional[OpenedPart]]], counts: Iterable[int], is_raising: bool
+) -> Union[List[bytes], List[Optional[bytes]]]:
+    """All messages, of each part with its place; a part that is None is sealed to another key."""
+    texts: List[Any] = []
+    for (place, part), count in zip(parts, counts):
+        opened, is_whole = part or OpenedPart([], False)
+        texts += opened
+        if not is_whole and (is_raising or count == 0):
+            raise MessageNotOpened(len(texts), place, len(opened) == count, texts)
+        texts += [None] * (count - len(opened))
+    return texts
+
+
+# ---- running the parts
+
+
 def _run_all(
-    task: Callable[..., List[T]],
-    tasks: Sequence[Tuple[object, ...]],
-    counts: Sequence[int],
+    work: Callable[..., List[R]],
+    tasks: Sequence[PartTask],
     executor: Optional[Executor],
+    runner: Optional[Runner],
     progress: Optional[Progress],
-) -> Iterator[List[T]]:
-    """What each task gives, in their order."""
-    done = 0
-    futures = None if executor is None else [executor.submit(_Task(task, it)) for it in tasks]
+    limits: Limits,
+) -> List[R]:
+    """What becomes of each part, in their order."""
+    groups = list(grouped(tasks, measured, limits, 1 if executor is None else PARTS_OF_BATCH))
+    futures = None if executor is None else [executor.submit(_Task(work, (it, runner, limits))) for it in groups]
+    made: List[R] = []
+    done, count = 0, sum(len(task.texts) for task in tasks)
     try:
-        for place, it in enumerate(tasks):
-            yield task(*it) if futures is None else futures[place].result().made
-            done += counts[place]
+        for place, group in enumerate(groups):
+            made += work(group, runner, limits) if futures is None else futures[place].result().made
+            done += sum(len(task.texts) for task in group)
             if progress is not None:
-                progress(done, sum(counts))
+                progress(done, count)
     finally:
         for future in futures or ():
             future.cancel()
+    return made
 
 
-# ---- one batch: functions that an executor may send to another process
-
-
-class _Task(Generic[T]):
+class _Task(Generic[R]):
     """A task with what it is given and what it gives, as one object: some engines look at each message of a list.
 
     Its token is random, since some engines give two tasks that are the same one result.
     """
 
-    def __init__(self, task: Callable[..., List[T]], given: Tuple[object, ...]) -> None:
-        self.task, self.given, self.token = task, given, secrets.token_bytes(16)
-        self.made: List[T] = []
+    def __init__(self, work: Callable[..., List[R]], given: Tuple[object, ...]) -> None:
+        self.work, self.given, self.token = work, given, secrets.token_bytes(16)
+        self.made: List[R] = []
 
-    def __call__(self) -> _Task[T]:
-        done = _Task(self.task, ())
-        done.made = self.task(*self.given)
+    def __call__(self) -> _Task[R]:
+        done = _Task(self.work, ())
+        done.made = self.work(*self.given)
         return done
-
-
-class Suite(NamedTuple):
-    kdf: Kdf
-    aead: Aead
-
-
-class Contents(NamedTuple):
-    """What one context seals or opens."""
-
-    info: bytes
-    texts: Sequence[bytes]
-    aads: Optional[Sequence[bytes]] = None
-
-    @property
-    def limit(self) -> int:
-        return max(1, len(self.texts))
-
-
-def seal_contexts(
-    to: bytes,
-    contents: Sequence[Contents],
-    suite: Suite,
-    psk: Optional[Psk] = None,
-    runner: Optional[Runner] = None,
-    limits: Limits = LIMITS,
-) -> List[Part]:
-    """Seals in one batch: each of the contents under a context of its own."""
-    batch = Batch(limits=limits)
-    key = batch.peer(to, kem_of_public(to))
-    kdf, aead = suite
-    contexts = [batch.send(key, it.info, kdf=kdf, aead=aead, psk=psk, limit=it.limit) for it in contents]
-    lanes = _lanes(batch, len(contents))
-    for context, it, lane in zip(contexts, contents, _in_turn(lanes)):
-        lane.seal_each(context, it.texts, it.aads)
-    reply = batch.run(workers=min(len(lanes), MOST_WORKERS), runner=runner)
-    parts = []
-    for context, (lane, first, end) in zip(contexts, _shares(lanes, contents)):
-        enc = reply[context].enc
-        texts = reply.texts(lane, first, end, b"sealed %d ")
-        if isinstance(texts, int):
-            reply[lane.calls[first + texts]]  # raises, as it was not sealed
-        assert enc is not None and not isinstance(texts, int)
-        parts.append(Part(enc, tuple(texts)))
-    return parts
-
-
-def open_contexts(
-    key: bytes,
-    contents: Sequence[Tuple[bytes, Contents]],
-    suite: Suite,
-    psk: Optional[Psk] = None,
-    runner: Optional[Runner] = None,
-    limits: Limits = LIMITS,
-) -> List[Union[List[bytes], int]]:
-    """Opens in one batch: of each encapsulation and its contents the texts, or the place of the first that fails."""
-    batch = Batch(limits=limits)
-    own = batch.secret(key, kem_of_secret(key))
-    kdf, aead = suite
-    contexts = [batch.recv(own, enc, it.info, kdf=kdf, aead=aead, psk=psk, limit=it.limit) for enc, it in contents]
-    lanes = _lanes(batch, len(contents))
-    for context, (_, it), lane in zip(contexts, contents, _in_turn(lanes)):
-        lane.unseal_each(context, it.texts, it.aads)
-    reply = batch.run(workers=min(len(lanes), MOST_WORKERS), runner=runner)
-    reply[own]
-    opened = []
-    for context, (lane, first, end) in zip(contexts, _shares(lanes, [it for _, it in contents])):
-        reply[context]
-        opened.append(reply.texts(lane, first, end, b"opened %d "))
-    return opened
-
-
-def _lanes(batch: Batch, contexts: int) -> List[Lane]:
-    return [batch.lane() for _ in range(max(1, min(contexts, batch.limits.lanes)))]
-
-
-def _in_turn(lanes: List[Lane]) -> Iterator[Lane]:
-    while True:
-        yield from lanes
-
-
-def _shares(lanes: List[Lane], contents: Sequence[Contents]) -> Iterator[Tuple[Lane, int, int]]:
-    """Of each of the contents: its lane, the number of its first call, and that behind its last one."""
-    firsts = [0] * len(lanes)
-    for place, it in enumerate(contents):
-        at = place % len(lanes)
-        end = firsts[at] + len(it.texts)
-        yield lanes[at], firsts[at], end
-        firsts[at] = end

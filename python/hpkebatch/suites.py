@@ -46,6 +46,11 @@ class Psk:
     secret: bytes = field(repr=False)
     id: bytes
 
+    def __post_init__(self) -> None:
+        for what, data in (("a psk", self.secret), ("the id of a psk", self.id)):
+            if not isinstance(data, (bytes, bytearray, memoryview)):
+                raise TypeError(f"{what} is bytes, not {type(data).__name__}")
+
 
 @dataclass(frozen=True)
 class Limits:
@@ -65,6 +70,7 @@ class Limits:
 LIMITS = Limits()
 TAG_SIZE = 16
 SEED_SIZE = 32
+ID_SIZE = 32  # of the random id of what is sealed
 MOST_MESSAGES = 2**64 - 1  # the greatest LIMIT of a context
 
 

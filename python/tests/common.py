@@ -1,15 +1,23 @@
-"""What the tests share: the built program, the stored examples, and runners that stand in for the program."""
+"""What the tests share: the built program, the stored examples, folders to work in, and runners that stand in for the program."""
 
+import contextlib
 import glob
+import io
 import os
+import subprocess
+import sys
+import tempfile
+import unittest
 from collections import namedtuple
 
 from hpkebatch import Command, Finished
+from hpkebatch.__main__ import main
 
 HERE = os.path.dirname(os.path.abspath(__file__))
 HOME = os.path.dirname(os.path.dirname(HERE))
 PACKAGE = os.path.dirname(HERE)
 PROGRAM = os.path.abspath(os.environ.get("HPKEBATCH", os.path.join(HOME, "crates/hpkebatch/out/hpkebatch")))
+ENVIRONMENT = {**os.environ, "PYTHONPATH": PACKAGE, "HPKEBATCH": PROGRAM, "PYTHONDONTWRITEBYTECODE": "1"}
 command = Command(PROGRAM)
 
 Example = namedtuple("Example", "name words batch reply")
@@ -18,6 +26,11 @@ Example = namedtuple("Example", "name words batch reply")
 def read(path):
     with open(path, "rb") as file:
         return file.read()
+
+
+def write(path, data):
+    with open(path, "wb") as file:
+        file.write(data)
 
 
 def examples():
@@ -32,6 +45,39 @@ def examples():
 
 def example(name):
     return next(it for it in examples() if it.name == name)
+
+
+def spoilt(data):
+    """The bytes with one of them changed, left out or doubled, and cut after each; with what was done."""
+    for at in range(len(data)):
+        yield f"changed at {at}", data[:at] + bytes([data[at] ^ 1]) + data[at + 1 :]
+        yield f"changed high at {at}", data[:at] + bytes([data[at] ^ 0x80]) + data[at + 1 :]
+        yield f"left out at {at}", data[:at] + data[at + 1 :]
+        yield f"doubled at {at}", data[: at + 1] + data[at:]
+        yield f"cut at {at}", data[:at]
+    yield "one byte more", data + b"\0"
+
+
+class InAFolder(unittest.TestCase):
+    """A test in a folder of its own."""
+
+    def setUp(self):
+        folder = tempfile.TemporaryDirectory()
+        self.addCleanup(folder.cleanup)
+        self.addCleanup(os.chdir, os.getcwd())
+        os.chdir(folder.name)
+
+    def told(self, *words):
+        """Status, standard output and standard error of the command, in this process."""
+        out, err = io.StringIO(), io.StringIO()
+        with contextlib.redirect_stdout(out), contextlib.redirect_stderr(err):
+            status = main(["--program", PROGRAM, *words])
+        return status, out.getvalue(), err.getvalue()
+
+    def run_command(self, *words, **given):
+        """The same in a process of its own."""
+        given.setdefault("env", ENVIRONMENT)
+        return subprocess.run([sys.executable, "-m", "hpkebatch", *words], capture_output=True, **given)
 
 
 class Told:

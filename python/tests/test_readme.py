@@ -15,7 +15,7 @@ LISTING = re.compile(r"^```(python|sh)\n(.*?)^```$", re.M | re.S)
 class Readme(unittest.TestCase):
     def test_listings(self):
         listings = LISTING.findall(read(os.path.join(PACKAGE, "README.md")).decode())
-        self.assertEqual([kind for kind, _ in listings], ["python", "sh", "python"])
+        self.assertEqual([kind for kind, _ in listings], ["sh", "python", "python"])
         environment = {**os.environ, "PYTHONPATH": PACKAGE, "HPKEBATCH": PROGRAM}
         with tempfile.TemporaryDirectory() as folder:
             with open(os.path.join(folder, "report.pdf"), "wb") as file:

@@ -1,0 +1,64 @@
+"""What `hpkebatch show` says of a file: a key, a sealed file, or sealed messages."""
+
+from __future__ import annotations
+
+from typing import List, Tuple
+
+from . import files
+from .errors import FileFault
+from .keys import HASH_SIZE, SecretKey, fingerprint, grouped, read_key_file
+from .sealed import MESSAGES_MAGIC, Head, Sealed
+from .sources import Source, opened
+
+Rows = List[Tuple[str, str]]
+
+
+def describe(path: str) -> str:
+    """A text of a few lines."""
+    source = opened(path)
+    try:
+        front = source.read(len(MESSAGES_MAGIC))
+        source.rewind()
+        if front == MESSAGES_MAGIC:
+            rows = _of_messages(source)
+        elif front.startswith(b"hpkebatch sealed "):
+            rows = _of_file(source)
+        else:
+            rows = _of_key(path)
+    finally:
+        source.close()
+    return "".join(f"{name + ':':<13} {text}\n" for name, text in rows)
+
+
+def _of_key(path: str) -> Rows:
+    key, is_old = read_key_file(path)
+    kind, whose = ("secret key", "its public key") if isinstance(key, SecretKey) else ("public key", "it")
+    form = " (of hpkebatch 0.2.0, with no checksum)" if is_old else ""
+    return [("kind", kind + form), ("KEM", key.kem.name), ("fingerprint", f"{fingerprint(key)}   of {whose}")]
+
+
+def _of_file(source: Source) -> Rows:
+    head = files.read_head(source)
+    layout = files.layout_of(head)
+    due = layout.sealed_size(head)
+    found = "" if source.size == due else f"; it is spoilt: {source.size:,} bytes in place of {due:,}"
+    return [("kind", "sealed file"), *_of_head(head), ("size", f"{layout.size:,} bytes in {_parts(layout.parts)}{found}")]
+
+
+def _of_messages(source: Source) -> Rows:
+    try:
+        sealed = Sealed.from_bytes(source.read(source.size))
+    except ValueError as fault:
+        raise FileFault(source.name, str(fault)) from None
+    size = f"{len(sealed):,} message{'s' * (len(sealed) != 1)} in {_parts(len(sealed.parts))}"
+    return [("kind", "sealed messages"), *_of_head(sealed.head), ("size", size)]
+
+
+def _of_head(head: Head) -> Rows:
+    kem, kdf, aead = head.suite
+    recipient = f"{grouped(head.recipient)} ..   the first {HASH_SIZE} bytes of the fingerprint"
+    return [("suite", f"{kem.name}, {kdf.name}, {aead.name}"), ("recipient", recipient)]
+
+
+def _parts(count: int) -> str:
+    return f"{count:,} part{'s' * (count != 1)}"
