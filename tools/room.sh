@@ -24,10 +24,11 @@ tell_failure() {
     exit 1
 }
 
-# Where the room is made: rt looks at each file of a checkout but those of git.
+# new_room NAME: where the room is made: rt looks at each file of a checkout but those of git. Only one script works in
+# a checkout's rooms, which has the lock on its folder.
 new_room() {
     if [ -d .git ]; then
-        rm -rf ".git/$goal-room" && mkdir ".git/$goal-room" && echo "$PWD/.git/$goal-room"
+        rm -rf ".git/$1-room" && mkdir ".git/$1-room" && echo "$PWD/.git/$1-room"
     else
         mktemp -d
     fi
