@@ -208,7 +208,7 @@ int LLVMFuzzerTestOneInput(const uint8_t *data, size_t size)
     uint32_t status = serve(words, text, 0, &written);
     if (status != HPKEBATCH_NO_ROOM)
         return 0;
-    if (written > MOST_TEXT)
+    if (text_len + written > MOST_TEXT)
         return -1;
     HOLDS(serve(words, text, written - 1, &again) == HPKEBATCH_NO_ROOM && again == written);
     status = serve(words, text, written, &again);
