@@ -8,11 +8,14 @@ comments:
     # clause: NAME, by GOAL where the prover refuses a goal that this clause needs: the invariant of a loop, as `loop-i`,
                             what a call requires, as `copy-requires`, or `returns`, which it doesn't split by clauses
 """
+import collections
 import os
 import re
 
 ENSURES = re.compile(r"^\s+ensures ", re.M)
 FUNCTION = re.compile(r'^( *)(?:pub(?:\([^)]*\))? )?(?:const )?(?:extern "C" )?fn (\w+)', re.M)
+
+Place = collections.namedtuple("Place", "file first last clauses")
 
 
 def read(path):
@@ -74,16 +77,19 @@ class Edit:
         return found
 
 
-    def count_of_clauses(self, folder):
-        """How many clauses of its own the function has that it changes first; 0 where it has them of a trait, or
-        where it changes none."""
+    def place(self, folder):
+        """The function that it changes first: its file, its first and its last line, and how many clauses of its own
+        it has (none where it has them of a trait). Nothing where the first change is in no function."""
         file, old, _ = self.parts[0]
         text = read(f"{folder}/{file}")
         before = text.partition(old)[0]
         if not function_open_in(before):
-            return 0
+            return None
         head = list(FUNCTION.finditer(before))[-1]
-        return len(ENSURES.findall(re.split(rf"^{head[1]}{{", text[head.end():], maxsplit=1, flags=re.M)[0]))
+        end = re.compile(rf"^{head[1]}}}", re.M).search(text, head.end())
+        contract = re.split(rf"^{head[1]}{{", text[head.end():end.start()], maxsplit=1, flags=re.M)[0]
+        first, last = (text.count("\n", 0, at) + 1 for at in (head.start(), end.start()))
+        return Place(file, first, last, len(ENSURES.findall(contract)))
 
 
 def edits_of(folder):
