@@ -13,7 +13,8 @@
  *   different threads.
  * - malloc, realloc and free are those of one allocator. No call is made from a signal handler, or in the forked child
  *   of a process with threads.
- * - The processor has x86-64-v2 (SSE 4.2), and the thread has 128 KiB of stack (tested).
+ * - The processor has x86-64-v2 (SSE 4.2), and a call finds 128 KiB of its thread's stack free (tested by programs that
+ *   have 96 in all).
  *
  * Sizes are in bytes. Nothing is wiped: secrets stay in the caller's memory, and in memory that was given back.
  */
