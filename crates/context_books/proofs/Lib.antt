@@ -44,3 +44,6 @@ pub mod Sums
 pub mod Counts
 pub mod Columns
 pub mod ItemPlaces
+pub mod OneLanePlaces
+pub mod SealedAlike
+pub mod OneReply

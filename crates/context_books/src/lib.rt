@@ -62,6 +62,7 @@ mod opening;
 mod rows;
 mod sealing;
 mod settling;
+mod sharing;
 
 pub use book::{Book, Draw};
 pub use checks::{a_guess_is_told, a_legal_history_is_told, a_legal_journal_is_told};
@@ -86,3 +87,7 @@ pub use naming::items_of_opening;
 pub use opening::finish_opening;
 pub use rows::{rows_of_guesses, rows_of_histories, rows_of_journals, rows_of_replies};
 pub use sealing::finish_seal;
+pub use sharing::{
+    may_run_again, one_lane_alone_has_one_journal, replies_differ_in_guesses,
+    seals_are_answered_alike,
+};
