@@ -1,10 +1,5 @@
 -- What any two replies to a plan have alike.
-use Rattle.std.specs.Prelude.{◌≡◌, List, Option, length}
 use Rattle.std.proofs.Common.{sym, subst}
-use Rattle.call_places.specs.declared.entries.Mark.{Mark}
-use Rattle.hpke_context.specs.Contexts.{ContextView}
-use Rattle.batch_plans.specs.declared.replies.KeyReply.{KeyReply}
-use Rattle.batch_plans.specs.declared.replies.ContextReply.{ContextReply}
 use Rattle.context_books.specs.Runs.{IsAllowed, run_along, call_lines, run_lines}
 use Rattle.context_books.specs.Sharing.{SealsAlike, DifferInGuesses}
 use Rattle.context_books.proofs.SealedAlike.{seals_alike}
