@@ -60,7 +60,7 @@ fn told(alloc: Global, row: &Row) -> Option<bool> {
 }
 
 #[test]
-fn batches_whose_lanes_share_no_seals_may_be_run_again(rt: HostRuntime) {
+fn batches_that_may_be_run_again_are_told(rt: HostRuntime) {
     for row in &ROWS {
         let source = row.source;
         assert_eq!(rt; told(rt.alloc(), row), Some(row.may), "{source}");

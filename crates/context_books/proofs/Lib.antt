@@ -47,3 +47,5 @@ pub mod ItemPlaces
 pub mod OneLanePlaces
 pub mod SealedAlike
 pub mod OneReply
+pub mod OwnNames
+pub mod LiveSeals

@@ -88,6 +88,6 @@ pub use opening::finish_opening;
 pub use rows::{rows_of_guesses, rows_of_histories, rows_of_journals, rows_of_replies};
 pub use sealing::finish_seal;
 pub use sharing::{
-    may_run_again, one_lane_alone_has_one_journal, replies_differ_in_guesses,
-    seals_are_answered_alike,
+    live_seals_are_answered_alike, may_run_again, one_lane_alone_has_one_journal,
+    replies_differ_in_guesses, seals_are_answered_alike,
 };

@@ -3,6 +3,7 @@
 
 ghost use Rattle.std.specs.Prelude.{ℕ, ◌≡◌, ◌↔◌, ◌⊎◌, ◌<◌, List, Option, length, true};
 ghost use Rattle.std.specs.List.{list_any};
+ghost use Rattle.call_places.specs.declared.entries.Entry.{Entry};
 ghost use Rattle.call_places.specs.declared.entries.Mark.{Mark};
 ghost use Rattle.call_places.specs.declared.entries.Place.{Place};
 ghost use Rattle.hpke_context.specs.Contexts.{ContextView};
@@ -13,6 +14,7 @@ ghost use Rattle.batch_plans.specs.Within.{IsPlain, IsWithinLimits};
 ghost use Rattle.context_books.specs.Batches.{Batch};
 ghost use Rattle.context_books.specs.LaneCalls.{lane_calls};
 ghost use Rattle.context_books.specs.Legal.{Legal};
+ghost use Rattle.context_books.specs.Live.{IsAllowedLive, live_call_lines, live_run_along};
 ghost use Rattle.context_books.specs.Runs.{IsAllowed, call_lines, run_along, run_lines};
 ghost use Rattle.context_books.specs.Sharing.{DifferInGuesses, IsOfOneLane, SealsAlike};
 ghost use Rattle.context_books.specs.Sharing.{NoOtherSeals, NoTwoLanesMeet, NoTwoLanesSeal, Seals};
@@ -121,6 +123,19 @@ pub fn seals_are_answered_alike()
         → IsAllowed (run_along plan contexts others further)
         → SealsAlike plan (call_lines (run_along plan contexts journals guesses))
         (call_lines (run_along plan contexts others further)) }
+{}
+
+/// The same where lanes add and retire contexts.
+pub fn live_seals_are_answered_alike()
+    ensures { (plan : Plan_) (replies : List ContextReply) (standing : List (Option ContextView))
+        (journals others : List (List Mark)) (guesses further : List (List ℕ))
+        (notes remarks : List Entry) → IsWithinLimits plan
+        → length standing ≡ length plan.contexts → NoTwoLanesSeal plan
+        → IsAllowedLive (live_run_along plan replies standing journals guesses notes)
+        → IsAllowedLive (live_run_along plan replies standing others further remarks)
+        → SealsAlike plan
+        (live_call_lines (live_run_along plan replies standing journals guesses notes))
+        (live_call_lines (live_run_along plan replies standing others further remarks)) }
 {}
 
 /// Where no two lanes seal or open on one context, version 1 has one reply but for its lines

@@ -15,11 +15,12 @@ use Rattle.batch_plans.specs.declared.replies.KeyReply.{KeyReply}
 use Rattle.batch_plans.specs.declared.replies.KeyReply.TheVariants.{Generated}
 use Rattle.batch_plans.specs.declared.replies.ContextReply.{ContextReply}
 use Rattle.batch_plans.specs.declared.replies.ContextReply.TheVariants.{Sender}
-use Rattle.batch_plans.specs.Within.{IsPlain}
+use Rattle.batch_plans.specs.Within.{IsPlain, IsWithinLimits}
+use Rattle.context_books.specs.Live.{LiveRun, live_run_along, live_call_lines}
 use Rattle.context_books.specs.Runs.{Run, run_along, call_lines, run_lines}
 use Rattle.context_books.specs.Sharing.{NoTwoLanesSeal, NoTwoLanesMeet, SealsAlike, DifferInGuesses}
 use Rattle.context_table.specs.SetUp.{IsKeySetUp, IsSetUp}
-use Rattle.context_table.specs.ReplyTo.{IsReply}
+use Rattle.context_table.specs.ReplyTo.{IsReply, IsLiveReply}
 
 abbrev pub OneKeySetUp : Type 0
 OneKeySetUp =
@@ -125,6 +126,11 @@ EndsMatch =
 abbrev pub run_in : (plan : Plan) (text : List ℕ) → IsReply plan text → Run
 run_in plan text reply = run_along plan reply.standing reply.journals reply.guesses
 
+-- the same of a plan whose lanes add and retire contexts
+abbrev pub live_run_in : (plan : Plan) (text : List ℕ) → IsLiveReply plan text → LiveRun
+live_run_in plan text reply =
+    live_run_along plan reply.contexts reply.standing reply.journals reply.guesses reply.notes
+
 -- the lines of the text: it is these, joined
 abbrev pub lines_in : (plan : Plan) (text : List ℕ) → IsReply plan text → List (List ℕ)
 lines_in plan text reply = run_lines reply.keys reply.contexts (run_in plan text reply)
@@ -135,6 +141,14 @@ SealsStay =
     (plan : Plan) (text other : List ℕ) (a : IsReply plan text) (b : IsReply plan other)
     → IsPlain plan → NoTwoLanesSeal plan
     → SealsAlike plan (call_lines (run_in plan text a)) (call_lines (run_in plan other b))
+
+-- and so do those to a plan whose lanes add and retire contexts
+abbrev pub LiveSealsStay : Type 0
+LiveSealsStay =
+    (plan : Plan) (text other : List ℕ) (a : IsLiveReply plan text) (b : IsLiveReply plan other)
+    → IsWithinLimits plan → NoTwoLanesSeal plan
+    → SealsAlike plan (live_call_lines (live_run_in plan text a))
+    (live_call_lines (live_run_in plan other b))
 
 -- where no two lanes seal or open on one context, those of version 1 differ in lines `batch G M` alone
 abbrev pub RepliesStay : Type 0

@@ -2,7 +2,7 @@
 //! work.
 
 ghost use Rattle.context_table.specs.Laws.{OneKeySetUp, OneSetUp, EndsMatch};
-ghost use Rattle.context_table.specs.Laws.{SealsStay, RepliesStay};
+ghost use Rattle.context_table.specs.Laws.{SealsStay, LiveSealsStay, RepliesStay};
 
 use ring_core::{Sntrup761, Sntrup857};
 use sntrup_kem::laws::both_ends_agree;
@@ -28,9 +28,13 @@ pub fn ends_match()
 
 /// Where no two lanes seal on one context, any two texts that `run` may write for a batch answer each
 /// seal alike: with the same line `sealed N CT`, or with `limit`, or with the same refusal. So a second
-/// run gives no number to another message.
+/// run gives no number to another message. It is the same for `live`, where a lane that seals on an
+/// added context is also the only one that adds and retires it.
+///
+/// `may_run_again` of context_books says whether a plan is so.
 pub fn seals_stay()
-    ensures { SealsStay }
+    ensures run { SealsStay }
+    ensures live { LiveSealsStay }
 {}
 
 /// Where no two lanes seal or open on one context, any two texts that `run` may write for a batch of
