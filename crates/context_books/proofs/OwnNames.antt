@@ -465,7 +465,9 @@ same_look plan standing notes others name lane number table also ordered further
     let look_b : Changes plan standing name b.e.place → ⊥ = λ c. looks (subst (Changes plan standing name) b.place_is c) in
     let places : changed plan standing name notes table ordered lane mine a.front a.after a.e own_a look_a a.parted
     ≡ changed plan standing name others also further lane mine b.front b.after b.e own_b look_b b.parted =
-    one_list IsBefore not_both _ _
+    one_list IsBefore not_both
+    (changed plan standing name notes table ordered lane mine a.front a.after a.e own_a look_a a.parted)
+    (changed plan standing name others also further lane mine b.front b.after b.e own_b look_b b.parted)
     (changed_rises plan standing name notes table ordered lane mine a.front a.after a.e own_a look_a a.parted)
     (changed_rises plan standing name others also further lane mine b.front b.after b.e own_b look_b b.parted)
     (λ q i.

@@ -18,8 +18,11 @@
 //! are an argument: [`standing`] looks one up, and [`refusal_of`] says which calls they refuse.
 //!
 //! What follows from these definitions is said by laws, functions that do nothing, whose contracts
-//! are the laws: those of `journals`, `histories`, `guesses`, `entries`, `checks`, `laws` and
-//! `live_laws`.
+//! are the laws: those of `journals`, `histories`, `guesses`, `entries`, `checks`, `laws`, `live_laws`
+//! and `sharing`.
+//!
+//! **A second run.** [`may_run_again`] says whether a plan's seals have the same answers in every run:
+//! where no two lanes seal on one context (`specs/Sharing.antt`).
 //!
 //! **Books.** A [`Book`] is a list of entries under a LIMIT and a quota for each lane. Its next sequence
 //! number is how many of its entries sealed or opened. [`Book::draw`] gives the number of a seal before

@@ -90,11 +90,11 @@ fn seals_alone(plan: &Plan, at: usize) -> bool
     true
 }
 
-/// Whether a batch may be run again, by `run` or `live`, where its seed and its keys are the same: no two
+/// Whether it is safe to run one and the same batch again by the same command, `run` or `live`: no two
 /// lanes seal on one context, nor does one seal on a context that another adds or retires.
 ///
-/// Then each seal has the same answer in every reply, so no number seals a second message. It is a test
-/// of the plan alone: calls that are refused count too. Takes no memory.
+/// Then each seal has the same answer in every reply, so no number seals a second message. The test looks
+/// at the calls alone: those that are refused count too. Takes no memory.
 pub fn may_run_again(plan: &Plan) -> bool
     requires { IsWithinLimits plan.now }
     ensures { (result ≡ true) ↔ NoTwoLanesSeal plan.now }
