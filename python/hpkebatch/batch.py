@@ -15,6 +15,7 @@ from .asked import (
     AddedName,
     AnyAsked,
     AnyContext,
+    Asked,
     Call,
     Context,
     ExportCall,
@@ -40,6 +41,8 @@ MULTIPLIERS = ("plain", "karatsuba", "lanes")
 
 def octets(data: bytes, most: int, what: str) -> bytes:
     """A field of bytes."""
+    if not isinstance(data, (bytes, bytearray, memoryview)):
+        raise TypeError(f"{what} is of type {type(data).__name__}, and bytes are wanted")
     digits = hexlify(data)
     if len(digits) > 2 * most:
         raise OverLimit(f"{what} has {len(digits) // 2:,} bytes, and at most {most:,} are allowed")
@@ -147,6 +150,8 @@ class SeededBatch:
         return 2 if self._seed is None else 3
 
     def _own(self, asked: Union[AnyAsked, AddedName]) -> None:
+        if not isinstance(asked, (Asked, AddedName)):
+            raise TypeError(f"what a line of this batch made is wanted, such as a key or a context, not {type(asked).__name__}")
         if asked.batch is not self:
             raise ValueError("this key, context or call is of another batch")
 

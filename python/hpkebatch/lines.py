@@ -3,6 +3,7 @@
 from __future__ import annotations
 
 from binascii import unhexlify
+from mmap import mmap
 from typing import List, Union
 
 from .command import Text
@@ -26,6 +27,12 @@ class Lines:
         self._look(at)
         starts = self._starts
         return self.text[starts[at] : starts[at + 1] - 1] if 0 <= at < len(starts) - 1 else b""
+
+    def close(self) -> None:
+        """Lets go of the text: no line can be read any more."""
+        if isinstance(self.text, mmap):
+            self.text.close()
+        self.text, self._starts = b"", [0]
 
     def _look(self, at: int) -> None:
         """Finds the lines up to this one, where there are so many."""

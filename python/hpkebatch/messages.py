@@ -6,10 +6,10 @@ Each call draws its own seeds, so no key and nonce is used for two messages, als
 from __future__ import annotations
 
 import secrets
-from concurrent.futures import Executor
 from dataclasses import dataclass
 from itertools import accumulate, islice
 from typing import (
+    TYPE_CHECKING,
     Any,
     Callable,
     Generic,
@@ -48,6 +48,9 @@ from .parts import (
 )
 from .sealed import MESSAGES_MAGIC, Head, Part, Sealed, Suite, counts_of, recipient_of
 from .suites import ID_SIZE, LIMITS, SNTRUP761, TAG_SIZE, Aead, Kdf, Kem, Limits, Psk
+
+if TYPE_CHECKING:
+    from concurrent.futures import Executor
 
 AnyPublic = Union[PublicKey, bytes]
 AnySecret = Union[SecretKey, bytes]
@@ -302,8 +305,9 @@ def _sealing_tasks(head: Head, root: Root, pieces: Sequence[Piece]) -> List[Part
 
 
 def _opening_tasks(sealed: Sealed, root: Root, aads: Optional[Sequence[bytes]]) -> List[PartTask]:
-    rows = zip(sealed.head.part_infos(), sealed.parts, _dealt(aads, sealed.counts))
-    return [PartTask(sealed.head.suite, root.secret, info, part.ciphertexts, some, part.end) for info, part, some in rows]
+    head = sealed.head
+    rows = zip(head.part_infos(), sealed.parts, _dealt(aads, sealed.counts))
+    return [PartTask(head.suite, root.secret, info, part.ciphertexts, some, part.end) for info, part, some in rows]
 
 
 def _sealed(head: Head, parts: Iterable[SealedPart]) -> Sealed:

@@ -178,8 +178,17 @@ class Building(unittest.TestCase):
         ):
             with self.assertRaises(ValueError):
                 call()
-        with self.assertRaises(TypeError):
-            batch.lane().seal(batch.context(0), "text")
+        lane, context = batch.lane(), batch.share("recv", 32, b"")
+        for why, call in (
+            ("a message is of type str", lambda: lane.seal(context, "text")),
+            ("associated data is of type str", lambda: lane.seal(context, b"", "text")),
+            ("info is of type str", lambda: batch.share("recv", 32, b"", "text")),
+            ("not bytes", lambda: batch.send(bytes(1158))),
+            ("not bytes", lambda: batch.recv(batch.peer(b""), b"", b"").batch._own(b"")),
+            ("not int", lambda: lane.seal(0, b"")),
+        ):
+            with self.assertRaisesRegex(TypeError, why):
+                call()
 
     def test_names_of_lines_that_are_not_there(self):
         batch = Batch()
