@@ -35,6 +35,7 @@ C = TypeVar("C", bound=Call[Any])
 # What one argument of a command holds on Linux.
 MOST_SCHEDULE = 131_071
 LINES_OF_PIECE = 256
+LARGE_TEXT = 16_384
 MOST_WORKERS = 16
 MULTIPLIERS = ("plain", "karatsuba", "lanes")
 
@@ -83,6 +84,9 @@ class Lines:
         self.fronts, self.texts = fronts, texts  # one front is that of each line
 
     def pieces(self) -> Iterator[bytes]:
+        if max(map(len, self.texts), default=0) > LARGE_TEXT:
+            yield from self._fields()
+            return
         one = self.fronts[0] if len(self.fronts) == 1 else None
         for at in range(0, len(self.texts), LINES_OF_PIECE):
             texts = self.texts[at : at + LINES_OF_PIECE]
@@ -91,6 +95,13 @@ class Lines:
             else:
                 pairs = zip(self.fronts[at:], texts)
                 yield b"".join([front + (hexlify(text) or b"-") + b"\n" for front, text in pairs])
+
+    def _fields(self) -> Iterator[bytes]:
+        """With no copy of the digits."""
+        for place, text in enumerate(self.texts):
+            yield self.fronts[place if len(self.fronts) > 1 else 0]
+            yield hexlify(text) or b"-"
+            yield b"\n"
 
 
 class SeededBatch:

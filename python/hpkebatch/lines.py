@@ -3,6 +3,7 @@
 from __future__ import annotations
 
 from binascii import unhexlify
+from contextlib import suppress
 from mmap import mmap
 from typing import List, Union
 
@@ -31,7 +32,8 @@ class Lines:
     def close(self) -> None:
         """Lets go of the text: no line can be read any more."""
         if isinstance(self.text, mmap):
-            self.text.close()
+            with suppress(BufferError):  # where a fault still shows a line of it
+                self.text.close()
         self.text, self._starts = b"", [0]
 
     def _look(self, at: int) -> None:
@@ -50,12 +52,13 @@ class Lines:
         """The bytes of lines that are numbered from 0 on, or the place of the first line that isn't of this form."""
         self._look(end)
         text, starts, texts = self.text, self._starts, []
+        view = memoryview(text)  # of which a line is no copy
         for number in range(end - first):
             front = form % number
             start = starts[first + number]
             middle = start + len(front)
             if text[start:middle] != front:
                 return number
-            digits = text[middle : starts[first + number + 1] - 1]
+            digits = view[middle : starts[first + number + 1] - 1]
             texts.append(b"" if digits == b"-" else unhexlify(digits))
         return texts

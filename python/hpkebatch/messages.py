@@ -225,7 +225,8 @@ def open(
     tasks = [task for (it, some), root in zip(ours, roots) for task in _opening_tasks(it, root, some)]
     _test_sizes(tasks, limits)
     opened = iter(_run_all(open_parts, tasks, executor, runner, progress, limits))
-    parts = [(place, next(opened) if is_named else None) for it, is_named in zip(lists, is_ours) for place in range(len(it.parts))]
+    places = ((place, is_named) for it, is_named in zip(lists, is_ours) for place in range(len(it.parts)))
+    parts = [(place, next(opened) if is_named else None) for place, is_named in places]
     return _texts(parts, [count for it in lists for count in it.counts], on_failure == "raise")
 
 

@@ -30,7 +30,9 @@ COST_OF_LINE = 128
 COST_OF_MESSAGE = 16 + 2 * TAG_SIZE
 
 
-def grouped(items: Iterable[T], measured: Callable[[T], Tuple[int, int]], limits: Limits, share: int = 1) -> Iterator[List[T]]:
+def grouped(
+    items: Iterable[T], measured: Callable[[T], Tuple[int, int]], limits: Limits, share: int = 1
+) -> Iterator[List[T]]:
     """The items in groups that a batch can hold, or that a share of a batch can. Of each item is measured how many
     bytes it takes, and how many calls."""
     group: List[T] = []

@@ -45,7 +45,8 @@ def _of_file(source: Source) -> Rows:
     layout = files.layout_of(head)
     due = layout.sealed_size(head)
     found = "" if source.size == due else f"; it is spoilt: {source.size:,} bytes in place of {due:,}"
-    return [("kind", "sealed file"), *_of_head(head), ("size", f"{counted(layout.size, 'byte')} in {counted(layout.parts, 'part')}{found}")]
+    size = f"{counted(layout.size, 'byte')} in {counted(layout.parts, 'part')}"
+    return [("kind", "sealed file"), *_of_head(head), ("size", size + found)]
 
 
 def _of_messages(source: Source) -> Rows:
