@@ -170,6 +170,8 @@ def _target(given: argparse.Namespace, path: str, name: str) -> str:
     if given.output is not None or path == STANDARD:
         if len(given.files) > 1:
             raise ValueError(f"-o and {STANDARD} are for one FILE alone")
+        if given.directory is not None:
+            raise ValueError("standard input has no name for -d: name the file to write by -o")
         return STANDARD if given.output is None else str(given.output)
     if given.directory is not None:
         os.makedirs(given.directory, exist_ok=True)

@@ -108,6 +108,9 @@ class ThereAndBack(WithKeys):
             self.assertEqual(self.open("-d", "there", *(f"{name}.hpke" for name in contents)), (0, "", ""))
         for name, data in contents.items():
             self.assertEqual(read(f"there/{name}"), data)
+            chunks = -(-len(data) // 1000)
+            parts = max(1, -(-chunks // 4))
+            self.assertEqual(len(read(f"{name}.hpke")), 1112 + len(data) + 16 * (chunks + parts))
         self.assertEqual(sorted(os.listdir("there")), sorted(contents))
 
     def test_a_file_of_several_runs(self):
@@ -157,6 +160,7 @@ class ThereAndBack(WithKeys):
             (("-o", "x", "new", "new"), "-o and - are for one FILE alone"),
             (("-", "new"), "-o and - are for one FILE alone"),
             (("-d", "x", "-o", "x", "new"), "not allowed with argument"),
+            (("-d", "x", "-"), "standard input has no name for -d: name the file to write by -o"),
             (("none.hpke",), "none.hpke: No such file or directory"),
             (("keys",), "keys: the name"),
             (("-o", "x", "keys"), "keys: Is a directory"),

@@ -47,6 +47,13 @@ class Objects(InAFolder):
         self.assertIs(copy.copy(pair.secret), pair.secret)
         self.assertEqual(copy.deepcopy(pair).secret, pair.secret)
 
+    def test_a_pair_is_of_two_halves_that_belong_together(self):
+        one, other = PAIRS.values()
+        for public, secret in ((one.public, other.secret), (other.public, one.secret), (PublicKey(changed(one.public.data, 0)), one.secret)):
+            with self.assertRaises(ValueError):
+                KeyPair(public, secret)
+        self.assertEqual(KeyPair(one.public, one.secret), one)
+
     def test_the_fingerprint_is_that_of_the_public_key(self):
         pair = PAIRS["sntrup857"]
         digits = hashlib.sha256(bytes(pair.public)).hexdigest()[:32]
