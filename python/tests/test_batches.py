@@ -3,6 +3,7 @@
 import copy
 import os
 import pickle
+import signal
 import threading
 import unittest
 from concurrent.futures import ProcessPoolExecutor
@@ -278,6 +279,7 @@ class Once(unittest.TestCase):
         """Two threads rehearse, and one of them runs out of memory: the batch was run all the same."""
         batch = self.sealing()
         begun, failed = threading.Event(), threading.Event()
+        self.addCleanup(failed.set)
 
         def slow(words, pieces):
             begun.set()
@@ -339,6 +341,7 @@ class Once(unittest.TestCase):
         with _Here.lock:
             child = os.fork()
             if child == 0:
+                signal.alarm(20)
                 batch = self.sealing()
                 os._exit(len(batch.rehearse(runner=command).journals))
             self.assertEqual(os.waitstatus_to_exitcode(os.waitpid(child, 0)[1]), 1)
