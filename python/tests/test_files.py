@@ -209,6 +209,10 @@ class Streams(WithKeys):
             file.seek(100)
             sealed = self.small(*SEAL, "-", stdin=file).stdout
         self.assertEqual((read("back"), self.small(*OPEN, "-", input=sealed).stdout), (data, data[100:]))
+        write("behind", b"x" * 100 + sealed)
+        with open("behind", "rb") as file:
+            file.seek(100)
+            self.assertEqual(self.small(*OPEN, "-", stdin=file).stdout, data[100:])
 
     def test_nothing_is_given_out_before_all_was_checked(self):
         """Not of a text that memory holds, and not of one that is gone through twice."""
