@@ -15,6 +15,7 @@ from .asked import (
     AddedName,
     AnyAsked,
     AnyContext,
+    Asked,
     Call,
     Context,
     ExportCall,
@@ -34,12 +35,15 @@ C = TypeVar("C", bound=Call[Any])
 # What one argument of a command holds on Linux.
 MOST_SCHEDULE = 131_071
 LINES_OF_PIECE = 256
+LARGE_TEXT = 16_384
 MOST_WORKERS = 16
 MULTIPLIERS = ("plain", "karatsuba", "lanes")
 
 
 def octets(data: bytes, most: int, what: str) -> bytes:
     """A field of bytes."""
+    if not isinstance(data, (bytes, bytearray, memoryview)):
+        raise TypeError(f"{what} is of type {type(data).__name__}, and bytes are wanted")
     digits = hexlify(data)
     if len(digits) > 2 * most:
         raise OverLimit(f"{what} has {len(digits) // 2:,} bytes, and at most {most:,} are allowed")
@@ -80,6 +84,9 @@ class Lines:
         self.fronts, self.texts = fronts, texts  # one front is that of each line
 
     def pieces(self) -> Iterator[bytes]:
+        if max(map(len, self.texts), default=0) > LARGE_TEXT:
+            yield from self._fields()
+            return
         one = self.fronts[0] if len(self.fronts) == 1 else None
         for at in range(0, len(self.texts), LINES_OF_PIECE):
             texts = self.texts[at : at + LINES_OF_PIECE]
@@ -88,6 +95,13 @@ class Lines:
             else:
                 pairs = zip(self.fronts[at:], texts)
                 yield b"".join([front + (hexlify(text) or b"-") + b"\n" for front, text in pairs])
+
+    def _fields(self) -> Iterator[bytes]:
+        """With no copy of the digits."""
+        for place, text in enumerate(self.texts):
+            yield self.fronts[place if len(self.fronts) > 1 else 0]
+            yield hexlify(text) or b"-"
+            yield b"\n"
 
 
 class SeededBatch:
@@ -147,6 +161,8 @@ class SeededBatch:
         return 2 if self._seed is None else 3
 
     def _own(self, asked: Union[AnyAsked, AddedName]) -> None:
+        if not isinstance(asked, (Asked, AddedName)):
+            raise TypeError(f"what a line of this batch made is wanted, such as a key or a context, not {type(asked).__name__}")
         if asked.batch is not self:
             raise ValueError("this key, context or call is of another batch")
 

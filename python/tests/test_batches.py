@@ -3,6 +3,7 @@
 import copy
 import os
 import pickle
+import signal
 import threading
 import unittest
 from concurrent.futures import ProcessPoolExecutor
@@ -178,8 +179,17 @@ class Building(unittest.TestCase):
         ):
             with self.assertRaises(ValueError):
                 call()
-        with self.assertRaises(TypeError):
-            batch.lane().seal(batch.context(0), "text")
+        lane, context = batch.lane(), batch.share("recv", 32, b"")
+        for why, call in (
+            ("a message is of type str", lambda: lane.seal(context, "text")),
+            ("associated data is of type str", lambda: lane.seal(context, b"", "text")),
+            ("info is of type str", lambda: batch.share("recv", 32, b"", "text")),
+            ("not bytes", lambda: batch.send(bytes(1158))),
+            ("not bytes", lambda: batch.recv(batch.peer(b""), b"", b"").batch._own(b"")),
+            ("not int", lambda: lane.seal(0, b"")),
+        ):
+            with self.assertRaisesRegex(TypeError, why):
+                call()
 
     def test_names_of_lines_that_are_not_there(self):
         batch = Batch()
@@ -269,6 +279,7 @@ class Once(unittest.TestCase):
         """Two threads rehearse, and one of them runs out of memory: the batch was run all the same."""
         batch = self.sealing()
         begun, failed = threading.Event(), threading.Event()
+        self.addCleanup(failed.set)
 
         def slow(words, pieces):
             begun.set()
@@ -330,6 +341,7 @@ class Once(unittest.TestCase):
         with _Here.lock:
             child = os.fork()
             if child == 0:
+                signal.alarm(20)
                 batch = self.sealing()
                 os._exit(len(batch.rehearse(runner=command).journals))
             self.assertEqual(os.waitstatus_to_exitcode(os.waitpid(child, 0)[1]), 1)
