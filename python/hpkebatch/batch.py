@@ -8,7 +8,7 @@ from __future__ import annotations
 
 import secrets
 from binascii import hexlify
-from typing import Any, Dict, Iterable, Iterator, List, NoReturn, Optional, Sequence, Tuple, TypeVar, Union
+from typing import Any, Dict, Iterable, Iterator, List, NoReturn, Optional, Sequence, Set, Tuple, TypeVar, Union
 
 from .asked import (
     Added,
@@ -37,6 +37,7 @@ MOST_SCHEDULE = 131_071
 LINES_OF_PIECE = 256
 LARGE_TEXT = 16_384
 MOST_WORKERS = 16
+KINDS = {"run": "run", "rehearse": "run", "live": "live"}  # of replies that are compared
 MULTIPLIERS = ("plain", "karatsuba", "lanes")
 
 
@@ -195,12 +196,15 @@ class Lane:
         self.calls: List[Call[Any]] = []
         self.has_openings = False  # of several messages: these have answers of several lines
         self._lines: List[Union[Line, Lines]] = []
+        self._sealed: Set[AnyContext] = set()  # the contexts that its calls seal on
+        self._changed: Set[Union[Added, AddedName]] = set()  # and those that they add or retire
 
     def seal(self, context: AnyContext, plaintext: bytes, aad: bytes = b"") -> SealCall:
         """Seals a message under a sender's context (RFC 9180, 5.2)."""
         limits = self.batch.limits
         text = octets(plaintext, limits.message, "a message")
         self._put(b"seal", context, b" %b %b" % (octets(aad, limits.field, "associated data"), text))
+        self._sealed.add(context)
         return self._keep(SealCall(self, len(self.calls)))
 
     def unseal(self, context: AnyContext, ciphertext: bytes, aad: bytes = b"") -> UnsealCall:
@@ -214,6 +218,7 @@ class Lane:
         """A `seal` for each message, made faster than one by one."""
         first = len(self.calls)
         self._put_each(b"seal", context, plaintexts, aads, self.batch.limits.message)
+        self._sealed.add(context)
         calls = [SealCall(self, place) for place in range(first, first + len(plaintexts))]
         self.calls += calls
         return calls
@@ -262,12 +267,14 @@ class Lane:
         self.batch._add_context(is_added=True)
         self._put(b"add", None, rest)
         added = self._keep(Added(self, len(self.calls)))
+        self._changed.add(added)
         self.batch._places = None
         return added
 
     def retire(self, context: Union[Added, AddedName]) -> RetireCall:
         """Retires an added context: from here on calls don't find it."""
         self._put(b"retire", context, b"")
+        self._changed.add(context)
         return self._keep(RetireCall(self, len(self.calls)))
 
     def _pair(self, aad: bytes, ciphertext: bytes) -> bytes:
@@ -496,6 +503,19 @@ class Batch(SeededBatch):
             place -= 1 + len(lane.calls)
         return None
 
+    @property
+    def may_run_again(self) -> bool:
+        """Whether every run answers each seal alike, so that a second one gives no number to another message.
+
+        So it is where no two lanes seal on one context, and no lane seals on a context that another adds or retires.
+        """
+        sealing: Dict[bytes, Lane] = {}
+        for lane in self.lanes:
+            for context in lane._sealed:
+                if sealing.setdefault(context.name, lane) is not lane:
+                    return False
+        return all(sealing.get(it.name, lane) is lane for lane in self.lanes for it in lane._changed)
+
     # ---- running it
 
     def run(
@@ -531,7 +551,11 @@ class Batch(SeededBatch):
 
     def _may_follow(self, first: str, how: str) -> bool:
         """Whether this run may come after that first one: then no number seals another message than in the first."""
-        return not self._seals or self._for_tests or (how == first and how.startswith("rehearse "))
+        if not self._seals or self._for_tests or (how == first and how.startswith("rehearse ")):
+            return True
+        # What is proved is said of two replies of `run` or `rehearse`, and of two of `live`. Of a forked process the first
+        # run isn't known: lines may have been added since.
+        return self.may_run_again and KINDS.get(first.split(" ")[0]) == KINDS[how.split(" ")[0]]
 
 
 def options(workers: Optional[int], mult: Optional[str]) -> List[str]:
