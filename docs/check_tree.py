@@ -85,6 +85,7 @@ class Tree:
         self.used = {name for _, _, uses in heads for name in uses.split()}
         for crate in self.crates:
             self.read_crate(crate)
+        self.of_kit = set()  # paths that no file here has, where the kit can't be looked at
         self.anywhere = set(self.crates).union(self.used, *self.names.values())
         self.paths = []
         for at, folders, files in os.walk("."):
@@ -223,7 +224,11 @@ class Tree:
             return any(fnmatch.fnmatch(it, f"*{ending}") for it in self.paths)
         if any(it.endswith((ending, f"{ending}.batch")) for it in self.paths):
             return True
-        kit = os.path.realpath(shutil.which("rt") or "/").rsplit("/", 2)[0]
+        if not shutil.which("rt"):
+            # (it may be the kit's)
+            self.of_kit.add(path)
+            return True
+        kit = os.path.realpath(shutil.which("rt")).rsplit("/", 2)[0]
         return any(glob.glob(f"{kit}{inside}{ending}") for inside in ("", "/rattle", "/rattle/*/specs"))
 
     def stretch_of(self, text, crate, file):

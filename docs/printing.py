@@ -2,8 +2,12 @@
 import glob
 import os
 import re
+import sys
 
 from check_tree import read, words_of_definitions
+
+sys.path.insert(0, os.path.join(os.path.dirname(os.path.abspath(__file__)), "../tools"))
+from edit_files import Edit  # noqa: E402
 
 PRINTED_PAGES = ["docs/DEFINITIONS.md", "docs/PROOFS.md"]
 PART = re.compile(r"^<!-- printed: (.*?) -->\n(.*?)^<!-- end -->$", re.M | re.S)
@@ -160,43 +164,47 @@ class Printer:
         text = "| Promise | Mutant (crate) | Changes | Refused by |\n|---|---|---|---|\n"
         left, last = set(self.tree.edits), None
         for promise, number, line in listed("docs/mutants.txt"):
-            head, _, clause = line.partition(" | ")
+            head, _, more = line.partition(" | ")
             crate, *names = head.split()
             for name in names:
                 if (crate, name) not in left:
                     self.fault("docs/mutants.txt", number, f"no must-fail edit `{name}` in {crate}, or a second time")
             left -= {(crate, name) for name in names}
-            there = [it for it in names if (crate, it) in self.tree.edits]
-            shown = ", ".join(f"[`{it}`](../crates/{crate}/must-fail/{it}.edit)" for it in there)
-            changed = ", ".join(dict.fromkeys(it for name in there for it in self.changed_by(crate, name)))
-            text += f"| {promise if promise != last else ''} | {shown} ({crate}) | {changed} | {clause} |\n"
+            edits = [Edit(f"crates/{crate}/must-fail/{it}.edit") for it in names if (crate, it) in self.tree.edits]
+            shown = ", ".join(f"[`{it.name}`](../crates/{crate}/must-fail/{it.name}.edit)" for it in edits)
+            changed = ", ".join(dict.fromkeys(it for edit in edits for it in self.changed_by(crate, edit)))
+            refused = "; ".join(dict.fromkeys(self.refused_by(crate, it) for it in edits)) + more
+            text += f"| {promise if promise != last else ''} | {shown} ({crate}) | {changed} | {refused} |\n"
             last = promise
         for crate, name in sorted(left):
             self.fault("docs/mutants.txt", 1, f"no line has the edit `{name}` of {crate}")
         return text.replace("|  |", "| |")
 
-    def changed_by(self, crate, name):
+    def changed_by(self, crate, edit):
         """The functions that an edit changes, each with its file."""
-        file, path, found = "", None, []
-        for line in read(f"crates/{crate}/must-fail/{name}.edit").split("\n"):
-            if line.startswith("file: src/"):
-                file = line[len("file: src/"):]
-                path = f"crates/{crate}/src/{file}"
-            elif line.startswith("old: "):
-                before, is_there, _ = text_of(path).partition(line[len("old: "):])
-                if not is_there:
-                    self.fault(f"crates/{crate}/must-fail/{name}.edit", 1, f"{file} has no such text")
-                function = self.function_open_in(before)
-                found.append(f"`{function}` (`{file}`)" if function else f"`{file}`")
-        return found
+        for file, old, _ in edit.parts:
+            if old not in text_of(f"crates/{crate}/{file}"):
+                self.fault(f"crates/{crate}/must-fail/{edit.name}.edit", 1, f"{file} has no such text")
+        found = [(function, file.removeprefix("src/")) for function, file in edit.functions_in(f"crates/{crate}")]
+        return [f"`{function}` (`{file}`)" if function else f"`{file}`" for function, file in found]
+
+    def refused_by(self, crate, edit):
+        """The function and the clause that an edit names, where the source has a function of that name; a clause
+        without a name is the function's only one."""
+        *owners, name = edit.function.split("::")
+        method = f"{owners[-1]}::{name}" if owners and owners[-1][0].isupper() else name
+        # (what a trait asks for has a name of its own there, which no source has)
+        shown = next((it for it in (method, name) if self.tree.has_name(it, crate)), None)
+        clause = "" if edit.clause == "ensures" else f": `{edit.clause}`"
+        return f"`{shown}`{clause}{self.goal_of(edit)}" if shown else ""
 
     @staticmethod
-    def function_open_in(text):
-        """The function whose body a text ends in; none where it ends between functions."""
-        heads = list(re.finditer(r'^( *)(?:pub(?:\([^)]*\))? )?(?:const )?(?:extern "C" )?fn (\w+)', text, re.M))
-        if heads and not re.search(rf"^{heads[-1][1]}}}", text[heads[-1].end():], re.M):
-            return heads[-1][2]
-        return None
+    def goal_of(edit):
+        """Where the prover refuses an edit, if that isn't the clause itself."""
+        called, is_call, _ = edit.goal.partition("-requires")
+        if is_call:
+            return f", at what `{called}` requires"
+        return ", at its loop" if edit.goal and not edit.goal.startswith("returns") else ""
 
     def print_text(self, path, first, last=None):
         """The text of a file from one definition to another, with what stands above the first; of code, a clause."""

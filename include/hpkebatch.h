@@ -13,7 +13,8 @@
  *   different threads.
  * - malloc, realloc and free are those of one allocator. No call is made from a signal handler, or in the forked child
  *   of a process with threads.
- * - The processor has x86-64-v2 (SSE 4.2), and the thread has 128 KiB of stack (tested).
+ * - The processor has x86-64-v2 (with SSE4.2), and a call finds 128 KiB of its thread's stack free (tested by programs that
+ *   have 96 in all).
  *
  * Sizes are in bytes. Nothing is wiped: secrets stay in the caller's memory, and in memory that was given back.
  */
@@ -234,7 +235,7 @@ uint32_t hpkebatch_take(const hpkebatch_asked *asked, const uint8_t *response, s
 
 /* Reads a text. HPKEBATCH_DONE: it is a batch of `run`, and nothing is written. HPKEBATCH_BAD_BATCH: it isn't; out gets
  * the line `bad LINE REASON` that `run` writes for it, at most 64 bytes, and out_len its size. The bytes of out behind
- * it stay as they were. */
+ * it stay as they were. HPKEBATCH_NO_ROOM: out has fewer bytes than that line, and nothing is written. */
 uint32_t hpkebatch_read(const uint8_t *input, size_t input_len, uint8_t *out, size_t out_room, size_t *out_len);
 
 /* Reads a batch and a reply. HPKEBATCH_DONE: `run` may give this reply for the batch. HPKEBATCH_BROKEN: it may not.
@@ -248,7 +249,9 @@ uint32_t hpkebatch_check(const uint8_t *batch, size_t batch_len, const uint8_t *
  * HPKEBATCH_DONE: out has the text that the command writes, and written its size. HPKEBATCH_BAD_BATCH: out has the line
  * `bad LINE REASON`. HPKEBATCH_BROKEN: `check` told what is wrong with the reply. HPKEBATCH_NO_ROOM: out has fewer bytes
  * than the text, and written gets its size; so a call with no room asks for that. HPKEBATCH_WRONG_USAGE: the words are
- * none of the command's. The bytes of out behind a text stay as they were, and so do all of them where there is none. */
+ * none of the command's. HPKEBATCH_NO_MEMORY is the only other status. The bytes of out behind a text stay as they
+ * were, and so do all of them where there is none. A second call of `run` or `live` may have another text, of another
+ * size: look at its status too. */
 uint32_t hpkebatch_serve(const uint8_t *words, size_t words_len, const uint8_t *input, size_t input_len, uint8_t *out,
                          size_t out_room, size_t *written);
 

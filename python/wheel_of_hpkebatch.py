@@ -1,4 +1,8 @@
-"""Makes the wheel that `pip install ./python` wants (PEP 517, PEP 427), with Python's own library alone."""
+"""Makes wheels (PEP 427) with Python's own library alone.
+
+`pip install ./python` calls `build_wheel` (PEP 517): that wheel has the modules. `write_wheel` also packs files beside
+them, such as the program: tools/make_package calls it.
+"""
 
 import base64
 import glob
@@ -8,6 +12,8 @@ import re
 import zipfile
 
 HERE = os.path.dirname(os.path.abspath(__file__))
+PURE = "py3-none-any"
+COMMANDS = "[console_scripts]\nhpkebatch = hpkebatch.__main__:main\n"
 
 
 def read(path):
@@ -20,31 +26,48 @@ def project(name):
     return re.search(rf'^{name} = "(.*)"$', read("pyproject.toml").decode(), re.M)[1]
 
 
-def files():
-    """Names and bytes."""
+def modules():
+    """Names, bytes and modes."""
     paths = [*sorted(glob.glob(os.path.join(HERE, "hpkebatch/*.py"))), os.path.join(HERE, "hpkebatch/py.typed")]
-    yield from ((f"hpkebatch/{os.path.basename(path)}", read(path)) for path in paths)
+    return [(f"hpkebatch/{os.path.basename(path)}", read(path), 0o644) for path in paths]
+
+
+def notes(tag):
+    """What a wheel says of itself."""
     texts = {"Metadata-Version": "2.1", "Name": "hpkebatch", "Version": project("version")}
     texts.update({"Summary": project("description"), "Requires-Python": project("requires-python")})
-    yield f"{folder()}/METADATA", "".join(f"{name}: {text}\n" for name, text in texts.items()).encode()
-    yield f"{folder()}/WHEEL", b"Wheel-Version: 1.0\nGenerator: hpkebatch\nRoot-Is-Purelib: true\nTag: py3-none-any\n"
+    kind = "true" if tag == PURE else "false"
+    wheel = f"Wheel-Version: 1.0\nGenerator: hpkebatch\nRoot-Is-Purelib: {kind}\nTag: {tag}\n"
+    metadata = "".join(f"{name}: {text}\n" for name, text in texts.items())
+    found = {"METADATA": metadata, "WHEEL": wheel, "entry_points.txt": COMMANDS}
+    return [(f"{folder()}/{name}", text.encode(), 0o644) for name, text in found.items()]
 
 
 def folder():
     return f"hpkebatch-{project('version')}.dist-info"
 
 
-def build_wheel(wheel_directory, config_settings=None, metadata_directory=None):
-    name = f"hpkebatch-{project('version')}-py3-none-any.whl"
-    record = []
-    with zipfile.ZipFile(os.path.join(wheel_directory, name), "w", zipfile.ZIP_DEFLATED) as wheel:
-        for path, data in files():
+def write_wheel(directory, tag, more=()):
+    """Writes the wheel of this tag, with `more` files beside the modules, and gives its name."""
+    name, record = f"hpkebatch-{project('version')}-{tag}.whl", []
+    with zipfile.ZipFile(os.path.join(directory, name), "w", zipfile.ZIP_DEFLATED) as wheel:
+
+        def put(path, data, mode):
+            entry = zipfile.ZipInfo(path)
+            entry.external_attr = (0o100000 | mode) << 16
+            entry.compress_type = zipfile.ZIP_DEFLATED
+            wheel.writestr(entry, data)
+
+        for path, data, mode in [*modules(), *more, *notes(tag)]:
             digest = base64.urlsafe_b64encode(hashlib.sha256(data).digest()).rstrip(b"=").decode()
             record.append(f"{path},sha256={digest},{len(data)}\n")
-            wheel.writestr(zipfile.ZipInfo(path), data)
-        record.append(f"{folder()}/RECORD,,\n")
-        wheel.writestr(zipfile.ZipInfo(f"{folder()}/RECORD"), "".join(record))
+            put(path, data, mode)
+        put(f"{folder()}/RECORD", "".join([*record, f"{folder()}/RECORD,,\n"]).encode(), 0o644)
     return name
+
+
+def build_wheel(wheel_directory, config_settings=None, metadata_directory=None):
+    return write_wheel(wheel_directory, PURE)
 
 
 def build_sdist(sdist_directory, config_settings=None):

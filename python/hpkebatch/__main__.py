@@ -170,6 +170,8 @@ def _target(given: argparse.Namespace, path: str, name: str) -> str:
     if given.output is not None or path == STANDARD:
         if len(given.files) > 1:
             raise ValueError(f"-o and {STANDARD} are for one FILE alone")
+        if given.directory is not None:
+            raise ValueError("standard input has no name for -d: name the file to write by -o")
         return STANDARD if given.output is None else str(given.output)
     if given.directory is not None:
         os.makedirs(given.directory, exist_ok=True)
@@ -290,9 +292,8 @@ def parser() -> argparse.ArgumentParser:
     words = made.add_subparsers(title="words", metavar="WORD", required=True, parser_class=Parser, prog="hpkebatch")
 
     def word(name: str, do: Callable[[argparse.Namespace], int], says: str, example: str) -> argparse.ArgumentParser:
-        it: argparse.ArgumentParser = words.add_parser(
-            name, help=says, description=f"{says[0].upper()}{says[1:]}.", epilog=example, formatter_class=form, allow_abbrev=False
-        )
+        whole = f"{says[0].upper()}{says[1:]}."
+        it = words.add_parser(name, help=says, description=whole, epilog=example, formatter_class=form, allow_abbrev=False)
         it.set_defaults(do=do, words=words.choices)
         return it
 
@@ -308,9 +309,8 @@ Word = Callable[[str, Callable[[argparse.Namespace], int], str, str], argparse.A
 
 
 def _add_key_words(word: Word) -> None:
-    it = word(
-        "keygen", keygen, "makes NAME.key, for yourself alone, and NAME.pub, for those who seal files for you", "  hpkebatch keygen bob"
-    )
+    says = "makes NAME.key, for yourself alone, and NAME.pub, for those who seal files for you"
+    it = word("keygen", keygen, says, "  hpkebatch keygen bob")
     it.add_argument("name", metavar="NAME")
     it.add_argument("--kem", choices=[kem.name for kem in KEMS], default=KEMS[0].name)
     it = word(
@@ -370,9 +370,8 @@ def _add_reply_words(word: Word) -> None:
     it.add_argument("--live", action="store_true", help="they are of live")
     it.add_argument("batch", metavar="BATCH")
     it.add_argument("reply", metavar="REPLY")
-    it = word(
-        "history", history, "draws the journals of REPLY as a picture, in SVG, on standard output", "  hpkebatch history reply > reply.svg"
-    )
+    says = "draws the journals of REPLY as a picture, in SVG, on standard output"
+    it = word("history", history, says, "  hpkebatch history reply > reply.svg")
     it.add_argument("reply", metavar="REPLY")
     it.add_argument("--first", type=int, default=0, help="the first step to draw")
     it.add_argument("--count", type=int, default=200, help="how many steps to draw at the most")

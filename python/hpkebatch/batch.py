@@ -8,13 +8,14 @@ from __future__ import annotations
 
 import secrets
 from binascii import hexlify
-from typing import Any, Dict, Iterable, Iterator, List, NoReturn, Optional, Sequence, Tuple, TypeVar, Union
+from typing import Any, Dict, Iterable, Iterator, List, NoReturn, Optional, Sequence, Set, Tuple, TypeVar, Union
 
 from .asked import (
     Added,
     AddedName,
     AnyAsked,
     AnyContext,
+    Asked,
     Call,
     Context,
     ExportCall,
@@ -34,12 +35,16 @@ C = TypeVar("C", bound=Call[Any])
 # What one argument of a command holds on Linux.
 MOST_SCHEDULE = 131_071
 LINES_OF_PIECE = 256
+LARGE_TEXT = 16_384
 MOST_WORKERS = 16
+KINDS = {"run": "run", "rehearse": "run", "live": "live"}  # of replies that are compared
 MULTIPLIERS = ("plain", "karatsuba", "lanes")
 
 
 def octets(data: bytes, most: int, what: str) -> bytes:
     """A field of bytes."""
+    if not isinstance(data, (bytes, bytearray, memoryview)):
+        raise TypeError(f"{what} is of type {type(data).__name__}, and bytes are wanted")
     digits = hexlify(data)
     if len(digits) > 2 * most:
         raise OverLimit(f"{what} has {len(digits) // 2:,} bytes, and at most {most:,} are allowed")
@@ -80,6 +85,9 @@ class Lines:
         self.fronts, self.texts = fronts, texts  # one front is that of each line
 
     def pieces(self) -> Iterator[bytes]:
+        if max(map(len, self.texts), default=0) > LARGE_TEXT:
+            yield from self._fields()
+            return
         one = self.fronts[0] if len(self.fronts) == 1 else None
         for at in range(0, len(self.texts), LINES_OF_PIECE):
             texts = self.texts[at : at + LINES_OF_PIECE]
@@ -88,6 +96,13 @@ class Lines:
             else:
                 pairs = zip(self.fronts[at:], texts)
                 yield b"".join([front + (hexlify(text) or b"-") + b"\n" for front, text in pairs])
+
+    def _fields(self) -> Iterator[bytes]:
+        """With no copy of the digits."""
+        for place, text in enumerate(self.texts):
+            yield self.fronts[place if len(self.fronts) > 1 else 0]
+            yield hexlify(text) or b"-"
+            yield b"\n"
 
 
 class SeededBatch:
@@ -147,6 +162,8 @@ class SeededBatch:
         return 2 if self._seed is None else 3
 
     def _own(self, asked: Union[AnyAsked, AddedName]) -> None:
+        if not isinstance(asked, (Asked, AddedName)):
+            raise TypeError(f"what a line of this batch made is wanted, such as a key or a context, not {type(asked).__name__}")
         if asked.batch is not self:
             raise ValueError("this key, context or call is of another batch")
 
@@ -179,12 +196,15 @@ class Lane:
         self.calls: List[Call[Any]] = []
         self.has_openings = False  # of several messages: these have answers of several lines
         self._lines: List[Union[Line, Lines]] = []
+        self._sealed: Set[AnyContext] = set()  # the contexts that its calls seal on
+        self._changed: Set[Union[Added, AddedName]] = set()  # and those that they add or retire
 
     def seal(self, context: AnyContext, plaintext: bytes, aad: bytes = b"") -> SealCall:
         """Seals a message under a sender's context (RFC 9180, 5.2)."""
         limits = self.batch.limits
         text = octets(plaintext, limits.message, "a message")
         self._put(b"seal", context, b" %b %b" % (octets(aad, limits.field, "associated data"), text))
+        self._sealed.add(context)
         return self._keep(SealCall(self, len(self.calls)))
 
     def unseal(self, context: AnyContext, ciphertext: bytes, aad: bytes = b"") -> UnsealCall:
@@ -198,6 +218,7 @@ class Lane:
         """A `seal` for each message, made faster than one by one."""
         first = len(self.calls)
         self._put_each(b"seal", context, plaintexts, aads, self.batch.limits.message)
+        self._sealed.add(context)
         calls = [SealCall(self, place) for place in range(first, first + len(plaintexts))]
         self.calls += calls
         return calls
@@ -246,12 +267,14 @@ class Lane:
         self.batch._add_context(is_added=True)
         self._put(b"add", None, rest)
         added = self._keep(Added(self, len(self.calls)))
+        self._changed.add(added)
         self.batch._places = None
         return added
 
     def retire(self, context: Union[Added, AddedName]) -> RetireCall:
         """Retires an added context: from here on calls don't find it."""
         self._put(b"retire", context, b"")
+        self._changed.add(context)
         return self._keep(RetireCall(self, len(self.calls)))
 
     def _pair(self, aad: bytes, ciphertext: bytes) -> bytes:
@@ -480,6 +503,19 @@ class Batch(SeededBatch):
             place -= 1 + len(lane.calls)
         return None
 
+    @property
+    def may_run_again(self) -> bool:
+        """Whether every run answers each seal alike, so that a second one gives no number to another message.
+
+        So it is where no two lanes seal on one context, and no lane seals on a context that another adds or retires.
+        """
+        sealing: Dict[bytes, Lane] = {}
+        for lane in self.lanes:
+            for context in lane._sealed:
+                if sealing.setdefault(context.name, lane) is not lane:
+                    return False
+        return all(sealing.get(it.name, lane) is lane for lane in self.lanes for it in lane._changed)
+
     # ---- running it
 
     def run(
@@ -515,7 +551,11 @@ class Batch(SeededBatch):
 
     def _may_follow(self, first: str, how: str) -> bool:
         """Whether this run may come after that first one: then no number seals another message than in the first."""
-        return not self._seals or self._for_tests or (how == first and how.startswith("rehearse "))
+        if not self._seals or self._for_tests or (how == first and how.startswith("rehearse ")):
+            return True
+        # What is proved is said of two replies of `run` or `rehearse`, and of two of `live`. Of a forked process the first
+        # run isn't known: lines may have been added since.
+        return self.may_run_again and KINDS.get(first.split(" ")[0]) == KINDS[how.split(" ")[0]]
 
 
 def options(workers: Optional[int], mult: Optional[str]) -> List[str]:

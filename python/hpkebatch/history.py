@@ -6,8 +6,8 @@ The reply is read without its batch: its journals say how many items each call h
 from __future__ import annotations
 
 from dataclasses import dataclass
+from html import escape as escape_html
 from typing import Dict, Iterator, List, Tuple
-from xml.sax.saxutils import escape
 
 from .errors import ReplyError
 from .lines import Lines
@@ -41,6 +41,10 @@ class History:
     contexts: Dict[str, str]  # how each context stands in its line
     steps: List[Step]  # in the order of their columns
     others: int  # calls that stand in no journal
+
+
+def escape(text: str) -> str:
+    return escape_html(text, quote=False)
 
 
 # ---- reading

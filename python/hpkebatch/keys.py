@@ -105,6 +105,10 @@ class KeyPair:
     public: PublicKey
     secret: SecretKey
 
+    def __post_init__(self) -> None:
+        if secret_key(self.secret, "secret").public != public_key(self.public, "public"):
+            raise ValueError("the public and the secret key belong to two pairs")
+
     def __repr__(self) -> str:
         return f"<KeyPair of {self.public.kem.name}: {fingerprint(self.public)}>"
 

@@ -3,6 +3,8 @@
 from __future__ import annotations
 
 from binascii import unhexlify
+from contextlib import suppress
+from mmap import mmap
 from typing import List, Union
 
 from .command import Text
@@ -27,6 +29,13 @@ class Lines:
         starts = self._starts
         return self.text[starts[at] : starts[at + 1] - 1] if 0 <= at < len(starts) - 1 else b""
 
+    def close(self) -> None:
+        """Lets go of the text: no line can be read any more."""
+        if isinstance(self.text, mmap):
+            with suppress(BufferError):  # where a fault still shows a line of it
+                self.text.close()
+        self.text, self._starts = b"", [0]
+
     def _look(self, at: int) -> None:
         """Finds the lines up to this one, where there are so many."""
         starts, find = self._starts, self.text.find
@@ -43,12 +52,13 @@ class Lines:
         """The bytes of lines that are numbered from 0 on, or the place of the first line that isn't of this form."""
         self._look(end)
         text, starts, texts = self.text, self._starts, []
+        view = memoryview(text)  # of which a line is no copy
         for number in range(end - first):
             front = form % number
             start = starts[first + number]
             middle = start + len(front)
             if text[start:middle] != front:
                 return number
-            digits = text[middle : starts[first + number + 1] - 1]
+            digits = view[middle : starts[first + number + 1] - 1]
             texts.append(b"" if digits == b"-" else unhexlify(digits))
         return texts

@@ -6,10 +6,10 @@ Each call draws its own seeds, so no key and nonce is used for two messages, als
 from __future__ import annotations
 
 import secrets
-from concurrent.futures import Executor
 from dataclasses import dataclass
 from itertools import accumulate, islice
 from typing import (
+    TYPE_CHECKING,
     Any,
     Callable,
     Generic,
@@ -48,6 +48,9 @@ from .parts import (
 )
 from .sealed import MESSAGES_MAGIC, Head, Part, Sealed, Suite, counts_of, recipient_of
 from .suites import ID_SIZE, LIMITS, SNTRUP761, TAG_SIZE, Aead, Kdf, Kem, Limits, Psk
+
+if TYPE_CHECKING:
+    from concurrent.futures import Executor
 
 AnyPublic = Union[PublicKey, bytes]
 AnySecret = Union[SecretKey, bytes]
@@ -222,7 +225,8 @@ def open(
     tasks = [task for (it, some), root in zip(ours, roots) for task in _opening_tasks(it, root, some)]
     _test_sizes(tasks, limits)
     opened = iter(_run_all(open_parts, tasks, executor, runner, progress, limits))
-    parts = [(place, next(opened) if is_named else None) for it, is_named in zip(lists, is_ours) for place in range(len(it.parts))]
+    places = ((place, is_named) for it, is_named in zip(lists, is_ours) for place in range(len(it.parts)))
+    parts = [(place, next(opened) if is_named else None) for place, is_named in places]
     return _texts(parts, [count for it in lists for count in it.counts], on_failure == "raise")
 
 
@@ -302,8 +306,9 @@ def _sealing_tasks(head: Head, root: Root, pieces: Sequence[Piece]) -> List[Part
 
 
 def _opening_tasks(sealed: Sealed, root: Root, aads: Optional[Sequence[bytes]]) -> List[PartTask]:
-    rows = zip(sealed.head.part_infos(), sealed.parts, _dealt(aads, sealed.counts))
-    return [PartTask(sealed.head.suite, root.secret, info, part.ciphertexts, some, part.end) for info, part, some in rows]
+    head = sealed.head
+    rows = zip(head.part_infos(), sealed.parts, _dealt(aads, sealed.counts))
+    return [PartTask(head.suite, root.secret, info, part.ciphertexts, some, part.end) for info, part, some in rows]
 
 
 def _sealed(head: Head, parts: Iterable[SealedPart]) -> Sealed:

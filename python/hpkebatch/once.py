@@ -54,6 +54,11 @@ class Runs:
         if self.closed_by is not None:
             raise AlreadyRun(f"this batch {self._told()}, and nothing can be added to it: make another Batch")
 
+    def _danger(self) -> str:
+        if self.closed_by == FORKED:
+            return ", which may run it too"
+        return ", and its lanes share a context that one of them seals on. A second run may answer them in another order"
+
     def _told(self) -> str:
         closed_by = self.closed_by or ""
         return f"is {FORKED}" if closed_by == FORKED else f"was run ({closed_by[:60]})"
@@ -76,8 +81,8 @@ class Runs:
             closed_by = self.closed_by
             if closed_by is not None and not may_follow(closed_by):
                 raise AlreadyRun(
-                    f"this batch seals, and {self._told()}. A second run may answer its lanes in another order, and then "
-                    "one key and nonce seal two messages. Make another Batch, with a fresh seed"
+                    f"this batch {self._told()}{self._danger()}: one key and nonce could seal two messages. Make another Batch, "
+                    "with a fresh seed"
                 )
             self._closed_by = closed_by or how
             self._under_way += 1

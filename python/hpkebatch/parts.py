@@ -6,6 +6,7 @@ functions that run one batch may be sent to another process by an executor: they
 
 from __future__ import annotations
 
+from contextlib import contextmanager
 from typing import Callable, Iterable, Iterator, List, NamedTuple, Optional, Sequence, Tuple, TypeVar
 
 from .answers import OpenedAnswer, Refusal
@@ -29,7 +30,9 @@ COST_OF_LINE = 128
 COST_OF_MESSAGE = 16 + 2 * TAG_SIZE
 
 
-def grouped(items: Iterable[T], measured: Callable[[T], Tuple[int, int]], limits: Limits, share: int = 1) -> Iterator[List[T]]:
+def grouped(
+    items: Iterable[T], measured: Callable[[T], Tuple[int, int]], limits: Limits, share: int = 1
+) -> Iterator[List[T]]:
     """The items in groups that a batch can hold, or that a share of a batch can. Of each item is measured how many
     bytes it takes, and how many calls."""
     group: List[T] = []
@@ -156,14 +159,15 @@ def seal_parts(parts: Sequence[PartTask], runner: Optional[Runner] = None, limit
     for part, (context, lane, _) in zip(parts, rows):
         lane.seal_each(context, part.texts, part.aads)
         lane.seal(context, b"", END_AAD)
-    reply = _run(batch, runner)
-    made = []
-    for part, (_, lane, first) in zip(parts, rows):
-        texts = reply.texts(lane, first, first + len(part.texts) + 1, b"sealed %d ")
-        if isinstance(texts, int):
-            raise AssertionError(f"a message wasn't sealed: {reply.answer(lane.calls[first + texts])}")
-        made.append(SealedPart(texts[:-1], texts[-1]))
-    return made
+    with _reply(batch, runner) as reply:
+        return [_sealed(reply, lane, first, len(part.texts)) for part, (_, lane, first) in zip(parts, rows)]
+
+
+def _sealed(reply: Reply, lane: Lane, first: int, count: int) -> SealedPart:
+    texts = reply.texts(lane, first, first + count + 1, b"sealed %d ")
+    if isinstance(texts, int):
+        raise AssertionError(f"a message wasn't sealed: {reply.answer(lane.calls[first + texts])}")
+    return SealedPart(texts[:-1], texts[-1])
 
 
 def open_parts(parts: Sequence[PartTask], runner: Optional[Runner] = None, limits: Limits = LIMITS) -> List[OpenedPart]:
@@ -172,18 +176,17 @@ def open_parts(parts: Sequence[PartTask], runner: Optional[Runner] = None, limit
     for part, (context, lane, _) in zip(parts, rows):
         lane.unseal_each(context, part.texts, part.aads)
         lane.unseal(context, part.end, END_AAD)
-    reply = _run(batch, runner)
-    opened = []
-    for part, (_, lane, first) in zip(parts, rows):
-        count = len(part.texts)
-        texts = reply.texts(lane, first, first + count, b"opened %d ")
-        if isinstance(texts, int):
-            texts = reply.texts(lane, first, first + texts, b"opened %d ")
-            assert not isinstance(texts, int)
-            opened.append(OpenedPart(texts, False))
-        else:
-            opened.append(OpenedPart(texts, reply.answer(lane.calls[first + count]) == OpenedAnswer(count, b"")))
-    return opened
+    with _reply(batch, runner) as reply:
+        return [_opened(reply, lane, first, len(part.texts)) for part, (_, lane, first) in zip(parts, rows)]
+
+
+def _opened(reply: Reply, lane: Lane, first: int, count: int) -> OpenedPart:
+    texts = reply.texts(lane, first, first + count, b"opened %d ")
+    if not isinstance(texts, int):
+        return OpenedPart(texts, reply.answer(lane.calls[first + count]) == OpenedAnswer(count, b""))
+    before = reply.texts(lane, first, first + texts, b"opened %d ")
+    assert not isinstance(before, int)
+    return OpenedPart(before, False)
 
 
 def _contexts(role: str, parts: Sequence[PartTask], limits: Limits) -> Tuple[Batch, List[Tuple[Context, Lane, int]]]:
@@ -202,5 +205,14 @@ def _contexts(role: str, parts: Sequence[PartTask], limits: Limits) -> Tuple[Bat
     return batch, rows
 
 
-def _run(batch: Batch, runner: Optional[Runner]) -> Reply:
-    return batch.run(workers=min(len(batch.lanes), MOST_WORKERS), runner=runner)
+@contextmanager
+def _reply(batch: Batch, runner: Optional[Runner]) -> Iterator[Reply]:
+    """The reply, for as long as it is read. Then both texts are let go of: they are large, and hold one another."""
+    reply = batch.run(workers=min(len(batch.lanes), MOST_WORKERS), runner=runner)
+    try:
+        yield reply
+    finally:
+        reply.lines.close()
+        for lane in batch.lanes:
+            lane.calls.clear()
+            lane._lines.clear()

@@ -15,7 +15,12 @@ B = TypeVar("B", Batch, CapsuleBatch)
 
 
 def read_batch(text: bytes) -> Batch:
-    """The batch whose text this is; a ValueError where it is the text of none."""
+    """The batch whose text this is; a ValueError where it is the text of none.
+
+    It can be run once, as any other: nothing tells whether its text was run before, by this package or by the program.
+    So a batch that seals is read to read its reply. To run it again, `rehearse` it with the schedule of its first run.
+    A batch that only opens and exports may be run as often as you like.
+    """
     version, seed, lines = _opened(text)
     batch = Batch(seed=seed, version=version)
     for at, (word, fields) in lines:

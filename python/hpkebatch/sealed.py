@@ -104,7 +104,7 @@ class Part:
     end: bytes
 
     def __repr__(self) -> str:
-        return f"<Part of {len(self.ciphertexts)} messages>"
+        return f"<Part of {counted(len(self.ciphertexts), 'message')}>"
 
 
 @dataclass(frozen=True, repr=False)
@@ -123,7 +123,7 @@ class Sealed:
     parts: Tuple[Part, ...]
 
     def __repr__(self) -> str:
-        return f"<Sealed: {len(self)} messages in {len(self.parts)} parts>"
+        return f"<Sealed: {counted(len(self), 'message')} in {counted(len(self.parts), 'part')}>"
 
     def __len__(self) -> int:
         return sum(self.counts)
@@ -185,6 +185,10 @@ def _read(source: Reader) -> Sealed:
     if source.at != len(source.data):
         raise ValueError("bytes follow their end")
     return Sealed(*suite, recipient, id, enc, tuple(parts))
+
+
+def counted(count: int, what: str) -> str:
+    return f"{count:,} {what}{'s' * (count != 1)}"
 
 
 def counts_of(counts: Sequence[int]) -> bytes:

@@ -26,7 +26,7 @@ def raised() -> Iterator[None]:
     A signal that is ignored already, as `nohup` has it, stays so.
     """
     before = {number: signal.getsignal(number) for number in ENDING}
-    handled = [number for number, handler in before.items() if handler != signal.SIG_IGN]
+    handled = [number for number, handler in before.items() if handler not in (signal.SIG_IGN, None)]
 
     def end(number: int, frame: Optional[FrameType]) -> None:
         for other in handled:

@@ -1,9 +1,11 @@
 """What the tests share: the built program, the stored examples, folders to work in, and runners that stand in for the program."""
 
+import atexit
 import contextlib
 import glob
 import io
 import os
+import shutil
 import subprocess
 import sys
 import tempfile
@@ -17,7 +19,11 @@ HERE = os.path.dirname(os.path.abspath(__file__))
 HOME = os.path.dirname(os.path.dirname(HERE))
 PACKAGE = os.path.dirname(HERE)
 PROGRAM = os.path.abspath(os.environ.get("HPKEBATCH", os.path.join(HOME, "crates/hpkebatch/out/hpkebatch")))
-ENVIRONMENT = {**os.environ, "PYTHONPATH": PACKAGE, "HPKEBATCH": PROGRAM, "PYTHONDONTWRITEBYTECODE": "1"}
+# Where processes that tests start keep what they compiled of the package.
+CACHE = tempfile.mkdtemp()
+atexit.register(shutil.rmtree, CACHE)
+ENVIRONMENT = {**os.environ, "PYTHONPATH": PACKAGE, "HPKEBATCH": PROGRAM, "PYTHONPYCACHEPREFIX": CACHE}
+ENVIRONMENT.pop("PYTHONDONTWRITEBYTECODE", None)
 command = Command(PROGRAM)
 
 Example = namedtuple("Example", "name words batch reply")
@@ -47,11 +53,17 @@ def example(name):
     return next(it for it in examples() if it.name == name)
 
 
+def changed(data, at, bit=1):
+    """The bytes with a bit of one of them turned."""
+    at %= len(data)
+    return data[:at] + bytes([data[at] ^ bit]) + data[at + 1 :]
+
+
 def spoilt(data):
     """The bytes with one of them changed, left out or doubled, and cut after each; with what was done."""
     for at in range(len(data)):
-        yield f"changed at {at}", data[:at] + bytes([data[at] ^ 1]) + data[at + 1 :]
-        yield f"changed high at {at}", data[:at] + bytes([data[at] ^ 0x80]) + data[at + 1 :]
+        yield f"changed at {at}", changed(data, at)
+        yield f"changed high at {at}", changed(data, at, 0x80)
         yield f"left out at {at}", data[:at] + data[at + 1 :]
         yield f"doubled at {at}", data[: at + 1] + data[at:]
         yield f"cut at {at}", data[:at]

@@ -9,7 +9,7 @@ import unittest
 from unittest import mock
 
 import hpkebatch
-from common import InAFolder, command, read, write
+from common import InAFolder, changed, command, read, write
 from hpkebatch import Limits, MessageNotOpened, Part, Psk, Sealed, files, sealed as forms
 from hpkebatch.files import Job, Opening, Sealing
 
@@ -131,7 +131,7 @@ class Lists(unittest.TestCase):
             read, marks = [], 0
             data = whole.to_bytes()
             for at in range(len(data)):
-                for other in (data[:at] + bytes([data[at] ^ 1]) + data[at + 1 :], data[:at] + data[at + 1 :], data[: at + 1] + data[at:], data[:at]):
+                for other in (changed(data, at), data[:at] + data[at + 1 :], data[: at + 1] + data[at:], data[:at]):
                     try:
                         read.append(Sealed.from_bytes(other))
                     except ValueError:

@@ -3,6 +3,7 @@
 import copy
 import os
 import pickle
+import signal
 import threading
 import unittest
 from concurrent.futures import ProcessPoolExecutor
@@ -178,8 +179,17 @@ class Building(unittest.TestCase):
         ):
             with self.assertRaises(ValueError):
                 call()
-        with self.assertRaises(TypeError):
-            batch.lane().seal(batch.context(0), "text")
+        lane, context = batch.lane(), batch.share("recv", 32, b"")
+        for why, call in (
+            ("a message is of type str", lambda: lane.seal(context, "text")),
+            ("associated data is of type str", lambda: lane.seal(context, b"", "text")),
+            ("info is of type str", lambda: batch.share("recv", 32, b"", "text")),
+            ("not bytes", lambda: batch.send(bytes(1158))),
+            ("not bytes", lambda: batch.recv(batch.peer(b""), b"", b"").batch._own(b"")),
+            ("not int", lambda: lane.seal(0, b"")),
+        ):
+            with self.assertRaisesRegex(TypeError, why):
+                call()
 
     def test_names_of_lines_that_are_not_there(self):
         batch = Batch()
@@ -211,6 +221,64 @@ class Once(unittest.TestCase):
             with self.assertRaises(AlreadyRun) as told:
                 again(runner=command)
             self.assertIn("one key and nonce", str(told.exception))
+
+    def test_lanes_that_share_no_context_that_one_seals_on(self):
+        """Then every run answers each seal alike: the batch may run again."""
+
+        def rows():
+            for name, may, calls in (
+                ("one lane, two contexts", True, lambda a, b, x, y: (a.seal(x, b""), a.seal(y, b""))),
+                ("each lane its own", True, lambda a, b, x, y: (a.seal(x, b""), b.seal_each(y, [b"", b""]))),
+                ("both on one", False, lambda a, b, x, y: (a.seal(x, b""), b.seal(x, b""))),
+                ("both on one, by seal_each", False, lambda a, b, x, y: (a.seal_each(x, [b""]), b.seal(x, b""))),
+                ("one seals and another exports", True, lambda a, b, x, y: (a.seal(x, b""), b.export(x, b"", 1))),
+            ):
+                batch = Batch()
+                contexts = [batch.share("send", 32, SECRET, info) for info in (b"x", b"y")]
+                calls(batch.lane(), batch.lane(), *contexts)
+                yield name, may, batch, batch.run
+            for name, may, calls in (
+                ("its own added context", True, lambda a, b, x: (a.seal(x, b""), a.retire(x))),
+                ("another adds it", False, lambda a, b, x: b.seal(x, b"")),
+                ("another retires it", False, lambda a, b, x: (a.seal(x, b""), b.retire(x))),
+                ("another retires it by its number", False, lambda a, b, x: (a.seal(x, b""), b.retire(b.batch.added(0)))),
+                ("another exports", True, lambda a, b, x: (a.seal(x, b""), b.export(x, b"", 1))),
+            ):
+                batch = Batch()
+                first, other = batch.lane(), batch.lane()
+                calls(first, other, first.add("send", 32, SECRET))
+                yield name, may, batch, batch.live
+
+        for name, may, batch, run in rows():
+            with self.subTest(name):
+                self.assertEqual(batch.may_run_again, may)
+                sealed = [line for line in run(runner=command).text().split(b"\n") if line.startswith(b"sealed")]
+                if may:
+                    self.assertEqual(sealed, [it for it in run(runner=command).text().split(b"\n") if it.startswith(b"sealed")])
+                else:
+                    with self.assertRaises(AlreadyRun):
+                        run(runner=command)
+
+    def test_what_ran_by_live_runs_by_nothing_else(self):
+        batch = Batch()
+        batch.lane().seal(batch.share("send", 32, SECRET), b"one")
+        batch.live(runner=command)
+        with self.assertRaises(AlreadyRun):
+            batch.run(runner=command)
+        batch.live(runner=command)
+
+    def test_a_forked_process_runs_no_batch_that_seals(self):
+        """Not even one whose lanes share nothing: its parent may add to it."""
+        batch = Batch()
+        batch.lane().seal(batch.share("send", 32, SECRET), b"one")
+        child = os.fork()
+        if child == 0:
+            try:
+                batch.run(runner=command)
+            except AlreadyRun as fault:
+                os._exit(7 if "which may run it too" in str(fault) else 1)
+            os._exit(0)
+        self.assertEqual(os.waitstatus_to_exitcode(os.waitpid(child, 0)[1]), 7)
 
     def test_nothing_is_added_to_a_batch_that_ran(self):
         batch = self.sealing()
@@ -269,6 +337,7 @@ class Once(unittest.TestCase):
         """Two threads rehearse, and one of them runs out of memory: the batch was run all the same."""
         batch = self.sealing()
         begun, failed = threading.Event(), threading.Event()
+        self.addCleanup(failed.set)
 
         def slow(words, pieces):
             begun.set()
@@ -330,6 +399,7 @@ class Once(unittest.TestCase):
         with _Here.lock:
             child = os.fork()
             if child == 0:
+                signal.alarm(20)
                 batch = self.sealing()
                 os._exit(len(batch.rehearse(runner=command).journals))
             self.assertEqual(os.waitstatus_to_exitcode(os.waitpid(child, 0)[1]), 1)

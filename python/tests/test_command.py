@@ -88,7 +88,9 @@ class Statuses(unittest.TestCase):
 
     def test_a_reply_that_cannot_be_read_was_written(self):
         batch = Batch()
-        batch.lane().seal(batch.share("send", 32, b"s" * 32), b"text")
+        context = batch.share("send", 32, b"s" * 32)
+        for _ in range(2):
+            batch.lane().seal(context, b"text")
         with mock.patch.object(module, "mmap", side_effect=OSError(12, "Cannot allocate memory")):
             with self.assertRaises(RunFailed) as raised:
                 batch.run(runner=Command(PROGRAM))

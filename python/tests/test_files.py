@@ -1,8 +1,10 @@
 """The words `seal` and `open` of the command: what comes back, what is refused, and that nothing half made is left."""
 
 import contextlib
+import errno
 import io
 import os
+import pty
 import signal
 import stat
 import subprocess
@@ -11,9 +13,11 @@ import time
 import unittest
 from unittest import mock
 
-from common import ENVIRONMENT, PROGRAM, InAFolder, read, write
-from hpkebatch import Limits, files, fingerprint, read_public_key
+from common import ENVIRONMENT, PROGRAM, InAFolder, changed, read, write
+from hpkebatch import FileFault, SecretKey, files, fingerprint, read_public_key, read_secret_key
 from hpkebatch.__main__ import main
+from hpkebatch.keys import key_text
+from hpkebatch.new_file import NewFile
 
 KEYS = {}
 # A process that cuts files into small parts, few of which are done in a run; named scratch files where asked for.
@@ -104,6 +108,9 @@ class ThereAndBack(WithKeys):
             self.assertEqual(self.open("-d", "there", *(f"{name}.hpke" for name in contents)), (0, "", ""))
         for name, data in contents.items():
             self.assertEqual(read(f"there/{name}"), data)
+            chunks = -(-len(data) // 1000)
+            parts = max(1, -(-chunks // 4))
+            self.assertEqual(len(read(f"{name}.hpke")), 1112 + len(data) + 16 * (chunks + parts))
         self.assertEqual(sorted(os.listdir("there")), sorted(contents))
 
     def test_a_file_of_several_runs(self):
@@ -153,6 +160,7 @@ class ThereAndBack(WithKeys):
             (("-o", "x", "new", "new"), "-o and - are for one FILE alone"),
             (("-", "new"), "-o and - are for one FILE alone"),
             (("-d", "x", "-o", "x", "new"), "not allowed with argument"),
+            (("-d", "x", "-"), "standard input has no name for -d: name the file to write by -o"),
             (("none.hpke",), "none.hpke: No such file or directory"),
             (("keys",), "keys: the name"),
             (("-o", "x", "keys"), "keys: Is a directory"),
@@ -180,22 +188,31 @@ class ThereAndBack(WithKeys):
 
 class Streams(WithKeys):
     def test_pipes(self):
-        for size in (0, 5, 19_999, 20_001, 90_000):
+        """Of a size that memory holds, and of more than that."""
+        for size in (0, 19_999, 90_000):
             data = os.urandom(size)
             sealed = self.small(*SEAL, "-", input=data)
             self.assertEqual(sealed.returncode, 0)
             opened = self.small(*OPEN, "-", input=sealed.stdout)
             self.assertEqual((opened.returncode, opened.stdout, opened.stderr), (0, data, b""))
-            write("sealed", sealed.stdout)
-            self.assertEqual(self.small(*OPEN, "-o", "-", "sealed").stdout, data)
-            with open("sealed", "rb") as file:
-                self.assertEqual(self.small(*OPEN, "-", stdin=file).stdout, data)
-            self.assertEqual(self.small(*SEAL, "-o", "new", "-", input=data).returncode, 0)
-            self.assertEqual(self.small(*OPEN, "-o", "back", "new").returncode, 0)
-            self.assertEqual(read("back"), data)
-            for name in ("new", "back", "sealed"):
-                os.remove(name)
-        self.assertEqual(self.left(), [])
+            write(f"sealed{size}", sealed.stdout)
+            self.assertEqual(self.small(*OPEN, "-o", "-", f"sealed{size}").stdout, data)
+        self.assertEqual(self.left(), ["sealed0", "sealed19999", "sealed90000"])
+
+    def test_a_file_as_standard_input(self):
+        """Also one of which a part was read before."""
+        data = os.urandom(50_000)
+        self.assertEqual(self.small(*SEAL, "-o", "new", "-", input=data).returncode, 0)
+        with open("new", "rb") as file:
+            self.assertEqual(self.small(*OPEN, "-o", "back", "-", stdin=file).returncode, 0)
+        with open("back", "rb") as file:
+            file.seek(100)
+            sealed = self.small(*SEAL, "-", stdin=file).stdout
+        self.assertEqual((read("back"), self.small(*OPEN, "-", input=sealed).stdout), (data, data[100:]))
+        write("behind", b"x" * 100 + sealed)
+        with open("behind", "rb") as file:
+            file.seek(100)
+            self.assertEqual(self.small(*OPEN, "-", stdin=file).stdout, data[100:])
 
     def test_nothing_is_given_out_before_all_was_checked(self):
         """Not of a text that memory holds, and not of one that is gone through twice."""
@@ -234,7 +251,7 @@ class Spoilt(WithKeys):
             self.sealed(one=os.urandom(300))
             data = read("one.hpke")
             for at in range(len(data)):
-                write(f"spoilt{at}.hpke", data[:at] + bytes([data[at] ^ 1]) + data[at + 1 :])
+                write(f"spoilt{at}.hpke", changed(data, at))
             names = [f"spoilt{at}.hpke" for at in range(len(data))]
             status, _, told = self.open("one.hpke", *names)
             self.assertEqual(status, 1)
@@ -245,14 +262,14 @@ class Spoilt(WithKeys):
         """A byte left out, a byte doubled, and a cut after each byte."""
         with small_chunks(40):
             self.sealed(one=os.urandom(100))
-            data = read("one.hpke")
+            data, key = read("one.hpke"), read_secret_key("keys/bob.key")
             for at in range(len(data)):
                 write("left.hpke", data[:at] + data[at + 1 :])
                 write("twice.hpke", data[: at + 1] + data[at:])
                 write("cut.hpke", data[:at])
                 names = ["left.hpke", "twice.hpke", "cut.hpke"]
                 with contextlib.redirect_stderr(io.StringIO()) as told:
-                    work = files.Opening([files.Job(name, name[:-5]) for name in names], files_key(), lambda more: None, runner=refusing)
+                    work = files.Opening([files.Job(name, name[:-5]) for name in names], key, lambda more: None, runner=refusing)
                     faults = work.run()
                 self.assertEqual(([fault.path for fault in faults], told.getvalue()), (names, ""))
             self.assertEqual(self.left(), ["cut.hpke", "left.hpke", "one.hpke", "twice.hpke"])
@@ -261,7 +278,7 @@ class Spoilt(WithKeys):
         with small_chunks():
             self.sealed(a=os.urandom(20_000), b=b"text", c=os.urandom(3000), d=b"")
             a, b, c, d = (read(f"{name}.hpke") for name in "abcd")
-            write("a.hpke", a[:12_000] + b"~" + a[12_001:])
+            write("a.hpke", changed(a, 12_000))
             write("b.hpke", b[:-1])
             write("e.hpke", c + b"~")
             write("f.hpke", b"text")
@@ -297,9 +314,6 @@ class Spoilt(WithKeys):
         self.assertFalse(os.path.exists("text"))
 
     def test_a_key_whose_polynomials_are_spoilt_is_named(self):
-        from hpkebatch import SecretKey, read_secret_key
-        from hpkebatch.keys import key_text
-
         self.sealed(text=b"text")
         write("bad.key", key_text(SecretKey(b"\xff" * 382 + read_secret_key("keys/bob.key").data[382:])))
         self.assertEqual(self.told("open", "--key", "bad.key", "text.hpke")[::2], (1, "hpkebatch: bad.key: the secret key is spoilt: its polynomials aren't those of a key\n"))
@@ -307,12 +321,6 @@ class Spoilt(WithKeys):
 
 def refusing(words, pieces):
     raise AssertionError("nothing was to be run")
-
-
-def files_key():
-    from hpkebatch import read_secret_key
-
-    return read_secret_key("keys/bob.key")
 
 
 class NothingIsWrittenOver(WithKeys):
@@ -359,11 +367,6 @@ class NothingIsWrittenOver(WithKeys):
 
     def test_where_there_are_no_links(self):
         """By a rename that replaces nothing, or a claim of the name: nothing is written over, and nothing is left."""
-        import errno
-
-        from hpkebatch import FileFault
-        from hpkebatch.new_file import NewFile
-
         refused = OSError(errno.EPERM, "Operation not permitted")
         for renames in (True, False):
             with contextlib.ExitStack() as patches:
@@ -372,7 +375,7 @@ class NothingIsWrittenOver(WithKeys):
                 if not renames:
                     patches.enter_context(mock.patch("ctypes.CDLL", return_value=object()))
                 file = NewFile("new")
-                self.assertEqual(stat.S_IMODE(os.stat(os.listdir()[0] if os.listdir()[0] != "keys" else os.listdir()[1]).st_mode), 0o600)
+                self.assertEqual([stat.S_IMODE(os.stat(name).st_mode) for name in self.left()], [0o600])
                 file.write([b"text"])
                 file.finish()
                 self.assertEqual((read("new"), self.left()), (b"text", ["new"]))
@@ -479,8 +482,6 @@ class Ended(WithKeys):
 
 class Bar(WithKeys):
     def test_a_bar_is_drawn_on_a_terminal_alone(self):
-        import pty
-
         write("text", bytes(100_000))
         script = "from hpkebatch import progress; progress.PATIENCE = progress.PAUSE = 0\n" + SMALL
         words = [sys.executable, "-c", script, "unnamed", *SEAL, "text"]

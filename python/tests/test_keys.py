@@ -10,7 +10,7 @@ import stat
 import subprocess
 
 import hpkebatch
-from common import InAFolder, command, read, spoilt, write
+from common import InAFolder, changed, command, read, spoilt, write
 from hpkebatch import SNTRUP761, SNTRUP857, FileFault, KeyPair, PublicKey, SecretKey, fingerprint
 from hpkebatch.keys import key_text, parse_key, read_key_file
 
@@ -29,7 +29,7 @@ class Objects(InAFolder):
             self.assertEqual(pair.secret.public, pair.public)
             self.assertEqual([PublicKey(bytes(pair.public)), SecretKey(bytes(pair.secret))], [pair.public, pair.secret])
             self.assertEqual(len({pair.public, PublicKey(bytes(pair.public)), pair.secret, SecretKey(bytes(pair.secret))}), 2)
-            self.assertNotEqual(pair.secret, SecretKey(bytes(pair.secret)[:-1] + b"~"))
+            self.assertNotEqual(pair.secret, SecretKey(changed(bytes(pair.secret), -1)))
             for it in (pair, pair.public, pair.secret):
                 self.assertIn(fingerprint(pair.public), repr(it))
                 self.assertLess(len(repr(it)), 110)
@@ -46,6 +46,13 @@ class Objects(InAFolder):
                 pickle.dumps(secret)
         self.assertIs(copy.copy(pair.secret), pair.secret)
         self.assertEqual(copy.deepcopy(pair).secret, pair.secret)
+
+    def test_a_pair_is_of_two_halves_that_belong_together(self):
+        one, other = PAIRS.values()
+        for public, secret in ((one.public, other.secret), (other.public, one.secret), (PublicKey(changed(one.public.data, 0)), one.secret)):
+            with self.assertRaises(ValueError):
+                KeyPair(public, secret)
+        self.assertEqual(KeyPair(one.public, one.secret), one)
 
     def test_the_fingerprint_is_that_of_the_public_key(self):
         pair = PAIRS["sntrup857"]
@@ -150,6 +157,11 @@ class KeyFiles(InAFolder):
             self.assertEqual((status, err), (0, ""))
             for text in (kind, "sntrup761", fingerprint(pair)):
                 self.assertIn(text, out)
+        for path in ("-", "/dev/stdin"):
+            self.assertEqual(self.run_command("show", path, input=read("bob.pub")).stdout, self.told("show", "bob.pub")[1].encode())
+        self.assertEqual(self.told("show", "none"), (1, "", "hpkebatch: none: No such file or directory\n"))
+        write("text", b"text")
+        self.assertEqual(self.told("show", "text"), (1, "", "hpkebatch: text: it isn't a key file of hpkebatch\n"))
         self.assertEqual(self.told("show", "--public", "bob.key"), (0, read("bob.pub").decode(), ""))
         self.assertEqual(self.told("show", "--public", "-o", "new.pub", "bob.key"), (0, "", ""))
         self.assertEqual(read("new.pub"), read("bob.pub"))

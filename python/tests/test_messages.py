@@ -49,6 +49,16 @@ class OneCall(unittest.TestCase):
                 self.assertEqual(len(sealed.enc), 1039)
                 self.assertEqual([len(it) for it in sealed.ciphertexts], [len(it) + 16 for it in messages])
 
+    def test_what_they_cost(self):
+        """As python/README.md and docs/FORMAT.md have it."""
+        other = hpkebatch.generate_key(SNTRUP857, runner=command)
+        for pair, more in ((PAIR, 0), (other, 145)):
+            for messages in ([], [b"one"], [b"three", b""]):
+                sealed = hpkebatch.seal(messages, to=pair.public, runner=command)
+                self.assertEqual(len(sealed.to_bytes()), 1130 + more + sum(20 + len(text) for text in messages))
+            alone = hpkebatch.seal([b"one"], to=pair.public, alone=True, runner=command)
+            self.assertEqual(len(alone[0].to_bytes()), 1150 + more + 3)
+
     def test_bytes_like_messages(self):
         text = bytearray(b"changes")
         self.assertEqual(opened(seal([text, memoryview(text)[:3]])), [b"changes", b"cha"])

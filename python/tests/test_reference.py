@@ -5,7 +5,7 @@ import subprocess
 import sys
 
 import hpkebatch
-from common import HOME, InAFolder, command, read, write
+from common import HOME, InAFolder, changed, command, read, write
 from hpkebatch import SNTRUP761, SNTRUP857, Aead, Kdf, Limits, Psk, Sealed, fingerprint
 
 READER = os.path.join(HOME, "tools/reference/sealed.py")
@@ -58,7 +58,7 @@ class WhatIsSealedNow(InAFolder):
             given = ("open", f"{kem.name}.key", "messages", "i", "psk", "ours")
             self.assertEqual(reader(*given).stdout, b"".join(text.hex().encode() + b"\n" for text in messages))
             for at in (30, 40, 60, 90, len(data) - 1):
-                write("messages", data[:at] + bytes([data[at] ^ 1]) + data[at + 1 :])
+                write("messages", changed(data, at))
                 done = reader(*given)
                 self.assertEqual((done.returncode, done.stdout), (1, b""))
                 self.assertIn(b"refused", done.stderr)

@@ -25,7 +25,7 @@ static uint8_t *bytes_of_file(const char *name, size_t *len)
     return bytes;
 }
 
-/* A text of one bad line, for rooms of all sizes. */
+/* A text of one bad line, for rooms of all sizes: too small for it, filled by it, and larger. */
 static void test_bad_line(const char *text, const char *line)
 {
     size_t len = strlen(line);
@@ -70,6 +70,7 @@ int main(int argc, char **argv)
         reply[at] ^= 1;
     }
     test_bad_line("", "bad 1 header\n");
+    test_bad_line("hpkebatch 1\nlane\nseal 00 - -\nend\n", "bad 3 number\n");
     free(batch);
     free(reply);
     return 0;

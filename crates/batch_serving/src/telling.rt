@@ -1,6 +1,6 @@
 //! The texts of all ends, written to the sink.
 //!
-//! A printer has 32 KiB of text on the stack. Each call here is kept by itself, so that none of it
+//! A printer has a buffer of 8 KiB on the stack. Each call here is kept by itself, so that none of it
 //! stands there while a batch is answered.
 
 ghost use Rattle.std.specs.Prelude.{◌≡◌, ◌≤◌};

@@ -33,7 +33,7 @@ use Rattle.context_books.proofs.LookedUp.{call_looked}
 
 -- ---- the note that tells that a name was live
 
-live_note : (notes : List Entry) (p : Place) → was_live notes p ≡ true
+pub live_note : (notes : List Entry) (p : Place) → was_live notes p ≡ true
     → (e : Entry) × In e notes × (e.place ≡ p) × (tells_live e.step ≡ true)
 live_note [] p is = absurd (let f : false ≡ true = is in cc)
 live_note (e ∷ notes) p is =

@@ -44,3 +44,8 @@ pub mod Sums
 pub mod Counts
 pub mod Columns
 pub mod ItemPlaces
+pub mod OneLanePlaces
+pub mod SealedAlike
+pub mod OneReply
+pub mod OwnNames
+pub mod LiveSeals

@@ -96,10 +96,10 @@ map_pairs S R f g xs t = pairs_rise S xs (map_rises S R f g xs (rises_pairs R (m
 abbrev pub Apart : Place → Place → Type 0
 Apart p q = p ≢ q
 
-abbrev Earlier : Entry → Entry → Type 0
+abbrev pub Earlier : Entry → Entry → Type 0
 Earlier e f = e.stamp < f.stamp
 
-notes_rise : (es : List Entry) → StampsRise es → RisesBy Earlier es
+pub notes_rise : (es : List Entry) → StampsRise es → RisesBy Earlier es
 notes_rise [] t = tt
 notes_rise (e ∷ []) t = (λ k i. absurd i, tt)
 notes_rise (e ∷ f ∷ es) t =

@@ -22,3 +22,4 @@ pub mod Quotas
 pub mod Journals
 pub mod Merging
 pub mod ContextLines
+pub mod Sharing

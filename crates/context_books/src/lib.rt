@@ -18,8 +18,11 @@
 //! are an argument: [`standing`] looks one up, and [`refusal_of`] says which calls they refuse.
 //!
 //! What follows from these definitions is said by laws, functions that do nothing, whose contracts
-//! are the laws: those of `journals`, `histories`, `guesses`, `entries`, `checks`, `laws` and
-//! `live_laws`.
+//! are the laws: those of `journals`, `histories`, `guesses`, `entries`, `checks`, `laws`, `live_laws`
+//! and `sharing`.
+//!
+//! **A second run.** [`may_run_again`] says whether a plan's seals have the same answers in every run:
+//! where no two lanes seal on one context (`specs/Sharing.antt`).
 //!
 //! **Books.** A [`Book`] is a list of entries under a LIMIT and a quota for each lane. Its next sequence
 //! number is how many of its entries sealed or opened. [`Book::draw`] gives the number of a seal before
@@ -62,6 +65,7 @@ mod opening;
 mod rows;
 mod sealing;
 mod settling;
+mod sharing;
 
 pub use book::{Book, Draw};
 pub use checks::{a_guess_is_told, a_legal_history_is_told, a_legal_journal_is_told};
@@ -86,3 +90,7 @@ pub use naming::items_of_opening;
 pub use opening::finish_opening;
 pub use rows::{rows_of_guesses, rows_of_histories, rows_of_journals, rows_of_replies};
 pub use sealing::finish_seal;
+pub use sharing::{
+    live_seals_are_answered_alike, may_run_again, one_lane_alone_has_one_journal,
+    replies_differ_in_guesses, seals_are_answered_alike,
+};

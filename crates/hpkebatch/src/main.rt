@@ -9,14 +9,17 @@
 #![tactic(auto)]
 
 mod words;
+mod wrong_words;
 
 use crate::words::words;
+use crate::wrong_words::wrong_word;
 use batch_io::{FreeGate, StdSink, StdSource};
 use batch_runner::{Outcome, serve_words, status};
 use std::io;
 use std::io::ErrorKind;
 use std::process::ExitCode;
 
+// Of words that spell no command where none can be blamed alone, as one that is no text.
 const USAGE: &'static str = "usage: hpkebatch run [--workers W] [--mult plain|karatsuba|lanes] | \
     live [--workers W] [--mult M] | rehearse SCHEDULE | demo SEED MESSAGES LANES | \
     check [--live] [--mult M] | capsules [--mult M]";
@@ -33,19 +36,31 @@ fn message(outcome: &Outcome) -> Option<&'static str> {
     }
 }
 
+// The line on standard error, if the outcome has one. There are no words where one of them is no text.
+fn tell(rt: &HostRuntime, outcome: &Outcome, words: Option<&Vec<String>>) {
+    if let (Outcome::Usage, Some(words)) = (outcome, words) {
+        if let Some(wrong) = wrong_word(words) {
+            let _ = eprintln!(rt; "hpkebatch: {wrong}");
+            return;
+        }
+    }
+    if let Some(message) = message(outcome) {
+        let _ = eprintln!(rt; "hpkebatch: {message}");
+    }
+}
+
 fn main(rt: HostRuntime) -> ExitCode {
-    let outcome = match words(&rt) {
+    let (outcome, words) = match words(&rt) {
         Ok(words) => {
             let mut source = StdSource::new(rt.reader());
             let mut sink = StdSink::new(io::writer(&rt));
             let gate = FreeGate::new();
-            serve_words(&rt, rt.alloc(), &words, &mut source, &mut sink, &gate)
+            let outcome = serve_words(&rt, rt.alloc(), &words, &mut source, &mut sink, &gate);
+            (outcome, Some(words))
         }
-        Err(error) if error.kind() == ErrorKind::OutOfMemory => Outcome::OutOfMemory,
-        Err(_) => Outcome::Usage,
+        Err(error) if error.kind() == ErrorKind::OutOfMemory => (Outcome::OutOfMemory, None),
+        Err(_) => (Outcome::Usage, None),
     };
-    if let Some(message) = message(&outcome) {
-        let _ = eprintln!(rt; "hpkebatch: {message}");
-    }
+    tell(&rt, &outcome, words.as_ref());
     ExitCode::from(status(&outcome))
 }

@@ -13,7 +13,8 @@
 //! (`tables.rt`) do the same with a table, as one journal more.
 //!
 //! [`check_live_result`] does the same with a result whose lanes add and retire contexts
-//! (`IsLiveVerdict`): its table is read first, and says which calls found their contexts. The calls as
+//! (`IsLiveVerdict`). The lines of its set-up are read first, so that a text which is wrong there is told
+//! at once. Then its table is, and says which calls found their contexts. The calls as
 //! they were served are then judged as those of a plan whose contexts stay, and the table as one
 //! journal more. One `verdict_on` (`checking.rt`) serves both kinds of results.
 //!

@@ -21,7 +21,9 @@ use batch_plans::{LaneLines, Plan};
 use call_places::Entry;
 use context_table::set_up;
 use hpke_context::Context;
-use result_lines::{Stop, Told, Verdict, looked_up_lanes, read_live_result, read_table};
+use result_lines::{
+    Stop, Told, Verdict, looked_up_lanes, read_live_result, read_live_setup, read_table,
+};
 use ring_core::Multiplier;
 use std::alloc::{AllocError, Global};
 use std::mem;
@@ -90,9 +92,8 @@ impl Judge<'_> {
         }
     }
 
-    // The verdict on the text, as a result of a plan whose lanes add and retire contexts. The table is
-    // read first, since the lines that a call has depend on it.
-    fn live_verdict(
+    // The verdict on the text by its table, where the lines of the set-up may be any.
+    fn verdict_by_table(
         &self,
         plan: &mut Plan,
         contexts: &mut [Option<Context>],
@@ -105,6 +106,28 @@ impl Judge<'_> {
     {
         let table = read_table(self.alloc, plan, contexts, self.text)?;
         self.verdict_by_notes(plan, contexts, table.as_slice())
+    }
+
+    // The verdict on the text, as a result of a plan whose lanes add and retire contexts. The lines of the
+    // set-up are read first, so that a text which is wrong there is told at once. Then the table is, since
+    // the lines that a call has depend on it.
+    #[tactic(auto, using(crate::proofs::LiveRead::wrong_setup))]
+    fn live_verdict(
+        &self,
+        plan: &mut Plan,
+        contexts: &mut [Option<Context>],
+    ) -> Result<Verdict, AllocError>
+        requires within { IsWithinLimits plan.old }
+        requires size { length self.now.text.now ≤ most_input }
+        requires contexts_size { length contexts.old ≡ length plan.old.contexts }
+        ensures { IfOk result (λ verdict. verdict ≡ live_verdict_over plan.old self.now.keys.now
+            self.now.replies.now contexts.old self.now.text.now) }
+    {
+        match read_live_setup(self.alloc, plan, self.keys, self.replies, self.text) {
+            Ok(_told) => self.verdict_by_table(plan, contexts),
+            Err(Stop::Wrong(line)) => Ok(Verdict::Form { line }),
+            Err(Stop::OutOfMemory) => Err(AllocError),
+        }
     }
 }
 
@@ -136,9 +159,9 @@ fn check_over<M: Multiplier>(
 
 /// Checks whether a text is one that a plan may be answered with whose lanes add and retire contexts.
 ///
-/// The set-up is done again, and the table is read first, since the lines that a call has depend on
-/// it. The plan is used up: its lanes become those of the calls as they were served, over the same
-/// bytes.
+/// The set-up is done again, and its lines are read first. Then the table is, since the lines that a call
+/// has depend on it. The plan is used up: its lanes become those of the calls as they were served, over
+/// the same bytes.
 pub fn check_live_result_by<M: Multiplier>(
     permission: MayCheck,
     alloc: Global,

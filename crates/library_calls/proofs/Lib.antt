@@ -3,6 +3,7 @@ pub mod Pairs
 pub mod Judging
 pub mod Sizes
 pub mod Endings
+pub mod Exclusions
 pub mod Served
 pub mod Words
 pub mod ClearSizes

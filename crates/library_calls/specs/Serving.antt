@@ -1,5 +1,5 @@
 -- A batch that is served in the caller's memory. The command is that which the words spell, if they spell one.
-use Rattle.std.specs.Prelude.{◌≡◌, ◌≢◌, ◌⊎◌, ◌<◌, ◌==◌, ℕ, Bool, List, length, take, drop, nat_lt, Option, Some, None, ◌↔◌, if◌then◌else◌}
+use Rattle.std.specs.Prelude.{◌≡◌, ◌≢◌, ◌⊎◌, ◌<◌, ◌≤◌, ◌==◌, ℕ, Bool, List, length, take, drop, nat_lt, Option, Some, None, ◌↔◌, if◌then◌else◌}
 use Rattle.std.specs.List.{list_all, slice_split}
 use Rattle.field_text.specs.declared.reasons.Reason.{Reason}
 use Rattle.batch_plans.specs.ReplyText.{bad_text}
@@ -47,6 +47,18 @@ TellsBroken spelled input text =
     (command : Command) × (spelled ≡ Some command) × (verdict : Verdict)
     × IsBrokenFor command input verdict × (text ≡ verdict_text verdict)
 
+-- the words spell a command, and the input is no batch by its grammar
+unfoldable pub IsNoBatchFor : Option Command → List ℕ → Type 0
+IsNoBatchFor spelled input =
+    (command : Command) × (spelled ≡ Some command) × (line : ℕ) × (reason : Reason)
+    × IsBadFor command input line reason
+
+-- the words spell a command that judges, and the result behind the input's batch isn't legal
+unfoldable pub HasBrokenResult : Option Command → List ℕ → Type 0
+HasBrokenResult spelled input =
+    (command : Command) × (spelled ≡ Some command) × (verdict : Verdict)
+    × IsBrokenFor command input verdict
+
 -- the command may write a text of this size, which is larger than the room
 unfoldable pub NeedsRoom : Option Command → List ℕ → ℕ → ℕ → Type 0
 NeedsRoom spelled input room size =
@@ -59,13 +71,18 @@ NeedsRoom spelled input room size =
 abbrev pub HasText : ℕ → Type 0
 HasText status = (status ≡ 0) ⊎ (status ≡ 3) ⊎ (status ≡ 7)
 
-pub record IsServed (spelled : Option Command) (input old new : List ℕ) (size_old size status : ℕ)
-    : Type 0 where
-  pub done : status ≡ 0 → MayAnswer spelled input Done (take size new)
-  pub bad : status ≡ 3 → TellsBadFor spelled input (take size new)
-  pub broken : status ≡ 7 → TellsBroken spelled input (take size new)
-  pub room : status ≡ 5 → NeedsRoom spelled input (length old) size
+pub record IsServed (spelled : Option Command) (input old new : List ℕ)
+    (written_old written status : ℕ) : Type 0 where
+  pub done : status ≡ 0 → MayAnswer spelled input Done (take written new)
+  pub bad : status ≡ 3 → TellsBadFor spelled input (take written new)
+  pub broken : status ≡ 7 → TellsBroken spelled input (take written new)
+  pub room : status ≡ 5 → NeedsRoom spelled input (length old) written
   pub usage : status ≢ 6 → ((status ≡ 2) ↔ (spelled ≡ None))
-  pub behind : drop size new ≡ drop size old
+  pub no_batch : status ≢ 5 → status ≢ 6 → ((status ≡ 3) ↔ IsNoBatchFor spelled input)
+  pub broken_result : status ≢ 5 → status ≢ 6 → ((status ≡ 7) ↔ HasBrokenResult spelled input)
+  pub statuses : (status ≡ 0) ⊎ (status ≡ 2) ⊎ (status ≡ 3) ⊎ (status ≡ 5) ⊎ (status ≡ 6)
+      ⊎ (status ≡ 7)
+  pub size : HasText status → written ≤ length new
+  pub behind : drop written new ≡ drop written old
   pub kept : ¬ HasText status → new ≡ old
-  pub told : ¬ HasText status → status ≢ 5 → size ≡ size_old
+  pub told : ¬ HasText status → status ≢ 5 → written ≡ written_old

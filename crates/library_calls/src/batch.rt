@@ -34,6 +34,7 @@ fn put_bad(
     out_len: &mut usize,
 ) -> Result<bool, AllocError>
     ensures text { IfOk result (λ put. IsTrue put → take out_len.new out.new ≡ bad_text bad.now) }
+    ensures size { IfOk result (λ put. IsTrue put → out_len.new ≤ length out.new) }
     ensures behind { drop out_len.new out.new ≡ drop out_len.new out.old }
     ensures kept { IfOk result (λ put. ¬ IsTrue put
         → (out.new ≡ out.old) × (out_len.new ≡ out_len.old)) }
@@ -64,16 +65,19 @@ fn first_bad(alloc: Global, input: &[u8]) -> Result<Option<BadBatch>, AllocError
 }
 
 /// Reads a batch of `run`. Status 0: it is one. 3: it isn't, and the line `bad LINE REASON` that
-/// `run` writes for it stands at the front of `out`, with `out_len` bytes. 5: `out` has no room for
-/// that line. 6: out of memory.
-#[tactic(auto, using(crate::proofs::Judging::tells, crate::proofs::Judging::longer_line))]
+/// `run` writes for it stands at the front of `out`, and `out_len` is its size. 5: `out` has no room
+/// for that line. 6: out of memory.
+#[tactic(auto, using(crate::proofs::Judging::tells, crate::proofs::Judging::longer_line, crate::proofs::Judging::no_batch, crate::proofs::Judging::batch_has_no_bad_line,))]
 pub fn read(alloc: Global, input: &[u8], out: &mut [u8], out_len: &mut usize) -> u32
-    ensures batch { result ≡ 0 → IsBatch input.now }
+    ensures batch { result ≢ 6 → ((result ≡ 0) ↔ IsBatch input.now) }
+    ensures no_batch { result ≢ 6
+        → (((result ≡ 3) ⊎ (result ≡ 5)) ↔ IsNoBatch input.now) }
     ensures bad { result ≡ 3 → TellsBad input.now (take out_len.new out.new) }
+    ensures room { result ≢ 6 → ((result ≡ 5) ↔ HasLongerLine input.now (length out.old)) }
+    ensures statuses { (result ≡ 0) ⊎ (result ≡ 3) ⊎ (result ≡ 5) ⊎ (result ≡ 6) }
+    ensures size { result ≡ 3 → out_len.new ≤ length out.new }
     ensures behind { drop out_len.new out.new ≡ drop out_len.new out.old }
     ensures refused { result ≢ 3 → (out.new ≡ out.old) × (out_len.new ≡ out_len.old) }
-    ensures room { result ≡ 5 → HasLongerLine input.now (length out.old) }
-    ensures statuses { (result ≡ 0) ⊎ (result ≡ 3) ⊎ (result ≡ 5) ⊎ (result ≡ 6) }
 {
     let Ok(found) = first_bad(alloc, input) else {
         return NO_MEMORY;
@@ -100,12 +104,12 @@ fn is_legal(alloc: Global, memory: Memory, plan: &Plan, reply: &[u8]) -> Result<
 
 /// Judges a reply to a batch. Status 0: `run` may give it for the batch. 7: it may not. 3: the batch
 /// isn't one. 2: the reply has more than 67,108,864 bytes. 6: out of memory.
-#[tactic(auto, using(crate::proofs::Judging::legal, crate::proofs::Judging::illegal, crate::proofs::Judging::no_batch))]
+#[tactic(auto, using(crate::proofs::Judging::legal, crate::proofs::Judging::illegal))]
 pub fn check(alloc: Global, memory: Memory, batch: &[u8], reply: &[u8]) -> u32
-    ensures legal { result ≡ 0 → IsReplyTo batch.now reply.now }
-    ensures broken { result ≡ 7 → IsNoReplyTo batch.now reply.now }
-    ensures bad { result ≡ 3 → IsNoBatch batch.now }
     ensures usage { (result ≡ 2) ↔ (most_input < length reply.now) }
+    ensures legal { result ≢ 2 → result ≢ 6 → ((result ≡ 0) ↔ IsReplyTo batch.now reply.now) }
+    ensures broken { result ≢ 2 → result ≢ 6 → ((result ≡ 7) ↔ IsNoReplyTo batch.now reply.now) }
+    ensures bad { result ≢ 2 → result ≢ 6 → ((result ≡ 3) ↔ IsNoBatch batch.now) }
     ensures statuses { (result ≡ 0) ⊎ (result ≡ 2) ⊎ (result ≡ 3) ⊎ (result ≡ 6) ⊎ (result ≡ 7) }
 {
     if reply.len() > MOST_INPUT {

@@ -1,11 +1,11 @@
 //! A batch, served whole on the calling thread.
 
-ghost use Rattle.std.specs.Prelude.{◌≡◌, ◌≢◌, ◌↔◌, ◌<◌, length, map, take, drop, IfOk, None};
+ghost use Rattle.std.specs.Prelude.{◌≡◌, ◌≢◌, ◌⊎◌, ◌↔◌, ◌<◌, ◌≤◌, length, map, take, drop, IfOk, None};
 ghost use Rattle.std.specs.List.{list_all};
 ghost use Rattle.std.specs.String.{string_bytes};
 ghost use Rattle.batch_words.specs.Words.{command_of};
 ghost use Rattle.batch_serving.specs.declared.outcomes.Outcome.TheVariants.{Done};
-ghost use Rattle.library_calls.specs.Serving.{HasText, IsServed, MayAnswer, NeedsRoom};
+ghost use Rattle.library_calls.specs.Serving.{HasBrokenResult, HasText, IsNoBatchFor, IsServed, MayAnswer, NeedsRoom};
 ghost use Rattle.library_calls.specs.Serving.{TellsBadFor, TellsBroken, command_in, is_ascii, words_in};
 
 use crate::outputs::put;
@@ -39,6 +39,7 @@ fn is_text(line: &[u8]) -> bool
 fn put_text(status: u32, text: &[u8], output: &mut [u8], written: &mut usize) -> u32
     requires { status ≢ 5 }
     ensures whole { result ≢ 5 → (result ≡ status) × (take written.new output.new ≡ text.now) }
+    ensures size { result ≢ 5 → written.new ≤ length output.new }
     ensures room { result ≡ 5 → (written.new ≡ length text.now)
         × (length output.old < length text.now) × (output.new ≡ output.old) }
     ensures behind { drop written.new output.new ≡ drop written.new output.old }
@@ -90,13 +91,37 @@ fn serve_line(
     }
 }
 
+// Serves what a line of bytes asks for, if it is text.
+fn serve_spelled(
+    alloc: Global,
+    memory: Memory,
+    words: &[u8],
+    input: &[u8],
+    output: &mut [u8],
+    written: &mut usize,
+) -> u32
+    ensures { IsServed (command_in words.now) input.now output.old output.new
+        written.old written.new result }
+{
+    if !is_text(words) {
+        return WRONG_USAGE;
+    }
+    match str::from_utf8(words) {
+        Ok(line) => serve_line(alloc, memory, line, input, output, written),
+        Err(_) => unreachable!(),
+    }
+}
+
 /// Serves any command on the calling thread. `words` are those of its command line, ASCII text with one
 /// space between each two, as `run --mult lanes`.
 ///
-/// Status 0: the text that the command writes for `input` stands at the front of `output`, with
-/// `written` bytes. 3: so does the line of its first bad line. 7: `check` told what is wrong. 5: `output`
+/// Status 0: the text that the command writes for `input` stands at the front of `output`, and `written`
+/// is its size. 3: so does the line of its first bad line. 7: `check` told what is wrong. 5: `output`
 /// has no room for the text, and `written` is its size. 2: the words are none of the command's. 6: out of
 /// memory. But for 0, 3 and 7, `output` is as it was.
+///
+/// There are no other statuses. Unless there is no room, or memory runs out, a bad line has status 3 and
+/// a wrong result has status 7.
 pub fn serve(
     alloc: Global,
     memory: Memory,
@@ -114,15 +139,16 @@ pub fn serve(
     ensures room { result ≡ 5
         → NeedsRoom (command_in words.now) input.now (length output.old) written.new }
     ensures usage { result ≢ 6 → ((result ≡ 2) ↔ (command_in words.now ≡ None)) }
+    ensures no_batch { result ≢ 5 → result ≢ 6
+        → ((result ≡ 3) ↔ IsNoBatchFor (command_in words.now) input.now) }
+    ensures broken_result { result ≢ 5 → result ≢ 6
+        → ((result ≡ 7) ↔ HasBrokenResult (command_in words.now) input.now) }
+    ensures statuses { (result ≡ 0) ⊎ (result ≡ 2) ⊎ (result ≡ 3) ⊎ (result ≡ 5) ⊎ (result ≡ 6)
+        ⊎ (result ≡ 7) }
+    ensures size { HasText result → written.new ≤ length output.new }
     ensures behind { drop written.new output.new ≡ drop written.new output.old }
     ensures kept { ¬ HasText result → output.new ≡ output.old }
     ensures told { ¬ HasText result → result ≢ 5 → written.new ≡ written.old }
 {
-    if !is_text(words) {
-        return WRONG_USAGE;
-    }
-    match str::from_utf8(words) {
-        Ok(line) => serve_line(alloc, memory, line, input, output, written),
-        Err(_) => unreachable!(),
-    }
+    serve_spelled(alloc, memory, words, input, output, written)
 }

@@ -68,7 +68,7 @@ impl TextSink {
 
 /// Prints lines of the reply text by themselves, each into memory of its own.
 ///
-/// All of them pass one buffer of 32 KiB, which is made once.
+/// All of them pass one buffer, which is made once.
 #[derive(Drop)]
 pub struct LinePrinter {
     /// Where the memory of the lines is from.

@@ -7,7 +7,8 @@
 //!
 //! Where lanes add and retire contexts, which lines a call has depends on the table at the text's
 //! end. So [`read_table`] reads it first, [`looked_up_lanes`] gives the calls as it tells that they
-//! were served, and [`read_live_result`] reads the lines of these (`specs/ToldLive.antt`).
+//! were served, and [`read_live_result`] reads the lines of these (`specs/ToldLive.antt`). The lines of
+//! the set-up don't depend on it: [`read_live_setup`] reads them alone.
 //!
 //! A contract sees a text as the lines that are left of it. Of a journal the lines are tested and no
 //! place is kept: [`JournalLines`] reads its first places again, so many as its reader wants.
@@ -44,7 +45,7 @@ pub use laws::{
     what_is_read_live_is_the_text,
 };
 pub use lines::{JournalLines, Lines, is_line};
-pub use live_reading::read_live_result;
+pub use live_reading::{read_live_result, read_live_setup};
 pub use looking_up::{live_calls, looked_up, looked_up_lanes};
 pub use printing::print_verdict;
 pub use reading::read_result;

@@ -118,6 +118,26 @@ fn read_live_lines(
     told.end()
 }
 
+/// What a text tells up to the end of its set-up, as a result of the plan, whose lanes add and retire
+/// contexts, where these are the replies to its key lines and its contexts.
+///
+/// A line that is wrong here is the one that [`read_live_result`] finds, whatever notes the table has.
+pub fn read_live_setup<'a>(
+    alloc: Global,
+    plan: &Plan,
+    keys: &[KeyReply],
+    replies: &[ContextReply],
+    text: &'a [u8],
+) -> Result<Told<'a>, Stop>
+    requires { length text.now ≤ most_input }
+    ensures { Tells (λ told. told) result
+        (with_setup 2 keys.now (take (lines_in plan.now) replies.now) (nothing_yet text.now)) }
+{
+    let mut told = Told::nothing_yet(alloc, text);
+    read_setup(&mut told, alloc, 2, keys, line_replies(plan, replies))?;
+    Ok(told)
+}
+
 /// What a text tells as a result of the plan, whose lanes add and retire contexts, where these are
 /// the replies to its key lines and its contexts, the contexts that stand, the notes of its table and
 /// its lanes as these say that they were served.

@@ -115,9 +115,9 @@ fn the_std_sink_flushes_each_write_and_answers_failed_where_one_fails(rt: HostRu
     );
 }
 
-// Reads and writes of so many bytes at once. In a buffer of field_text 32,768 bytes wait at most,
+// Reads and writes of so many bytes at once. In a buffer of field_text 8,192 bytes wait at most,
 // and the first read of a run is one of 65,536.
-const SIZES: [usize; 5] = [1, 4096, 20_000, 32_768, 65_536];
+const SIZES: [usize; 6] = [1, 4096, 8192, 20_000, 32_768, 65_536];
 
 // Reads and writes of a piece of this size.
 fn expect_whole(rt: &impl Abort, alloc: Global, size: usize) {

@@ -52,7 +52,7 @@ fn expect_long(rt: &impl Abort, alloc: Global, failing: u32, printed: Printed, c
 #[test]
 fn a_long_text_is_printed_in_pieces(rt: HostRuntime) {
     expect_long(&rt, rt.alloc(), 0, Printed::Whole, 80_000);
-    expect_long(&rt, rt.alloc(), 2, Printed::Failed, 32_768);
+    expect_long(&rt, rt.alloc(), 2, Printed::Failed, 8192);
 }
 
 // Own, by hand: what waited before the new beginning isn't written, and a failed write is forgotten.

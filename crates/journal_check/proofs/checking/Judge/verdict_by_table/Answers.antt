@@ -4,7 +4,7 @@ use Rattle.std.proofs.lemmas.Result.{IfOk-weaker}
 use Rattle.context_books.specs.LiveChecks.{tells_act}
 use Rattle.journal_check.proofs.LiveRead.{over_notes}
 use Rattle.journal_check.proofs.LiveSound.{table_acts}
-use Rattle.journal_check.proofs.checking.Judge.live_verdict.Goals as goal
+use Rattle.journal_check.proofs.checking.Judge.verdict_by_table.Goals as goal
 
 pub verdict_by_notes-requires-clause-acts : goal.verdict_by_notes-requires-clause-acts
 verdict_by_notes-requires-clause-acts c =
