@@ -288,7 +288,7 @@ def parser() -> argparse.ArgumentParser:
     form = argparse.RawDescriptionHelpFormatter
     made = Parser(prog="hpkebatch", usage="hpkebatch WORD ..", description=FRONT, formatter_class=form, allow_abbrev=False)
     made.add_argument("--version", nargs=0, action=Version, help="the version")
-    made.add_argument("--program", help="the program hpkebatch, where it isn't the one that is found by itself")
+    made.add_argument("--program", help=argparse.SUPPRESS)  # for tests: another program
     words = made.add_subparsers(title="words", metavar="WORD", required=True, parser_class=Parser, prog="hpkebatch")
 
     def word(name: str, do: Callable[[argparse.Namespace], int], says: str, example: str) -> argparse.ArgumentParser:

@@ -92,8 +92,8 @@ def read_head(source: Source) -> Head:
         suite = reader.suite()
         recipient, id, counts = reader.take(HASH_SIZE), reader.take(ID_SIZE), reader.take(SIZE_SIZE)
         enc = Reader(source.read(suite.kem.enc_size)).take(suite.kem.enc_size)
-    except ValueError as fault:
-        raise FileFault(source.name, f"it is spoilt in its head: {fault}") from None
+    except ValueError:
+        raise FileFault(source.name, "its head is cut or spoilt, or of a newer version") from None
     return Head(MAGIC, suite, recipient, id, counts, enc)
 
 

@@ -7,7 +7,7 @@ import sys
 import tempfile
 import unittest
 
-from common import PACKAGE, PROGRAM, read
+from common import HOME, PACKAGE, PROGRAM, read
 
 LISTING = re.compile(r"^```(python|sh)\n(.*?)^```$", re.M | re.S)
 
@@ -16,7 +16,8 @@ class Readme(unittest.TestCase):
     def test_listings(self):
         listings = LISTING.findall(read(os.path.join(PACKAGE, "README.md")).decode())
         self.assertEqual([kind for kind, _ in listings], ["sh", "python", "python"])
-        environment = {**os.environ, "PYTHONPATH": PACKAGE, "HPKEBATCH": PROGRAM}
+        path = f"{HOME}:{os.environ['PATH']}"
+        environment = {**os.environ, "PATH": path, "PYTHONPATH": PACKAGE, "HPKEBATCH": PROGRAM}
         with tempfile.TemporaryDirectory() as folder:
             with open(os.path.join(folder, "report.pdf"), "wb") as file:
                 file.write(b"a report")
