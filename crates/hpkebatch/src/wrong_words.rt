@@ -44,6 +44,9 @@ const MOST_SHOWN: usize = 60;
 impl fmt::Display for Shown<'_> {
     fn fmt<W: fmt::Write>(&self, f: &mut fmt::Formatter<W>) -> fmt::Result {
         let word = self.0;
+        if word.is_empty() {
+            return f.write_str("an empty word");
+        }
         if word.len() <= MOST_SHOWN && word.bytes().all(|byte| byte > 32 && byte < 127) {
             return f.write_str(word);
         }
