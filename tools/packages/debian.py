@@ -49,6 +49,7 @@ hpkebatch: unstripped-binary-or-object [usr/lib/hpkebatch/hpkebatch]
 OVERRIDES_OF_LIBRARY = """\
 # One package has the command, the library and the header: they are of one revision.
 hpkebatch: package-name-doesnt-match-sonames libhpkebatch0
+hpkebatch: link-to-shared-library-in-wrong-package usr/lib/x86_64-linux-gnu/libhpkebatch.so.0 [usr/lib/x86_64-linux-gnu/libhpkebatch.so]
 # The same for the library: its bytes are those of tools/make_library.
 hpkebatch: unstripped-binary-or-object [usr/lib/x86_64-linux-gnu/libhpkebatch.so.0]
 """
