@@ -60,8 +60,8 @@ def processor():
     return f"{names[0] if names else platform.machine()}, {len(names)} processors"
 
 
-def print_head():
+def print_head(runs=RUNS):
     """Prints when and where a table was measured, over which kit and revision."""
     kit = output_of(["rt", "version"]).split(" ")[0]
     revision = output_of(["git", "-C", HOME, "rev-parse", "--short", "HEAD"])
-    print(f"{datetime.date.today()}, {processor()}, best of {RUNS} runs; {kit}; revision {revision}")
+    print(f"{datetime.date.today()}, {processor()}, best of {runs} runs; {kit}; revision {revision}")
