@@ -3,6 +3,7 @@
 import atexit
 import contextlib
 import glob
+import importlib.util
 import io
 import os
 import shutil
@@ -27,6 +28,12 @@ ENVIRONMENT.pop("PYTHONDONTWRITEBYTECODE", None)
 command = Command(PROGRAM)
 
 Example = namedtuple("Example", "name words batch reply")
+
+
+def needs_second_program():
+    """Skips a test, or the rest of one, where tools/reference can't run: it needs a module that isn't Python's own."""
+    if importlib.util.find_spec("cryptography") is None:
+        raise unittest.SkipTest("the module cryptography is not installed")
 
 
 def read(path):

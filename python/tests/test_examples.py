@@ -6,7 +6,7 @@ import subprocess
 import sys
 import unittest
 
-from common import HERE, command, examples, example
+from common import HERE, command, example, examples, needs_second_program
 from hpkebatch import CapsuleReply, Reply, read_batch, read_capsules
 
 RANDOM = 24
@@ -85,6 +85,7 @@ class Examples(unittest.TestCase):
 class RandomBatches(unittest.TestCase):
     def test_batches_of_the_second_program(self):
         """They are rebuilt, its replies are printed back, and the program gives the same."""
+        needs_second_program()
         seed = os.environ.get("SEED", "43")
         script = os.path.join(HERE, "made_by_reference.py")
         made = subprocess.run([sys.executable, script, str(RANDOM), seed], capture_output=True, check=True).stdout

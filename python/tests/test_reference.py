@@ -5,7 +5,7 @@ import subprocess
 import sys
 
 import hpkebatch
-from common import HOME, InAFolder, changed, command, read, write
+from common import HOME, InAFolder, changed, command, needs_second_program, read, write
 from hpkebatch import SNTRUP761, SNTRUP857, Aead, Kdf, Limits, Psk, Sealed, fingerprint
 
 READER = os.path.join(HOME, "tools/reference/sealed.py")
@@ -13,6 +13,7 @@ EXAMPLE = os.path.join(HOME, "examples/sealed")
 
 
 def reader(*words):
+    needs_second_program()
     return subprocess.run([sys.executable, READER, *words], capture_output=True)
 
 
