@@ -84,7 +84,7 @@ from .suites import (
     Psk,
 )
 
-__version__ = "0.3.0"
+__version__ = "0.4.0"
 
 # All but `open`, which would take the place of Python's own: `unseal` is the same call.
 __all__ = [
