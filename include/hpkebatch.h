@@ -61,8 +61,9 @@ extern "C" {
 uint32_t hpkebatch_gcm_seal(const uint8_t *key, size_t key_len, const uint8_t nonce[12], const uint8_t *aad,
                             size_t aad_len, const uint8_t *text, size_t text_len, uint8_t *out, size_t out_len);
 
-/* Reads a key, a nonce, additional data and a ciphertext with its tag; writes the text to out, ct_len - 16 bytes, if
- * the tag holds, and else answers HPKEBATCH_FAILED. */
+/* Reads a key, a nonce, additional data and a ciphertext with its tag; if the tag holds, writes the text to out,
+ * and else answers HPKEBATCH_FAILED. out has ct_len - 16 bytes, or none where ct_len is smaller: that is
+ * HPKEBATCH_FAILED. */
 uint32_t hpkebatch_gcm_open(const uint8_t *key, size_t key_len, const uint8_t nonce[12], const uint8_t *aad,
                             size_t aad_len, const uint8_t *ct, size_t ct_len, uint8_t *out, size_t out_len);
 
@@ -155,10 +156,22 @@ uint32_t hpkebatch_sntrup857_recipient(hpkebatch_context *context, const uint8_t
 uint32_t hpkebatch_context_seal(hpkebatch_context *context, const uint8_t *aad, size_t aad_len, const uint8_t *text,
                                 size_t text_len, uint8_t *out, size_t out_len);
 
-/* Reads a recipient's context, additional data and a ciphertext with its tag; writes the text to out, ct_len - 16
- * bytes, and moves number on by 1, if the tag holds at number. */
+/* Reads a recipient's context, additional data and a ciphertext with its tag; if the tag holds at number, writes the
+ * text to out and moves number on by 1. out has ct_len - 16 bytes, or none where ct_len is smaller: that is
+ * HPKEBATCH_FAILED. */
 uint32_t hpkebatch_context_open(hpkebatch_context *context, const uint8_t *aad, size_t aad_len, const uint8_t *ct,
                                 size_t ct_len, uint8_t *out, size_t out_len);
+
+/* Reads a sender's context, additional data and a text, the first buffer_len - 16 bytes of buffer; writes the ciphertext
+ * in the text's place and the tag behind it, and moves number on by 1. */
+uint32_t hpkebatch_context_seal_in_place(hpkebatch_context *context, const uint8_t *aad, size_t aad_len,
+                                         uint8_t *buffer, size_t buffer_len);
+
+/* Reads a recipient's context, additional data and the ciphertext with its tag in buffer; if the tag holds at number,
+ * writes the text in the ciphertext's place, buffer_len - 16 bytes, leaves the tag behind it, and moves number on by 1.
+ * Fewer than 16 bytes are HPKEBATCH_FAILED. */
+uint32_t hpkebatch_context_open_in_place(hpkebatch_context *context, const uint8_t *aad, size_t aad_len,
+                                         uint8_t *buffer, size_t buffer_len);
 
 /* Reads a context and exporter_context; writes an exported secret to out, out_len bytes: at most 255 times the size of
  * the KDF's hash. */
@@ -180,7 +193,8 @@ uint32_t hpkebatch_context_seal_all(hpkebatch_context *context, const hpkebatch_
 
 /* Reads a recipient's context, and as many additional data as ciphertexts with their tags; writes the texts one behind
  * another to out, which has 16 bytes for each ciphertext fewer than those have, and moves number on by cts_len, if all
- * tags hold at the numbers from number on. HPKEBATCH_LIMIT is tested before the tags. */
+ * tags hold at the numbers from number on. HPKEBATCH_LIMIT is tested before the tags. A ciphertext of fewer than 16
+ * bytes counts for none in out: that is HPKEBATCH_FAILED. */
 uint32_t hpkebatch_context_open_all(hpkebatch_context *context, const hpkebatch_bytes *aads, size_t aads_len,
                                     const hpkebatch_bytes *cts, size_t cts_len, uint8_t *out, size_t out_len);
 

@@ -41,7 +41,10 @@ static void test_ciphers(void)
         CHECK(hpkebatch_gcm_open(key, key_len - 1, nonce, aad, 20, out, 76, opened, 60) == HPKEBATCH_WRONG_USAGE);
         CHECK(hpkebatch_gcm_open(key, 0, nonce, aad, 20, out, 76, opened, 60) == HPKEBATCH_WRONG_USAGE);
         CHECK(hpkebatch_gcm_open(key, key_len, nonce, aad, 20, out, 76, opened, 59) == HPKEBATCH_WRONG_USAGE);
-        CHECK(hpkebatch_gcm_open(key, key_len, nonce, aad, 20, out, 15, opened, 0) == HPKEBATCH_WRONG_USAGE);
+        for (size_t size = 0; size < 16; size++) {
+            CHECK(hpkebatch_gcm_open(key, key_len, nonce, aad, 20, out, size, opened, 0) == HPKEBATCH_FAILED);
+            CHECK(hpkebatch_gcm_open(key, key_len, nonce, aad, 20, out, size, opened, 1) == HPKEBATCH_WRONG_USAGE);
+        }
         CHECK(memcmp(opened, kept, 60) == 0);
 
         memset(out, 7, sizeof out);
@@ -158,7 +161,10 @@ static void test_messages(void)
     bytes_of(cts[0], out);
     out[0] ^= 0x80;
     CHECK(hpkebatch_context_open(&recipient, TEXT("Count-0"), out, 45, opened, 29) == HPKEBATCH_FAILED);
-    CHECK(hpkebatch_context_open(&recipient, TEXT("Count-0"), out, 15, opened, 0) == HPKEBATCH_WRONG_USAGE);
+    for (size_t size = 0; size < 16; size++) {
+        CHECK(hpkebatch_context_open(&recipient, TEXT("Count-0"), out, size, opened, 0) == HPKEBATCH_FAILED);
+        CHECK(hpkebatch_context_open(&recipient, TEXT("Count-0"), out, size, opened, 1) == HPKEBATCH_WRONG_USAGE);
+    }
     CHECK(memcmp(&recipient, &kept, sizeof kept) == 0);
 
     /* Numbers in a context that name nothing, and an export-only one. */
@@ -167,6 +173,89 @@ static void test_messages(void)
     CHECK(hpkebatch_context_seal(&sender, NONE, text, 29, out, 45) == HPKEBATCH_NOCIPHER);
     sender.aead = 7;
     CHECK(hpkebatch_context_seal(&sender, NONE, text, 29, out, 45) == HPKEBATCH_WRONG_USAGE);
+}
+
+/* A text of this size sealed in place, beside the other call, and opened in place, once after a bit was changed. The
+ * additional data are bytes of the text. */
+static void check_in_place(hpkebatch_context *sender, hpkebatch_context *recipient, const uint8_t *text, size_t size)
+{
+    static uint8_t buffer[65553], out[65553], before[65553];
+    hpkebatch_context other = *sender, kept = *recipient;
+    size_t aad_len = size % 50, changed = size * 5 % (size + 16);
+    memcpy(buffer, text, size);
+    memset(buffer + size, 7, 16);
+    CHECK(hpkebatch_context_seal(&other, text, aad_len, text, size, out, size + 16) == HPKEBATCH_DONE);
+    CHECK(hpkebatch_context_seal_in_place(sender, text, aad_len, buffer, size + 16) == HPKEBATCH_DONE);
+    CHECK(memcmp(buffer, out, size + 16) == 0);
+    CHECK(memcmp(sender, &other, sizeof other) == 0);
+
+    buffer[changed] ^= 1;
+    memcpy(before, buffer, size + 16);
+    CHECK(hpkebatch_context_open_in_place(recipient, text, aad_len, buffer, size + 16) == HPKEBATCH_FAILED);
+    CHECK(memcmp(buffer, before, size + 16) == 0);
+    CHECK(memcmp(recipient, &kept, sizeof kept) == 0);
+    buffer[changed] ^= 1;
+    CHECK(hpkebatch_context_open(&kept, text, aad_len, out, size + 16, before, size) == HPKEBATCH_DONE);
+    CHECK(hpkebatch_context_open_in_place(recipient, text, aad_len, buffer, size + 16) == HPKEBATCH_DONE);
+    CHECK(memcmp(buffer, text, size) == 0 && memcmp(before, text, size) == 0);
+    CHECK(memcmp(buffer + size, out + size, 16) == 0);
+    CHECK(memcmp(recipient, &kept, sizeof kept) == 0);
+}
+
+/* In place, for both key sizes: each size of a text up to 100, and large ones; and each refusal, which changes nothing. */
+static void test_in_place(void)
+{
+    static uint8_t text[65537];
+    const size_t large[] = {127, 128, 129, 1000, 1024, 4095, 16384, 65536, 65537};
+    hpkebatch_context sender, recipient, kept;
+    uint8_t buffer[45], before[45];
+    for (size_t i = 0; i < sizeof text; i++)
+        text[i] = (uint8_t)(i * 7 + (i >> 8));
+    for (uint16_t aead = HPKEBATCH_AES_128_GCM; aead <= HPKEBATCH_AES_256_GCM; aead++) {
+        CHECK(context_a_1_1(&sender, HPKEBATCH_SENDER, 200) == HPKEBATCH_DONE);
+        CHECK(context_a_1_1(&recipient, HPKEBATCH_RECIPIENT, 200) == HPKEBATCH_DONE);
+        sender.aead = recipient.aead = aead;
+        for (size_t size = 0; size <= 100; size++)
+            check_in_place(&sender, &recipient, text, size);
+        for (size_t i = 0; i < sizeof large / sizeof *large; i++)
+            check_in_place(&sender, &recipient, text, large[i]);
+        CHECK(sender.number == 101 + sizeof large / sizeof *large && recipient.number == sender.number);
+    }
+
+    /* The published message. */
+    CHECK(context_a_1_1(&sender, HPKEBATCH_SENDER, 1) == HPKEBATCH_DONE);
+    CHECK(context_a_1_1(&recipient, HPKEBATCH_RECIPIENT, 1) == HPKEBATCH_DONE);
+    bytes_of(text_hex, buffer);
+    CHECK(hpkebatch_context_seal_in_place(&sender, TEXT("Count-0"), buffer, 45) == HPKEBATCH_DONE);
+    CHECK(is_hex(buffer, cts[0]));
+
+    memcpy(before, buffer, sizeof buffer);
+    kept = recipient;
+    for (size_t size = 0; size < 16; size++) {
+        CHECK(hpkebatch_context_seal_in_place(&sender, TEXT("Count-0"), buffer, size) == HPKEBATCH_WRONG_USAGE);
+        CHECK(hpkebatch_context_open_in_place(&recipient, TEXT("Count-0"), buffer, size) == HPKEBATCH_FAILED);
+    }
+    CHECK(hpkebatch_context_seal_in_place(&recipient, TEXT("Count-0"), buffer, 45) == HPKEBATCH_ROLE);
+    CHECK(hpkebatch_context_open_in_place(&recipient, TEXT("Count-1"), buffer, 45) == HPKEBATCH_FAILED);
+    CHECK(hpkebatch_context_open_in_place(&recipient, TEXT("Count-0"), buffer, 44) == HPKEBATCH_FAILED);
+    CHECK(memcmp(&recipient, &kept, sizeof kept) == 0);
+    kept = sender;
+    CHECK(hpkebatch_context_seal_in_place(&sender, TEXT("Count-0"), buffer, 45) == HPKEBATCH_LIMIT);
+    CHECK(hpkebatch_context_open_in_place(&sender, TEXT("Count-0"), buffer, 45) == HPKEBATCH_ROLE);
+    CHECK(memcmp(&sender, &kept, sizeof kept) == 0);
+    sender.aead = recipient.aead = HPKEBATCH_EXPORT_ONLY;
+    CHECK(hpkebatch_context_seal_in_place(&sender, TEXT("Count-0"), buffer, 45) == HPKEBATCH_NOCIPHER);
+    CHECK(hpkebatch_context_open_in_place(&recipient, TEXT("Count-0"), buffer, 45) == HPKEBATCH_NOCIPHER);
+    sender.aead = recipient.aead = 7;
+    CHECK(hpkebatch_context_seal_in_place(&sender, TEXT("Count-0"), buffer, 45) == HPKEBATCH_WRONG_USAGE);
+    CHECK(hpkebatch_context_open_in_place(&recipient, TEXT("Count-0"), buffer, 45) == HPKEBATCH_WRONG_USAGE);
+    recipient.aead = HPKEBATCH_AES_128_GCM;
+    recipient.limit = 0; /* a tag is tested first */
+    CHECK(hpkebatch_context_open_in_place(&recipient, TEXT("Count-0"), buffer, 45) == HPKEBATCH_LIMIT);
+    CHECK(memcmp(buffer, before, sizeof buffer) == 0);
+    recipient.limit = 1;
+    CHECK(hpkebatch_context_open_in_place(&recipient, TEXT("Count-0"), buffer, 45) == HPKEBATCH_DONE);
+    CHECK(is_hex(buffer, text_hex) && memcmp(buffer + 29, before + 29, 16) == 0 && recipient.number == 1);
 }
 
 /* The same messages in one call, and each refusal of such a call. */
@@ -190,8 +279,10 @@ static void test_many(void)
     CHECK(hpkebatch_context_open_all(&recipient, aads, 2, ends, 2, opened, 57) == HPKEBATCH_WRONG_USAGE);
     CHECK(hpkebatch_context_open_all(&recipient, aads, 1, ends, 2, opened, 58) == HPKEBATCH_WRONG_USAGE);
     CHECK(hpkebatch_context_open_all(&sender, aads, 2, ends, 2, opened, 58) == HPKEBATCH_ROLE);
-    ends[1].size = 15;
-    CHECK(hpkebatch_context_open_all(&recipient, aads, 2, ends, 2, opened, 29) == HPKEBATCH_WRONG_USAGE);
+    for (ends[1].size = 0; ends[1].size < 16; ends[1].size++) {
+        CHECK(hpkebatch_context_open_all(&recipient, aads, 2, ends, 2, opened, 29) == HPKEBATCH_FAILED);
+        CHECK(hpkebatch_context_open_all(&recipient, aads, 2, ends, 2, opened, 30) == HPKEBATCH_WRONG_USAGE);
+    }
     ends[1].size = 45;
     CHECK(memcmp(&recipient, &kept, sizeof kept) == 0);
     CHECK(opened[0] == 7 && opened[57] == 7);
@@ -242,6 +333,7 @@ int main(void)
     test_ciphers();
     test_schedule();
     test_messages();
+    test_in_place();
     test_many();
     test_exports();
     return told("parts");

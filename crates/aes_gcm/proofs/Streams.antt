@@ -65,27 +65,19 @@ gctr-more key nonce i text stream start front whole done n is size more count so
     ∙ ap (λ xs. start ++ xs) (sym (gctr_from-first key nonce i rest stream n is size left count'))
     ∙ so_far
 
--- the step over a whole block; `next` is the place behind it
-pub gctr-block : (key nonce : List ℕ) (i : ℕ) (text stream start front whole : List ℕ) (done next : ℕ)
-    → stream ≡ cipher key (counter_block nonce i) → length stream ≡ 16
-    → done + 16 ≤ length text → next ≡ done + 16
-    → start ++ gctr_from key nonce i (drop done text) ≡ whole
-    → front ≡ start ++ xor_bytes (take 16 (drop done text)) stream
-    → front ++ gctr_from key nonce (i + 1) (drop next text) ≡ whole
-gctr-block key nonce i text stream start front whole done next is size more place so_far sum =
-    ap (λ n. front ++ gctr_from key nonce (i + 1) (drop n text)) place
-    ∙ gctr-more key nonce i text stream start front whole done 16 is size (omega arith) (omega arith) so_far sum
-
--- the step over block k of a text
-pub gctr-next : (key nonce : List ℕ) (k : ℕ) (text stream out next whole : List ℕ)
+-- the step over block k of a text, in its place
+pub gctr-next : (key nonce : List ℕ) (k : ℕ) (text stream next whole : List ℕ)
     → stream ≡ cipher key (counter_block nonce (k + 1)) → length stream ≡ 16 → 16 * k + 16 ≤ length text
-    → take (16 * k) out ++ gctr_from key nonce (k + 1) (drop (16 * k) text) ≡ whole
-    → take (16 * k + 16) next ≡ take (16 * k) out ++ xor_bytes (take 16 (drop (16 * k) text)) stream
-    → take (16 * (k + 1)) next ++ gctr_from key nonce (k + 1 + 1) (drop (16 * (k + 1)) text) ≡ whole
-gctr-next key nonce k text stream out next whole is size more so_far sum =
+    → take (16 * k) text ++ gctr_from key nonce (k + 1) (drop (16 * k) text) ≡ whole
+    → take (16 * k + 16) next ≡ take (16 * k) text ++ xor_bytes (take 16 (drop (16 * k) text)) stream
+    → drop (16 * k + 16) next ≡ drop (16 * k + 16) text
+    → take (16 * (k + 1)) next ++ gctr_from key nonce (k + 1 + 1) (drop (16 * (k + 1)) next) ≡ whole
+gctr-next key nonce k text stream next whole is size more so_far sum rest =
     let place : 16 * (k + 1) ≡ 16 * k + 16 = omega arith in
-    gctr-block key nonce (k + 1) text stream (take (16 * k) out) (take (16 * (k + 1)) next) whole (16 * k) (16 * (k + 1)) is size more place so_far
-    (ap (λ n. take n next) place ∙ sum)
+    ap (λ n. take n next ++ gctr_from key nonce (k + 1 + 1) (drop n next)) place
+    ∙ ap (λ xs. take (16 * k + 16) next ++ gctr_from key nonce (k + 1 + 1) xs) rest
+    ∙ gctr-more key nonce (k + 1) text stream (take (16 * k) text) (take (16 * k + 16) next) whole (16 * k) 16 is size
+    (omega arith) (omega arith) so_far sum
 
 -- the last block of a text, which may be cut
 pub gctr_from-rest : (key nonce : List ℕ) (i : ℕ) (text stream : List ℕ)

@@ -1,4 +1,4 @@
-//! Sums of blocks, and of a text and blocks of a key stream.
+//! Sums of blocks, and of a text and blocks of a key stream, in the text's place.
 
 ghost use Rattle.std.specs.Prelude.{◌≡◌, ◌≤◌, ◌+◌, ◌++◌, length, take, drop};
 ghost use Rattle.byte_strings.specs.Bytes.{xor_bytes};
@@ -12,26 +12,24 @@ pub(crate) fn add_blocks(a: Block, b: Block) -> Block
     (u8x16::from_array(a) ^ u8x16::from_array(b)).to_array()
 }
 
-// Writes the 16 bytes of the text from `at` on, with a block of the key stream added.
-pub(crate) fn add_block_at(out: &mut [u8], text: &[u8], at: usize, stream: &Block)
-    requires within { at + 16 ≤ length text.now }
-    requires room { length out.old ≡ length text.now }
-    ensures size { length out.new ≡ length text.now }
-    ensures bytes { take (at + 16) out.new
-        ≡ take at out.old ++ xor_bytes (take 16 (drop at text.now)) stream.now }
+// Adds a block of the key stream to the 16 bytes of a text from `at` on.
+pub(crate) fn add_block_at(text: &mut [u8], at: usize, stream: &Block)
+    requires { at + 16 ≤ length text.old }
+    ensures sum { take (at + 16) text.new
+        ≡ take at text.old ++ xor_bytes (take 16 (drop at text.old)) stream.now }
+    ensures rest { drop (at + 16) text.new ≡ drop (at + 16) text.old }
 {
     let sum = u8x16::from_slice(&text[at..]) ^ u8x16::from_array(*stream);
-    sum.copy_to_slice(&mut out[at..]);
+    sum.copy_to_slice(&mut text[at..]);
 }
 
-// Writes the rest of the text, from `at` on, with a block of the key stream added.
-pub(crate) fn add_rest(out: &mut [u8], text: &[u8], at: usize, stream: &Block)
-    requires within { at ≤ length text.now }
-    requires short { length text.now ≤ at + 16 }
-    requires room { length out.old ≡ length text.now }
-    ensures { out.new ≡ take at out.old ++ xor_bytes (drop at text.now) stream.now }
+// Adds a block of the key stream to the rest of a text, from `at` on.
+pub(crate) fn add_rest(text: &mut [u8], at: usize, stream: &Block)
+    requires within { at ≤ length text.old }
+    requires short { length text.old ≤ at + 16 }
+    ensures { text.new ≡ take at text.old ++ xor_bytes (drop at text.old) stream.now }
 {
     for i in 0..text.len() - at {
-        out[at + i] = text[at + i] ^ stream[i];
+        text[at + i] ^= stream[i];
     }
 }

@@ -2,7 +2,7 @@
 
 ghost use Rattle.std.specs.Prelude.{◌≡◌, ◌≤◌, ◌<◌, ◌+◌, ◌-◌, ◌*◌, ◌/◌, ◌^◌, ◌++◌, ℕ, [], length, take, drop, slice_index_or, IsTrue, ◌↔◌};
 ghost use Rattle.aes_block.specs.Cipher.{IsKey, cipher};
-ghost use Rattle.aes_gcm.specs.Gcm.{hash_key, counter_block, j0, gctr_from, gctr, hash_of, seal, Holds, clear};
+ghost use Rattle.aes_gcm.specs.Gcm.{hash_key, counter_block, j0, gctr_from, gctr, hash_of, seal, Holds, last_16, clear};
 ghost use Rattle.aes_gcm.specs.Groups.{IsGroup};
 
 use crate::adding::{add_block_at, add_blocks, add_rest};
@@ -106,65 +106,70 @@ impl GcmKey {
 
     // Adds the key stream to the whole blocks of a text, and tells how many they are. `group` is that
     // of counter block 0, and then that of the last block.
-    fn add_blocks_of(
-        &self,
-        nonce: &[u8; 12],
-        text: &[u8],
-        out: &mut [u8],
-        group: &mut Blocks,
-    ) -> usize
-        requires room { length out.old ≡ length text.now }
-        requires first { IsGroup self.now nonce.now 0 group.old }
-        ensures count { result ≡ length text.now / 16 }
-        ensures size { length out.new ≡ length text.now }
+    fn add_blocks_of(&self, nonce: &[u8; 12], text: &mut [u8], group: &mut Blocks) -> usize
+        requires { IsGroup self.now nonce.now 0 group.old }
+        ensures count { result ≡ length text.old / 16 }
         ensures last { IsGroup self.now nonce.now result group.new }
-        ensures sum { take (16 * result) out.new
-            ++ gctr_from self.now nonce.now (result + 1) (drop (16 * result) text.now)
-            ≡ gctr self.now nonce.now text.now }
+        ensures sum { take (16 * result) text.new
+            ++ gctr_from self.now nonce.now (result + 1) (drop (16 * result) text.new)
+            ≡ gctr self.now nonce.now text.old }
     {
         let blocks = text.len() / 16;
         for k in 0..blocks {
             let stream = self.next_block(nonce, k as u64 + 1, group);
-            add_block_at(out, text, 16 * k, &stream);
+            add_block_at(text, 16 * k, &stream);
         }
         blocks
     }
 
-    // GCTR from counter block 1 on (SP 800-38D, 6.5), and the cipher of counter block 0, J0.
+    // GCTR from counter block 1 on (SP 800-38D, 6.5), in the text's place, and the cipher of counter
+    // block 0, J0.
     //
     // Counter blocks are encrypted in groups of eight, those whose counters are equal but for the last
     // three bits. J0, whose counter is 1, stands in the first group, so a text of up to six blocks
     // and the mask of its tag take one group together.
-    fn add_key_stream(&self, nonce: &[u8; 12], text: &[u8], out: &mut [u8]) -> Block
-        requires { length out.old ≡ length text.now }
-        ensures sum { out.new ≡ gctr self.now nonce.now text.now }
+    fn add_key_stream(&self, nonce: &[u8; 12], text: &mut [u8]) -> Block
+        ensures sum { text.new ≡ gctr self.now nonce.now text.old }
         ensures mask { result ≡ cipher self.now (j0 nonce.now) }
     {
         let mut group = self.group(nonce, 0);
         let mask = group[1];
-        let blocks = self.add_blocks_of(nonce, text, out, &mut group);
+        let blocks = self.add_blocks_of(nonce, text, &mut group);
         if 16 * blocks < text.len() {
             let stream = self.next_block(nonce, blocks as u64 + 1, &mut group);
-            add_rest(out, text, 16 * blocks, &stream);
+            add_rest(text, 16 * blocks, &stream);
         }
         mask
     }
 
-    /// The authenticated encryption function (SP 800-38D, 7.1): fills `out` with the ciphertext, as
-    /// long as `text`, and the tag of 16 bytes.
+    /// The authenticated encryption function (SP 800-38D, 7.1), in place: `buffer` has a text and 16
+    /// bytes behind it, and then the ciphertext and the tag.
     ///
     /// The limit of 2^36 - 32 bytes is the standard's for a text, that of 2^61 its for `aad`. That
     /// no two texts are sealed with the same key and nonce is the caller's to keep.
     #[tactic(auto, unfolding(crate::specs::Gcm::seal, crate::specs::Gcm::tag_of))]
+    pub fn seal_in_place(&self, nonce: &[u8; 12], aad: &[u8], buffer: &mut [u8])
+        requires room { 16 ≤ length buffer.old }
+        requires text { length buffer.old - 16 ≤ 2 ^ 36 - 32 }
+        requires aad { length aad.now < 2 ^ 61 }
+        ensures { buffer.new
+            ≡ seal self.now nonce.now aad.now (take (length buffer.old - 16) buffer.old) }
+    {
+        let (text, tag) = buffer.split_at_mut(buffer.len() - 16);
+        let mask = self.add_key_stream(nonce, text);
+        tag.copy_from_slice(&add_blocks(self.hash(aad, text), mask));
+    }
+
+    /// The same of a `text`: fills `out` with the ciphertext, as long as `text`, and the tag of 16
+    /// bytes.
     pub fn seal_into(&self, nonce: &[u8; 12], aad: &[u8], text: &[u8], out: &mut [u8])
         requires room { length out.old ≡ length text.now + 16 }
         requires text { length text.now ≤ 2 ^ 36 - 32 }
         requires aad { length aad.now < 2 ^ 61 }
         ensures { out.new ≡ seal self.now nonce.now aad.now text.now }
     {
-        let (ct, tag) = out.split_at_mut(text.len());
-        let mask = self.add_key_stream(nonce, text, ct);
-        tag.copy_from_slice(&add_blocks(self.hash(aad, ct), mask));
+        out[..text.len()].copy_from_slice(text);
+        self.seal_in_place(nonce, aad, out);
     }
 
     /// Whether the authenticated decryption function (SP 800-38D, 7.2) finds that `ct` was sealed
@@ -184,16 +189,29 @@ impl GcmKey {
         self.hashed(aad, ct).holds_at(nonce)
     }
 
-    /// The plaintext of the authenticated decryption function (SP 800-38D, 7.2): fills `out` with
-    /// the decryption of all but the last 16 bytes of `ct`.
+    /// The plaintext of the authenticated decryption function (SP 800-38D, 7.2), in place: all but the
+    /// last 16 bytes of `buffer` become their decryption, and the tag behind them stays.
     ///
     /// Its condition is that the tag holds, as `check_tag` told: the tag isn't computed again.
+    #[tactic(auto, unfolding(crate::specs::Gcm::clear))]
+    pub fn decrypt_in_place(&self, nonce: &[u8; 12], aad: &[u8], buffer: &mut [u8])
+        requires { Holds self.now nonce.now aad.now buffer.old }
+        ensures text { take (length buffer.old - 16) buffer.new
+            ≡ clear self.now nonce.now buffer.old }
+        ensures tag { last_16 buffer.new ≡ last_16 buffer.old }
+    {
+        let (text, _) = buffer.split_at_mut(buffer.len() - 16);
+        self.add_key_stream(nonce, text);
+    }
+
+    /// The same of a `ct`: fills `out` with the decryption of all but the last 16 bytes.
     #[tactic(auto, unfolding(crate::specs::Gcm::clear))]
     pub fn decrypt_into(&self, nonce: &[u8; 12], aad: &[u8], ct: &[u8], out: &mut [u8])
         requires holds { Holds self.now nonce.now aad.now ct.now }
         requires room { length out.old + 16 ≡ length ct.now }
         ensures { out.new ≡ clear self.now nonce.now ct.now }
     {
-        self.add_key_stream(nonce, &ct[..out.len()], out);
+        out.copy_from_slice(&ct[..out.len()]);
+        self.add_key_stream(nonce, out);
     }
 }

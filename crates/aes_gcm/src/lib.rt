@@ -2,8 +2,9 @@
 //!
 //! A contract sees a [`GcmKey`] as its key's bytes. [`GcmKey::seal_into`], [`GcmKey::check_tag`]
 //! and [`GcmKey::decrypt_into`] are `seal`, `Holds` and `clear` of `specs/Gcm.antt`, for all inputs
-//! within the standard's lengths. Opening is two calls: a tag is checked first, and only then is
-//! anything decrypted. [`Checks`] counts the tags that `check_tag` checked. A [`HashedCiphertext`]
+//! within the standard's lengths; [`GcmKey::seal_in_place`] and [`GcmKey::decrypt_in_place`] work on
+//! one buffer. Opening is two calls: a tag is checked first, and only then is anything decrypted.
+//! [`Checks`] counts the tags that `check_tag` checked. A [`HashedCiphertext`]
 //! is checked at many nonces for one hash, and isn't counted.
 //!
 //! Nothing here refuses, takes memory or is wiped. No branch and no address depends on a key, a text

@@ -28,7 +28,7 @@ pub extern "C" fn hpkebatch_gcm_seal(
 }
 
 /// The authenticated decryption function (SP 800-38D, 7.2): checks the tag, and then fills `out` with the
-/// text, 16 bytes fewer than `ct`. `key` has 16 or 32 bytes.
+/// text, 16 bytes fewer than `ct`; none where `ct` has fewer than 16. `key` has 16 or 32 bytes.
 #[unsafe(no_mangle)]
 pub extern "C" fn hpkebatch_gcm_open(
     memory: Memory,

@@ -10,6 +10,16 @@ IsKeySize size = (size ≡ 16) ⊎ (size ≡ 32)
 abbrev pub FitsSeal : ℕ → ℕ → ℕ → Type 0
 FitsSeal aad text room = (aad < 2 ^ 61) × (text ≤ 2 ^ 36 - 32) × (room ≡ text + 16)
 
--- of additional data, ciphertext and room: what can be opened, and room for the text
+-- of additional data and buffer: the same, where the text stands in the buffer, before room for the
+-- tag
+abbrev pub FitsSealInPlace : ℕ → ℕ → Type 0
+FitsSealInPlace aad buffer = (aad < 2 ^ 61) × (16 ≤ buffer) × (buffer ≤ 2 ^ 36 - 16)
+
+-- of additional data, ciphertext and room: what can be opened, and room for the text. That is none
+-- for a ciphertext of fewer than 16 bytes, which has no tag that holds.
 abbrev pub FitsOpen : ℕ → ℕ → ℕ → Type 0
-FitsOpen aad ct room = (aad < 2 ^ 61) × (ct ≤ 2 ^ 36 - 16) × (ct ≡ room + 16)
+FitsOpen aad ct room = (aad < 2 ^ 61) × (ct ≤ 2 ^ 36 - 16) × (room ≡ ct - 16)
+
+-- of additional data and ciphertext: the same, where the text takes the ciphertext's place
+abbrev pub FitsOpenInPlace : ℕ → ℕ → Type 0
+FitsOpenInPlace aad ct = (aad < 2 ^ 61) × (ct ≤ 2 ^ 36 - 16)

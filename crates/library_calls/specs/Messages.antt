@@ -50,7 +50,7 @@ sealed_all c aads texts =
 
 -- ---- opening
 
--- the size of text i, without its tag
+-- the size of text i, without its tag: 0 where there is none
 abbrev pub opened_size : List (Bor (List ℕ)) → ℕ → ℕ
 opened_size cts i = length (item cts i) - 16
 
@@ -59,7 +59,6 @@ opened_size cts i = length (item cts i) - 16
 pub record FitsOpenAll (aads cts : List (Bor (List ℕ))) (room : ℕ) : Type 0 where
   pub count : length aads ≡ length cts
   pub aad : (k : ℕ) → k < length cts → length (item aads k) < 2 ^ 61
-  pub least : (k : ℕ) → k < length cts → 16 ≤ length (item cts k)
   pub most : (k : ℕ) → k < length cts → length (item cts k) ≤ 2 ^ 36 - 16
   pub room_is : room ≡ added (opened_size cts) (length cts)
 

@@ -2,7 +2,7 @@
 
 ghost use Rattle.std.specs.Prelude.{◌≡◌, ◌≢◌, ◌⊎◌, ◌↔◌, length, IsTrue, IsSome, IfSome};
 ghost use Rattle.aes_gcm.specs.Gcm.{seal, clear, Holds};
-ghost use Rattle.library_calls.specs.Lengths.{IsKeySize, FitsSeal, FitsOpen};
+ghost use Rattle.library_calls.specs.Lengths.{IsKeySize, FitsSeal, FitsSealInPlace, FitsOpen, FitsOpenInPlace};
 ghost use Rattle.library_calls.specs.Statuses.{done, wrong_usage, refused_failed};
 
 use crate::statuses::{REFUSED_FAILED, WRONG_USAGE};
@@ -39,15 +39,26 @@ pub(crate) fn fits_seal(aad: &[u8], text: &[u8], out: &[u8]) -> bool
     aad.len() < AAD_END && text.len() <= MOST_TEXT && out.len() == text.len() + 16
 }
 
+/// Whether the text before the last 16 bytes of `buffer` can be sealed.
+pub(crate) fn fits_seal_in_place(aad: &[u8], buffer: &[u8]) -> bool
+    ensures { IsTrue result ↔ FitsSealInPlace (length aad.now) (length buffer.now) }
+{
+    aad.len() < AAD_END && buffer.len() >= 16 && buffer.len() <= MOST_TEXT + 16
+}
+
+/// Whether this can be opened.
+pub(crate) fn fits_open_in_place(aad: &[u8], ct: &[u8]) -> bool
+    ensures { IsTrue result ↔ FitsOpenInPlace (length aad.now) (length ct.now) }
+{
+    aad.len() < AAD_END && ct.len() <= MOST_TEXT + 16
+}
+
 /// Whether this can be opened, with room for it.
 pub(crate) fn fits_open(aad: &[u8], ct: &[u8], out: &[u8]) -> bool
     ensures { IsTrue result
         ↔ FitsOpen (length aad.now) (length ct.now) (length out.now) }
 {
-    aad.len() < AAD_END
-        && ct.len() <= MOST_TEXT + 16
-        && ct.len() >= 16
-        && out.len() == ct.len() - 16
+    fits_open_in_place(aad, ct) && out.len() == ct.len().saturating_sub(16)
 }
 
 /// The authenticated encryption function (SP 800-38D, 7.1): fills `out` with the ciphertext and the tag,
@@ -70,7 +81,7 @@ pub fn gcm_seal(key: &[u8], nonce: &[u8; 12], aad: &[u8], text: &[u8], out: &mut
 }
 
 /// The authenticated decryption function (SP 800-38D, 7.2): checks the tag, and then fills `out` with the
-/// text, 16 bytes fewer than `ct`. `key` has 16 or 32 bytes.
+/// text, 16 bytes fewer than `ct`; none where `ct` has fewer than 16. `key` has 16 or 32 bytes.
 pub fn gcm_open(
     memory: Memory,
     key: &[u8],

@@ -140,14 +140,15 @@ pub fn context_seal_all(
 // How many bytes a text takes of those that are left, or none where its ciphertext can't be opened.
 fn opened_within(aad: &[u8], ct: &[u8], left: usize) -> Option<usize>
     ensures size { IfSome result (λ n. (n ≡ length ct.now - 16) × (n ≤ left)
-        × (length aad.now < 2 ^ 61) × (16 ≤ length ct.now) × (length ct.now ≤ 2 ^ 36 - 16)) }
-    ensures none { IfNone result ((2 ^ 61 ≤ length aad.now) ⊎ (length ct.now < 16)
-        ⊎ (2 ^ 36 - 16 < length ct.now) ⊎ (left < length ct.now - 16)) }
+        × (length aad.now < 2 ^ 61) × (length ct.now ≤ 2 ^ 36 - 16)) }
+    ensures none { IfNone result ((2 ^ 61 ≤ length aad.now) ⊎ (2 ^ 36 - 16 < length ct.now)
+        ⊎ (left < length ct.now - 16)) }
 {
-    if aad.len() >= AAD_END || ct.len() < 16 || ct.len() > MOST_TEXT + 16 || left < ct.len() - 16 {
+    let size = ct.len().saturating_sub(16);
+    if aad.len() >= AAD_END || ct.len() > MOST_TEXT + 16 || left < size {
         return None;
     }
-    Some(ct.len() - 16)
+    Some(size)
 }
 
 // Whether all can be opened, with room for just that.

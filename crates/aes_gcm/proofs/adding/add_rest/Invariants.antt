@@ -4,6 +4,7 @@ use Rattle.aes_gcm.proofs.adding.add_rest.Given as goal
 
 abbrev pub invariant-loop-i : goal.invariant-loop-i
 invariant-loop-i l = record {
-  sum : take (l.at + l.i) l.out ≡ take l.at l.fn.out ++ xor_bytes (take l.i (drop l.at l.text)) l.stream;
-  size : length l.out ≡ length l.text;
+  sum : take (l.at + l.i) l.text ≡ take l.at l.fn.text ++ xor_bytes (take l.i (drop l.at l.fn.text)) l.stream;
+  left : drop (l.at + l.i) l.text ≡ drop (l.at + l.i) l.fn.text;
+  size : length l.text ≡ length l.fn.text;
 }

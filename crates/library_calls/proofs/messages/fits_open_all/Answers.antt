@@ -7,7 +7,6 @@ pub loop-k-init : goal.loop-k-init
 loop-k-init c = record {
   sum = omega (arith, added-none (opened_size c.args.cts.now));
   aad = λ j lt. absurd (omega (arith, lt));
-  least = λ j lt. absurd (omega (arith, lt));
   most = λ j lt. absurd (omega (arith, lt));
 }
 
@@ -20,7 +19,7 @@ returns-in_default c =
     let ct_is : length c.item-in-loop-k.result.now ≡ length (item cts k) =
     ap length c.item-in-loop-k.ensures in
     let lt = c.loop-k-test.true in
-    (search rules, λ fits. absurd (omega (arith, aad_is, ct_is, c.in_default.ensures.none, fits.aad k lt, fits.least k lt, fits.most k lt, fits.room_is, c.loop-k.invariant.sum, added-within (opened_size cts) k (length cts) lt)))
+    (search rules, λ fits. absurd (omega (arith, aad_is, ct_is, c.in_default.ensures.none, fits.aad k lt, fits.most k lt, fits.room_is, c.loop-k.invariant.sum, added-within (opened_size cts) k (length cts) lt)))
 
 pub loop-k-preserved : goal.loop-k-preserved
 loop-k-preserved c =
@@ -32,11 +31,9 @@ loop-k-preserved c =
     let ct_is : length c.item-in-loop-k.result.now ≡ length (item cts k) =
     ap length c.item-in-loop-k.ensures in
     let aad_fits : length (item aads k) < 2 ^ 61 = omega (arith, told, aad_is) in
-    let least_fits : 16 ≤ length (item cts k) = omega (arith, told, ct_is) in
     let most_fits : length (item cts k) ≤ 2 ^ 36 - 16 = omega (arith, told, ct_is) in
     record {
       sum = omega (arith, told, ct_is, c.loop-k.invariant.sum, added-more (opened_size cts) k);
       aad = below-next (λ j. length (item aads j) < 2 ^ 61) k c.loop-k.invariant.aad aad_fits;
-      least = below-next (λ j. 16 ≤ length (item cts j)) k c.loop-k.invariant.least least_fits;
       most = below-next (λ j. length (item cts j) ≤ 2 ^ 36 - 16) k c.loop-k.invariant.most most_fits;
     }

@@ -6,6 +6,5 @@ abbrev pub invariant-loop-k : goal.invariant-loop-k
 invariant-loop-k l = record {
   sum : l.left + added (opened_size l.cts) l.k ≡ l.room;
   aad : (j : ℕ) → j < l.k → length (item l.aads j) < 2 ^ 61;
-  least : (j : ℕ) → j < l.k → 16 ≤ length (item l.cts j);
   most : (j : ℕ) → j < l.k → length (item l.cts j) ≤ 2 ^ 36 - 16;
 }
