@@ -17,7 +17,6 @@ use Rattle.hpke_aead.proofs.Opening.{IsWhole, key_is_whole, seal-holds, seal-cle
 use Rattle.hpke_context.specs.Answers.{Unseal, Cipher, Sealed_at, Opened_at, Failed_at, At_limit, answer, next, run}
 use Rattle.hpke_aead.specs.Aeads.{seal, tag_holds, clear}
 use Rattle.hpke_context.specs.Contexts.{ContextView, key_in, nonce_of, cipher_of}
-
 use Rattle.hpke_aead.proofs.Tags.{tag_holds-is}
 use Rattle.context_table.specs.Laws.{Message, to_seal, to_open, sealed_from, OpensInOrder}
 

@@ -20,8 +20,8 @@ IsWhole (Gcm key) = gcm_opening.IsWhole key
 
 pub key_is_whole : (aead : Aead) (bytes : List ℕ) → IsTrue (encrypts aead) → length bytes ≡ (parameters aead).key_size
     → IsWhole (key_of aead bytes)
-key_is_whole Aes128 bytes can size block = length-cipher bytes block (inl size)
-key_is_whole Aes256 bytes can size block = length-cipher bytes block (inr size)
+key_is_whole Aes128 bytes can size = λ block. length-cipher bytes block (inl size)
+key_is_whole Aes256 bytes can size = λ block. length-cipher bytes block (inr size)
 key_is_whole ExportOnly bytes can size = absurd (let no : false ≡ true = can in cc)
 
 pub seal-holds : (key : AeadKey) (nonce aad text : List ℕ) → IsWhole key → Holds key nonce aad (seal key nonce aad text)
@@ -51,13 +51,13 @@ length-clear (Gcm key) nonce ct whole =
 pub holds-long : (key : AeadKey) (nonce aad ct : List ℕ) → Holds key nonce aad ct → 16 ≤ length ct
 holds-long (Gcm key) nonce aad ct holds = holds.long
 
-opens-holds : (aead : Aead) (bytes nonce aad text : List ℕ) → IsTrue (encrypts aead)
+pub opens-holds : (aead : Aead) (bytes nonce aad text : List ℕ) → IsTrue (encrypts aead)
     → length bytes ≡ (parameters aead).key_size
     → Holds (key_of aead bytes) nonce aad (seal (key_of aead bytes) nonce aad text)
 opens-holds aead bytes nonce aad text can size =
     seal-holds (key_of aead bytes) nonce aad text (key_is_whole aead bytes can size)
 
-opens-text : (aead : Aead) (bytes nonce aad text : List ℕ) → IsTrue (encrypts aead)
+pub opens-text : (aead : Aead) (bytes nonce aad text : List ℕ) → IsTrue (encrypts aead)
     → length bytes ≡ (parameters aead).key_size
     → clear (key_of aead bytes) nonce (seal (key_of aead bytes) nonce aad text) ≡ text
 opens-text aead bytes nonce aad text can size =

@@ -9,7 +9,6 @@ use Rattle.key_schedule.specs.Schedule.{cipher_secrets_for}
 use Rattle.key_schedule.specs.declared.modes.Role.{Role}
 use Rattle.hpke_aead.proofs.Opening.{IsWhole, key_is_whole}
 use Rattle.hpke_context.specs.Contexts.{ContextView, key_in}
-
 use Rattle.ohttp_capsule.specs.Requests.{context_of}
 use Rattle.ohttp_capsule.specs.Responses.{key_size, response_prk, aead_key}
 

@@ -9,7 +9,6 @@ use Rattle.hkdf_labelled.specs.declared.suites.Kdf.{Kdf}
 use Rattle.hkdf_labelled.specs.declared.suites.Kdf.TheVariants.{Sha256, Sha384, Sha512}
 use Rattle.hkdf_labelled.specs.declared.suites.Aead.{Aead}
 use Rattle.hkdf_labelled.specs.declared.suites.Aead.TheVariants.{Aes128, Aes256, ExportOnly}
-
 use Rattle.ohttp_capsule.specs.Headers.{header, suites_of, suite_named, Names}
 use Rattle.ohttp_capsule.specs.Laws.{NamesOne}
 

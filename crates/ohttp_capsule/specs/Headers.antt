@@ -7,7 +7,6 @@ use Rattle.hkdf_labelled.specs.declared.suites.Suite.{Suite}
 use Rattle.hkdf_labelled.specs.declared.suites.Kdf.TheVariants as kdfs
 use Rattle.hkdf_labelled.specs.declared.suites.Aead.TheVariants as aeads
 
-
 -- the size of hdr: one byte for the key identifier, and two for each of the three algorithms
 abbrev pub header_size : ℕ
 header_size = 7
