@@ -4,7 +4,8 @@ use Rattle.std.specs.Prelude.{◌≢◌, nat_lt}
 use Rattle.ring_core.specs.Sets.{Set}
 use Rattle.sntrup_kem.specs.Laws.{BothEndsAgree}
 use Rattle.hkdf_labelled.specs.declared.suites.Suite.{Suite}
-use Rattle.hpke_context.specs.Contexts.{cipher_of, tag_holds}
+use Rattle.hpke_aead.specs.Aeads.{tag_holds}
+use Rattle.hpke_context.specs.Contexts.{cipher_of}
 use Rattle.context_table.specs.Keys.{KeyView}
 use Rattle.ohttp_capsule.specs.declared.asking.Asked.{Asked}
 use Rattle.ohttp_capsule.specs.declared.faults.CapsuleFault.{CapsuleFault}

@@ -9,7 +9,7 @@ use Rattle.call_places.specs.declared.spans.Span.{Span}
 use Rattle.call_places.specs.Spans.{span_bytes}
 use Rattle.hkdf_labelled.specs.declared.suites.Aead.{Aead}
 use Rattle.hkdf_labelled.specs.declared.suites.Aead.TheVariants.{Aes128, Aes256, ExportOnly}
-use Rattle.hpke_context.specs.Calls.{encrypts}
+use Rattle.hkdf_labelled.specs.Suites.{encrypts}
 use Rattle.ohttp_capsule.specs.Laws.{Asks, WholeExchange}
 use Rattle.ohttp_capsule.specs.Replies.{taken}
 use Rattle.batch_plans.specs.declared.plan.Plan.{Plan}

@@ -12,7 +12,8 @@ use Rattle.hpke_context.specs.Answers.{Item, Unseal, Cipher, Opened_at, Failed_a
 use Rattle.context_books.specs.Batches.{place}
 use Rattle.context_books.specs.Entries.{entry, entries_from, step_for, steps_from, numbers_from}
 use Rattle.context_books.specs.Guesses.{is_in_window, missed}
-use Rattle.aes_gcm.specs.Gcm.{Holds}
+use Rattle.hpke_aead.specs.declared.keys.AeadKey.{AeadKey}
+use Rattle.hpke_aead.specs.Aeads.{Holds}
 use Rattle.call_places.specs.Messages.{SealedMessage, sealed_message, sealed_messages}
 use Rattle.speculative_open.specs.Tables.{IsChecked}
 use Rattle.context_books.specs.Books.{opened_at}
@@ -22,7 +23,7 @@ use Rattle.context_books.proofs.Blocks.{entries-push}
 -- ---- one item
 
 -- a verdict on the same bytes
-pub holds_moved : {key key' nonce nonce' aad aad' ct ct' : List ℕ} {b : Bool} → key ≡ key' → nonce ≡ nonce' → aad ≡ aad' → ct ≡ ct'
+pub holds_moved : {key key' : AeadKey} {nonce nonce' aad aad' ct ct' : List ℕ} {b : Bool} → key ≡ key' → nonce ≡ nonce' → aad ≡ aad' → ct ≡ ct'
     → IsTrue b ↔ Holds key nonce aad ct → IsTrue b ↔ Holds key' nonce' aad' ct'
 holds_moved {b = b} e f g h told = subst (λ (T : Type 0). IsTrue b ↔ T) (λ i. Holds (e i) (f i) (g i) (h i)) told
 

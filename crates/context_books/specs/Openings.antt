@@ -4,7 +4,8 @@ use Rattle.std.specs.Prelude.{ℕ, ◌≡◌, List, map}
 use Rattle.call_places.specs.declared.entries.Step.{Step}
 use Rattle.call_places.specs.declared.spans.Item as spans
 use Rattle.hpke_context.specs.Answers.{Item, Unseal}
-use Rattle.hpke_context.specs.Contexts.{ContextView, key_in, base_nonce_in, cipher_of}
+use Rattle.key_schedule.specs.Secrets.{base_nonce_in}
+use Rattle.hpke_context.specs.Contexts.{ContextView, key_in, cipher_of}
 use Rattle.context_books.specs.Entries.{steps_from, numbers_from}
 use Rattle.context_books.specs.Guesses.{missed}
 use Rattle.call_places.specs.Messages.{SealedMessage, sealed_messages}

@@ -14,7 +14,7 @@ use Rattle.key_schedule.specs.declared.psks.PskFault.{PskFault}
 use Rattle.key_schedule.specs.declared.schedules.Secrets.{Secrets}
 use Rattle.key_schedule.specs.Schedule.{key_schedule}
 use Rattle.hpke_context.specs.Contexts.{ContextView}
-use Rattle.hpke_context.specs.Calls.{encrypts}
+use Rattle.hkdf_labelled.specs.Suites.{encrypts}
 use Rattle.call_places.specs.Spans.{span_bytes}
 use Rattle.batch_plans.specs.declared.plan.Plan.{Plan}
 use Rattle.batch_plans.specs.declared.plan.KeyLine.{KeyLine}
@@ -41,7 +41,7 @@ use Rattle.context_table.specs.SetUp.{IsSetUp}
 use Rattle.context_table.specs.Laws.{NamesEnc, AskAlike, EndsMatch}
 use Rattle.context_table.proofs.Lists.{slice_get-take, some_within}
 use Rattle.context_table.proofs.Sizes.{length-enc_of}
-use Rattle.context_table.proofs.Messages.{key_is_whole, opens_in_order}
+use Rattle.context_table.proofs.Messages.{secrets_are_whole, opens_in_order}
 
 -- what is known of both KEMs
 pub record Agrees (set : Set) : Type 0 where
@@ -288,7 +288,7 @@ ends_match_lem a b plan keys contexts standing k s t sender recipient set_up end
       secrets = refl;
       opens = λ can. opens_in_order (standing_as sender made.kem.id side.secrets)
           (standing_as recipient made.kem.id side.secrets) refl
-          (key_is_whole (suite_of made.kem.id sender) sender.mode
+          (secrets_are_whole (suite_of made.kem.id sender) sender.mode
           (sent_secret plan made.kem ends.public s) _ _ _ side.secrets side.scheduled_to
           (subst (λ aead. IsTrue (encrypts aead)) ends.alike.aead can));
     }

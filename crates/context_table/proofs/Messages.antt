@@ -3,69 +3,48 @@ use Rattle.std.proofs.Common.{◌≡◌, ◌<◌, ◌≤◌, ◌+◌, ℕ, Bool,
 use Rattle.std.specs.Prelude.{nat_lt, IsTrue}
 use Rattle.std.specs.Result.{result_and}
 use Rattle.std.proofs.lemmas.Bool.{cond-true, lt-ltb}
-use Rattle.std.proofs.lemmas.List.{length-take-le}
-use Rattle.hkdf_labelled.specs.declared.suites.Kdf.{Kdf}
-use Rattle.hkdf_labelled.specs.declared.suites.Kdf.TheVariants.{Sha256, Sha384, Sha512}
 use Rattle.hkdf_labelled.specs.declared.suites.Aead.{Aead}
 use Rattle.hkdf_labelled.specs.declared.suites.Aead.TheVariants.{Aes128, Aes256, ExportOnly}
 use Rattle.hkdf_labelled.specs.declared.suites.Suite.{Suite}
-use Rattle.hkdf_labelled.specs.Suites.{hash_size}
-use Rattle.hkdf_labelled.specs.Hkdf.{expand, output_blocks}
-use Rattle.hkdf_labelled.proofs.Expanding.{length-output_blocks}
+use Rattle.hkdf_labelled.specs.Suites.{encrypts}
+use Rattle.hkdf_labelled.proofs.Expanding.{length-expand}
 use Rattle.key_schedule.specs.declared.modes.Mode.{Mode}
 use Rattle.key_schedule.specs.declared.psks.PskFault.{PskFault}
 use Rattle.key_schedule.specs.declared.schedules.Secrets.{Secrets}
 use Rattle.key_schedule.specs.Psks.{verify_psk_inputs}
 use Rattle.key_schedule.specs.Schedule.{key_of, cipher_secrets_for, secrets_of, key_schedule}
-use Rattle.aes_block.specs.Cipher.{IsKey}
-use Rattle.aes_block.proofs.Lengths.{length-cipher}
-use Rattle.aes_gcm.specs.Gcm.{seal, clear}
-use Rattle.aes_gcm.proofs.Opening.{IsWhole, seal-holds, seal-clear}
+use Rattle.hpke_aead.proofs.Opening.{IsWhole, key_is_whole, seal-holds, seal-clear}
 use Rattle.hpke_context.specs.Answers.{Unseal, Cipher, Sealed_at, Opened_at, Failed_at, At_limit, answer, next, run}
-use Rattle.hpke_context.specs.Contexts.{ContextView, key_in, tag_holds, nonce_of, cipher_of}
-use Rattle.hpke_context.specs.Calls.{encrypts}
-use Rattle.hpke_context.proofs.Tags.{tag_holds-is}
+use Rattle.hpke_aead.specs.Aeads.{seal, tag_holds, clear}
+use Rattle.hpke_context.specs.Contexts.{ContextView, key_in, nonce_of, cipher_of}
+use Rattle.hpke_aead.proofs.Tags.{tag_holds-is}
 use Rattle.context_table.specs.Laws.{Message, to_seal, to_open, sealed_from, OpensInOrder}
 
--- ---- the key has 16 or 32 bytes
-
-hash_size-least : (kdf : Kdf) → 32 ≤ hash_size kdf
-hash_size-least Sha256 = omega arith
-hash_size-least Sha384 = omega arith
-hash_size-least Sha512 = omega arith
-
-length-expand : (kdf : Kdf) (prk info : List ℕ) (len : ℕ) → len ≤ 32
-    → length (expand kdf prk info len) ≡ len
-unfolding expand
-length-expand kdf prk info len few =
-    let least = hash_size-least kdf in
-    let blocks = length-output_blocks kdf prk info 255 in
-    length-take-le len (output_blocks kdf prk info 255) (omega (arith, least, blocks))
+-- ---- the key has the length that its AEAD asks for
 
 length-key_of : (suite : Suite) (secret context : List ℕ) (size : ℕ) → size ≤ 32
     → length (key_of suite secret context size) ≡ size
 length-key_of suite secret context size few = length-expand suite.kdf secret _ size few
 
-is_key : (aead : Aead) (suite : Suite) (secret context : List ℕ) → IsTrue (encrypts aead)
-    → IsKey (key_in (cipher_secrets_for aead suite secret context))
-is_key Aes128 suite secret context can = inl (length-key_of suite secret context 16 (omega arith))
-is_key Aes256 suite secret context can = inr (length-key_of suite secret context 32 (omega arith))
-is_key ExportOnly suite secret context can = absurd (let no : false ≡ true = can in cc)
+is_whole : (aead : Aead) (suite : Suite) (secret context : List ℕ) → IsTrue (encrypts aead)
+    → IsWhole (key_in (cipher_secrets_for aead suite secret context))
+is_whole Aes128 suite secret context can = key_is_whole Aes128 _ can (length-key_of suite secret context 16 (omega arith))
+is_whole Aes256 suite secret context can = key_is_whole Aes256 _ can (length-key_of suite secret context 32 (omega arith))
+is_whole ExportOnly suite secret context can = absurd (let no : false ≡ true = can in cc)
 
 secrets_by : (verified : Result (Unit {0}) PskFault) (whole secrets : Secrets)
     → result_and verified (Ok whole) ≡ Ok secrets → whole ≡ secrets
 secrets_by (Ok u) whole secrets e = cc
 secrets_by (Err fault) whole secrets e = absurd (let no : Err fault ≡ Ok secrets = e in cc)
 
-pub key_is_whole : (suite : Suite) (mode : Mode) (shared_secret info psk psk_id : List ℕ)
+pub secrets_are_whole : (suite : Suite) (mode : Mode) (shared_secret info psk psk_id : List ℕ)
     (secrets : Secrets)
     → key_schedule suite mode shared_secret info psk psk_id ≡ Ok secrets
     → IsTrue (encrypts suite.aead) → IsWhole (key_in secrets.cipher)
-key_is_whole suite mode shared_secret info psk psk_id secrets is can block =
+secrets_are_whole suite mode shared_secret info psk psk_id secrets is can =
     let whole = secrets_of suite mode shared_secret info psk psk_id in
     let made : whole ≡ secrets = secrets_by (verify_psk_inputs mode psk psk_id) whole secrets is in
-    length-cipher (key_in secrets.cipher) block
-    (subst (λ (s : Secrets). IsKey (key_in s.cipher)) made (is_key suite.aead suite _ _ can))
+    subst (λ (s : Secrets). IsWhole (key_in s.cipher)) made (is_whole suite.aead suite _ _ can)
 
 -- ---- one message
 

@@ -1,7 +1,7 @@
 //! What a context is made of.
 
 ghost use Rattle.std.specs.Prelude.{◌≡◌, ◌≤◌};
-ghost use Rattle.hpke_context.specs.Calls.{aead_of};
+ghost use Rattle.key_schedule.specs.Secrets.{aead_of};
 
 use hkdf_labelled::Suite;
 use hpke_context::Context;
@@ -23,7 +23,7 @@ pub(crate) struct ContextParts {
 impl Model for ContextParts {
     ghost use Rattle.std.specs.Prelude.{◌≡◌, ◌≤◌};
     ghost use Rattle.hpke_context.specs.Contexts.{ContextView};
-    ghost use Rattle.hpke_context.specs.Calls.{aead_of};
+    ghost use Rattle.key_schedule.specs.Secrets.{aead_of};
 
     ghost Value = { ContextView };
 

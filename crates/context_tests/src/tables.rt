@@ -5,8 +5,9 @@ ghost use Rattle.call_places.specs.Spans.{ItemIsInPool};
 
 use crate::expected::{array_of, assert_at, assert_same};
 use crate::messages::{Message, item, pool_of};
-use aes_gcm::GcmKey;
 use call_places::{Item, Span};
+use hkdf_labelled::Aead;
+use hpke_aead::AeadKey;
 use speculative_open::GuessTable;
 use std::alloc::Global;
 use std::process::Abort;
@@ -29,7 +30,8 @@ fn table_of<R: Abort + Threads + Sync>(
     requires { All (ItemIsInPool (length pool.now)) items.now }
     ensures { length result.rows ≡ length items.now }
 {
-    let key = GcmKey::new128(&array_of(rt, KEY));
+    let key: [u8; 16] = array_of(rt, KEY);
+    let key = AeadKey::new(Aead::Aes128, &key);
     let base_nonce: [u8; 12] = array_of(rt, BASE_NONCE);
     let mut table = GuessTable::with_room(alloc, items.len()).expect(rt, "memory");
     table.fill(rt, &key, &base_nonce, limit, limit, pool, items);

@@ -5,7 +5,7 @@ use Rattle.call_places.specs.Spans.{span_bytes}
 use Rattle.key_schedule.specs.declared.modes.Role.TheVariants as roles
 use Rattle.hkdf_labelled.specs.declared.suites.Aead.TheVariants as aeads
 use Rattle.hpke_context.specs.Contexts.{ContextView, key_in, nonce_of}
-use Rattle.hpke_context.specs.Calls.{encrypts}
+use Rattle.hkdf_labelled.specs.Suites.{encrypts}
 use Rattle.batch_plans.specs.declared.plan.Plan.{Plan}
 use Rattle.batch_plans.specs.declared.plan.KeyLine.{KeyLine}
 use Rattle.batch_plans.specs.declared.plan.KeyLine.TheVariants.{Generate}
@@ -19,9 +19,8 @@ use Rattle.sntrup_kem.specs.Kem.{drawn_r, enc_of, session_of}
 use Rattle.key_schedule.specs.declared.modes.Mode.TheVariants.{Base}
 use Rattle.key_schedule.specs.declared.schedules.Secrets.{Secrets}
 use Rattle.key_schedule.specs.Schedule.{secrets_of}
-use Rattle.aes_gcm.specs.Gcm.{seal, gctr, tag_of}
-use Rattle.aes_gcm.proofs.Opening.{IsWhole, length-gctr, length-tag_of}
-use Rattle.context_table.proofs.Messages.{key_is_whole}
+use Rattle.hpke_aead.proofs.Opening.{IsWhole, length-seal}
+use Rattle.context_table.proofs.Messages.{secrets_are_whole}
 use Rattle.context_books.proofs.Members.{value_at}
 use Rattle.context_books.specs.Standing.{standing_at}
 use Rattle.context_books.specs.ContextLines.{AreOfLines}
@@ -132,7 +131,7 @@ first_outcome seed public secret =
       enc_of kem761.set public r,
       secrets,
       refl,
-      key_is_whole suite Base shared (span_bytes infos sender_line.info) [] [] secrets refl refl,
+      secrets_are_whole suite Base shared (span_bytes infos sender_line.info) [] [] secrets refl refl,
     )
 
 two_there : {X : Type 0} (xs : List X) → length xs ≡ 2 → (x : X) × (slice_get xs 0 ≡ Some x)
@@ -159,14 +158,7 @@ sender_stands seed public secret contexts standing s =
 
 -- a ciphertext of T has so many bytes
 pub sealed_size : (sender : ContextView) → IsWhole (key_in sender.secrets.cipher) → (n : ℕ) → length (sealed_at sender n) ≡ 80
-unfolding seal
-sealed_size sender whole n =
-    let key : List ℕ = key_in sender.secrets.cipher in
-    let nonce : List ℕ = nonce_of sender n in
-    let ct : List ℕ = gctr key nonce sealed_text in
-    let a = length-gctr key nonce sealed_text whole in
-    let b = length-tag_of key nonce [] ct whole in
-    length-append ct (tag_of key nonce [] ct) ∙ (let e : length ct + length (tag_of key nonce [] ct) ≡ 80 = omega (arith, a, b) in e)
+sealed_size sender whole n = length-seal (key_in sender.secrets.cipher) (nonce_of sender n) [] sealed_text whole
 
 pub get_standing : (standing : List (Option ContextView)) (c : ℕ) (slot : Option ContextView) → slice_get standing c ≡ Some slot
     → standing_at standing c ≡ slot

@@ -1,5 +1,5 @@
 -- The algorithms of a suite (RFC 9180, 7): hash functions, sizes in bytes, numbers.
-use Rattle.std.specs.Prelude.{ℕ, ◌==◌, List, Option, Some, None, if◌then◌else◌}
+use Rattle.std.specs.Prelude.{ℕ, ◌==◌, Bool, true, false, List, [], ◌∷◌, Option, Some, None, if◌then◌else◌}
 use Rattle.sha2.specs.Sha256.{sha256}
 use Rattle.sha2.specs.Sha512.{sha384, sha512}
 use Rattle.hkdf_labelled.specs.declared.suites.Kdf.{Kdf}
@@ -38,6 +38,12 @@ abbrev pub parameters : Aead → AeadParameters
 parameters Aes128 = record { id = 1; key_size = 16; nonce_size = 12; tag_size = 16 }
 parameters Aes256 = record { id = 2; key_size = 32; nonce_size = 12; tag_size = 16 }
 parameters ExportOnly = record { id = 65535; key_size = 0; nonce_size = 0; tag_size = 0 }
+
+-- whether an AEAD encrypts
+abbrev pub encrypts : Aead → Bool
+encrypts Aes128 = true
+encrypts Aes256 = true
+encrypts ExportOnly = false
 
 -- aead_id
 abbrev pub aead_id : Aead → ℕ

@@ -1,7 +1,7 @@
 //! The algorithms that a suite names (RFC 9180, 7).
 
 ghost use Rattle.std.specs.Prelude.{◌≡◌};
-ghost use Rattle.hkdf_labelled.specs.Suites.{hash_size, block_size, kdf_id, parameters, aead_id, aead_named};
+ghost use Rattle.hkdf_labelled.specs.Suites.{hash_size, block_size, kdf_id, parameters, encrypts, aead_id, aead_named};
 
 /// A KDF of HPKE: HKDF over one of the SHA-2 hashes (RFC 9180, 7.2).
 #[derive(Clone, Copy, Debug, PartialEq, Eq)]
@@ -99,6 +99,16 @@ impl Aead {
                 nonce_size: 0,
                 tag_size: 0,
             },
+        }
+    }
+
+    /// Whether it encrypts, which export-only doesn't.
+    pub fn encrypts(self) -> bool
+        ensures { result ≡ encrypts self }
+    {
+        match self {
+            Aead::Aes128 | Aead::Aes256 => true,
+            Aead::ExportOnly => false,
         }
     }
 

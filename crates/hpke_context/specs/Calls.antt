@@ -1,10 +1,11 @@
 -- Which calls a context answers (RFC 9180, 5.2), and its answer at the number that is due.
-use Rattle.std.specs.Prelude.{◌≡◌, ℕ, Bool, true, false, IsTrue, List, Option, Some, None}
-use Rattle.hkdf_labelled.specs.declared.suites.Aead.{Aead}
+use Rattle.std.specs.Prelude.{◌≡◌, ℕ, IsTrue, Option, Some, None}
+use Rattle.hkdf_labelled.specs.Suites.{encrypts}
 use Rattle.hkdf_labelled.specs.declared.suites.Aead.TheVariants as aead
 use Rattle.key_schedule.specs.declared.modes.Role.TheVariants.{Sender, Recipient}
 use Rattle.key_schedule.specs.declared.schedules.CipherSecrets.{CipherSecrets}
-use Rattle.key_schedule.specs.declared.schedules.CipherSecrets.TheVariants.{NoCipher, Aes128, Aes256}
+use Rattle.key_schedule.specs.Secrets.{aead_of}
+use Rattle.hpke_aead.specs.declared.keys.AeadKey.{AeadKey}
 use Rattle.hpke_context.specs.Answers.{Item, Answer, answer}
 use Rattle.hpke_context.specs.Contexts.{ContextView, cipher_of, key_in}
 
@@ -12,18 +13,6 @@ use Rattle.hpke_context.specs.Contexts.{ContextView, cipher_of, key_in}
 pub record SequentialView : Type 0 where
   pub context : ContextView
   pub seq : ℕ
-
--- the AEAD whose secrets these are
-abbrev pub aead_of : CipherSecrets → Aead
-aead_of NoCipher = aead.ExportOnly
-aead_of (Aes128 key base_nonce) = aead.Aes128
-aead_of (Aes256 key base_nonce) = aead.Aes256
-
--- whether an AEAD encrypts (RFC 9180, 7.3)
-abbrev pub encrypts : Aead → Bool
-encrypts aead.Aes128 = true
-encrypts aead.Aes256 = true
-encrypts aead.ExportOnly = false
 
 -- it has a key and base_nonce
 abbrev pub HasCipher : ContextView → Type 0
@@ -47,7 +36,7 @@ answer_now s item = answer (cipher_of s.context) s.seq item
 
 -- ---- for the proofs
 
--- the AES key that is kept is the one in the secrets
-abbrev pub KeepsKey : CipherSecrets → Option (List ℕ) → Type 0
+-- the key that is kept is the one in the secrets
+abbrev pub KeepsKey : CipherSecrets → Option AeadKey → Type 0
 KeepsKey secrets (Some key) = (key ≡ key_in secrets) × IsTrue (encrypts (aead_of secrets))
 KeepsKey secrets None = aead_of secrets ≡ aead.ExportOnly

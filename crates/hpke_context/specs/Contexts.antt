@@ -1,14 +1,15 @@
 -- HPKE's encryption context (RFC 9180, 5.2 and 5.3), as contracts see it.
-use Rattle.std.specs.Prelude.{ℕ, ◌*◌, ◌&&◌, Bool, nat_le, bytes_eq, List, [], length}
+use Rattle.std.specs.Prelude.{ℕ, ◌*◌, List}
 use Rattle.hkdf_labelled.specs.Suites.{hash_size}
 use Rattle.hkdf_labelled.specs.declared.suites.Suite.{Suite}
 use Rattle.key_schedule.specs.declared.modes.Role.{Role}
 use Rattle.key_schedule.specs.declared.schedules.CipherSecrets.{CipherSecrets}
-use Rattle.key_schedule.specs.declared.schedules.CipherSecrets.TheVariants.{NoCipher, Aes128, Aes256}
 use Rattle.key_schedule.specs.declared.schedules.Secrets.{Secrets}
 use Rattle.key_schedule.specs.Nonces.{compute_nonce}
+use Rattle.key_schedule.specs.Secrets.{aead_of, key_bytes, base_nonce_in}
 use Rattle.key_schedule.specs.Exports.{exported}
-use Rattle.aes_gcm.specs.Gcm.{seal, tag_of, body, last_16, clear}
+use Rattle.hpke_aead.specs.declared.keys.AeadKey.{AeadKey}
+use Rattle.hpke_aead.specs.Aeads.{key_of, seal, tag_holds, clear}
 use Rattle.hpke_context.specs.Answers.{Cipher}
 
 -- a context: its end, its algorithms, LIMIT, and what KeySchedule gave
@@ -18,22 +19,9 @@ pub record ContextView : Type 0 where
   pub limit : ℕ
   pub secrets : Secrets
 
--- key. An export-only context has none; the empty byte string stands for it.
-abbrev pub key_in : CipherSecrets → List ℕ
-key_in NoCipher = []
-key_in (Aes128 key base_nonce) = key
-key_in (Aes256 key base_nonce) = key
-
--- base_nonce. An export-only context has none; the empty byte string stands for it.
-abbrev pub base_nonce_in : CipherSecrets → List ℕ
-base_nonce_in NoCipher = []
-base_nonce_in (Aes128 key base_nonce) = base_nonce
-base_nonce_in (Aes256 key base_nonce) = base_nonce
-
--- the authenticated decryption function doesn't fail (SP 800-38D, 7.2), as a Bool
-abbrev pub tag_holds : List ℕ → List ℕ → List ℕ → List ℕ → Bool
-tag_holds key nonce aad ct =
-    nat_le 16 (length ct) && bytes_eq (last_16 ct) (tag_of key nonce aad (body ct))
+-- key, as the AEAD's own. An export-only context has none, and nothing uses this value.
+abbrev pub key_in : CipherSecrets → AeadKey
+key_in secrets = key_of (aead_of secrets) (key_bytes secrets)
 
 -- ComputeNonce(seq)
 abbrev pub nonce_of : ContextView → ℕ → List ℕ

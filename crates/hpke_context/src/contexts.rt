@@ -1,19 +1,20 @@
 //! Contexts, which don't change.
 
 ghost use Rattle.std.specs.Prelude.{◌≡◌, ◌≤◌, ◌<◌, ◌↔◌, length, IsSome, IsNone, IfSome, IsOk, OnOk, OnErr};
-ghost use Rattle.hpke_context.specs.Contexts.{key_in, base_nonce_in, export_limit, exported_by};
-ghost use Rattle.hpke_context.specs.Calls.{aead_of, HasCipher, IsExportOnly, KeepsKey};
+ghost use Rattle.key_schedule.specs.Secrets.{aead_of, base_nonce_in};
+ghost use Rattle.hpke_context.specs.Contexts.{key_in, export_limit, exported_by};
+ghost use Rattle.hpke_context.specs.Calls.{HasCipher, IsExportOnly, KeepsKey};
 
 use crate::faults::CallFault;
-use aes_gcm::GcmKey;
 use hkdf_labelled::{Expander, Suite};
+use hpke_aead::AeadKey;
 use key_schedule::{CipherSecrets, Role, Secrets};
 use std::marker::Model;
 
 /// One end's context (RFC 9180, 5.1 and 5.2) without its sequence number: it doesn't change once
 /// made. A contract sees its role, suite, LIMIT and secrets.
 ///
-/// The AES key is expanded once, when the context is made. HMAC is keyed with exporter_secret then
+/// The AEAD's key is expanded once, when the context is made. HMAC is keyed with exporter_secret then
 /// too: that spares each export two compressions of the hash function, and costs two where nothing
 /// is exported.
 #[derive(Drop)]
@@ -23,13 +24,14 @@ pub struct Context {
     limit: u64,
     cipher: CipherSecrets,
     exporter: Expander,
-    key: Option<GcmKey>,
+    key: Option<AeadKey>,
 }
 
 impl Model for Context {
     ghost use Rattle.std.specs.Prelude.{◌≡◌, ◌≤◌};
+    ghost use Rattle.key_schedule.specs.Secrets.{aead_of};
     ghost use Rattle.hpke_context.specs.Contexts.{ContextView};
-    ghost use Rattle.hpke_context.specs.Calls.{aead_of, KeepsKey};
+    ghost use Rattle.hpke_context.specs.Calls.{KeepsKey};
 
     ghost Value = { ContextView };
 
@@ -44,19 +46,16 @@ impl Model for Context {
         × KeepsKey c.cipher c.key × (c.exporter.kdf ≡ c.suite.kdf) };
 }
 
-// The AES key of these secrets, expanded.
-//
-// A key has tables of 9 KiB. It has one place for all arms and is kept by itself, so that the stack
-// has room for few keys at a time.
+// The key of these secrets, expanded. It is kept by itself, so that the stack has room for few keys at a time.
 #[inline(never)]
-fn expanded_key(secrets: &CipherSecrets) -> Option<GcmKey>
+fn expanded_key(secrets: &CipherSecrets) -> Option<AeadKey>
     ensures { KeepsKey secrets.now result }
 {
-    Some(match secrets {
-        CipherSecrets::NoCipher => return None,
-        CipherSecrets::Aes128 { key, .. } => GcmKey::new128(key),
-        CipherSecrets::Aes256 { key, .. } => GcmKey::new256(key),
-    })
+    let aead = secrets.aead();
+    if !aead.encrypts() {
+        return None;
+    }
+    Some(AeadKey::new(aead, secrets.key()))
 }
 
 impl Context {
@@ -103,7 +102,7 @@ impl Context {
     }
 
     /// The AEAD with the context's key. None for an export-only context.
-    pub fn cipher(&self) -> Option<&GcmKey>
+    pub fn cipher(&self) -> Option<&AeadKey>
         ensures some { IsSome result ↔ HasCipher self.now }
         ensures none { IsNone result ↔ IsExportOnly self.now }
         ensures key { IfSome result (λ key. key.now ≡ key_in self.now.secrets.cipher) }
@@ -117,11 +116,7 @@ impl Context {
         ensures none { IsNone result ↔ IsExportOnly self.now }
         ensures nonce { IfSome result (λ nonce. nonce.now ≡ base_nonce_in self.now.secrets.cipher) }
     {
-        match &self.cipher {
-            CipherSecrets::NoCipher => None,
-            CipherSecrets::Aes128 { base_nonce, .. } => Some(base_nonce),
-            CipherSecrets::Aes256 { base_nonce, .. } => Some(base_nonce),
-        }
+        self.cipher.base_nonce()
     }
 
     /// The most bytes that one export gives: 255 Nh, the limit of HKDF-Expand.

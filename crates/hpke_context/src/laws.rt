@@ -1,21 +1,12 @@
 //! Laws of the definitions, each the contract of a function that does no work.
 
-ghost use Rattle.std.specs.Prelude.{◌≡◌, ◌↔◌, ◌++◌, ℕ, List, IsTrue};
+ghost use Rattle.std.specs.Prelude.{◌≡◌, ◌++◌, ℕ, List};
 ghost use Rattle.hkdf_labelled.specs.declared.suites.Suite.{Suite};
 ghost use Rattle.key_schedule.specs.declared.modes.Mode.{Mode};
 ghost use Rattle.key_schedule.specs.declared.schedules.Secrets.{Secrets};
 ghost use Rattle.key_schedule.specs.Schedule.{key_schedule};
-ghost use Rattle.aes_gcm.specs.Gcm.{Holds};
+ghost use Rattle.key_schedule.specs.Secrets.{aead_of};
 ghost use Rattle.hpke_context.specs.Answers.{Item, Cipher, run, due};
-ghost use Rattle.hpke_context.specs.Contexts.{tag_holds};
-ghost use Rattle.hpke_context.specs.Calls.{aead_of};
-
-/// A tag is called right exactly where the authenticated decryption function doesn't fail
-/// (SP 800-38D, 7.2).
-pub fn a_tag_is_called_right_where_it_holds()
-    ensures { (key nonce aad ct : List ℕ)
-        → IsTrue (tag_holds key nonce aad ct) ↔ Holds key nonce aad ct }
-{}
 
 /// The answers to two lists of items, one after the other: those to the first, and then those to
 /// the second from the number on that is due between them.

@@ -12,7 +12,8 @@ use Rattle.call_places.specs.declared.spans.Item.{Item as Spans}
 use Rattle.call_places.specs.Messages.{sealed_messages}
 use Rattle.hpke_context.specs.Answers.{Item}
 use Rattle.hpke_context.specs.Contexts.{ContextView}
-use Rattle.hpke_context.specs.Calls.{CanOpen, encrypts}
+use Rattle.hkdf_labelled.specs.Suites.{encrypts}
+use Rattle.hpke_context.specs.Calls.{CanOpen}
 use Rattle.context_books.specs.Batches.{Ask, unseal, with_context, item_in, item_in_call, item_of, items_of, item_or_none, IsServed}
 use Rattle.context_books.specs.Lists.{In}
 use Rattle.batch_plans.specs.declared.plan.Plan.{Plan}

@@ -3,3 +3,4 @@ pub mod Schedule
 pub mod Exports
 pub mod Nonces
 pub mod Faults
+pub mod Secrets

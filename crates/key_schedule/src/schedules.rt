@@ -1,9 +1,11 @@
 //! The secrets of a context (RFC 9180, 5.1).
 
-ghost use Rattle.std.specs.Prelude.{◌≡◌, ◌↔◌, [], ◌++◌, ◌+◌, ◌*◌, ◌<◌, ◌≤◌, length, take, codes};
-ghost use Rattle.hkdf_labelled.specs.Suites.{hash_size};
+ghost use Rattle.std.specs.Prelude.{◌≡◌, ◌↔◌, [], ◌++◌, ◌+◌, ◌*◌, ◌<◌, ◌≤◌, length, take, codes, IfSome, IsNone, IsSome, IsTrue};
+ghost use Rattle.hkdf_labelled.specs.declared.suites.Aead.{Aead};
+ghost use Rattle.hkdf_labelled.specs.Suites.{hash_size, parameters, encrypts};
 ghost use Rattle.hkdf_labelled.specs.Labels.{labeled_extract, labeled_expand};
 ghost use Rattle.key_schedule.specs.Psks.{IsGiven, OneIsMissing};
+ghost use Rattle.key_schedule.specs.Secrets.{aead_of, key_bytes, base_nonce_in};
 ghost use Rattle.key_schedule.specs.Schedule.{mode_id, key_schedule_context, cipher_secrets, key_schedule};
 
 use crate::modes::Mode;
@@ -21,6 +23,44 @@ pub enum CipherSecrets {
     Aes128 { key: [u8; 16], base_nonce: [u8; 12] },
     /// AES-256-GCM
     Aes256 { key: [u8; 32], base_nonce: [u8; 12] },
+}
+
+impl CipherSecrets {
+    /// The AEAD whose secrets these are.
+    pub fn aead(&self) -> Aead
+        ensures { result ≡ aead_of self.now }
+    {
+        match self {
+            CipherSecrets::NoCipher => Aead::ExportOnly,
+            CipherSecrets::Aes128 { .. } => Aead::Aes128,
+            CipherSecrets::Aes256 { .. } => Aead::Aes256,
+        }
+    }
+
+    /// key: Nk bytes, and none for an export-only suite.
+    pub fn key(&self) -> &[u8]
+        ensures key { result.now ≡ key_bytes self.now }
+        ensures size { length (key_bytes self.now) ≡ (parameters (aead_of self.now)).key_size }
+    {
+        match self {
+            CipherSecrets::NoCipher => &[],
+            CipherSecrets::Aes128 { key, .. } => key,
+            CipherSecrets::Aes256 { key, .. } => key,
+        }
+    }
+
+    /// base_nonce: the nonce of message 0. None for an export-only suite.
+    pub fn base_nonce(&self) -> Option<&[u8; 12]>
+        ensures some { IsSome result ↔ IsTrue (encrypts (aead_of self.now)) }
+        ensures none { IsNone result ↔ (aead_of self.now ≡ Aead.ExportOnly) }
+        ensures nonce { IfSome result (λ nonce. nonce.now ≡ base_nonce_in self.now) }
+    {
+        match self {
+            CipherSecrets::NoCipher => None,
+            CipherSecrets::Aes128 { base_nonce, .. } => Some(base_nonce),
+            CipherSecrets::Aes256 { base_nonce, .. } => Some(base_nonce),
+        }
+    }
 }
 
 /// What a context is made of. `exporter` is exporter_secret, of Nh bytes.

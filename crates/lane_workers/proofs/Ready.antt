@@ -14,7 +14,8 @@ use Rattle.speculative_open.specs.Tables.{TableView}
 use Rattle.context_books.proofs.Lists.{append-nil}
 use Rattle.lane_workers.proofs.ShowingEntries.{own-append}
 use Rattle.hpke_context.specs.Contexts.{ContextView}
-use Rattle.hpke_context.specs.Calls.{CanSeal, CanOpen, encrypts}
+use Rattle.hkdf_labelled.specs.Suites.{encrypts}
+use Rattle.hpke_context.specs.Calls.{CanSeal, CanOpen}
 use Rattle.context_books.specs.Batches.{Ask, items_in, context_in}
 use Rattle.context_books.specs.declared.book.Draw.{Draw}
 use Rattle.context_books.specs.declared.book.Draw.TheVariants.{Number}

@@ -1,15 +1,14 @@
 -- How long the texts of an exchange are (RFC 9458, 4.3 and 4.4).
 use Rattle.std.proofs.Common.{◌≡◌, ◌-◌, ℕ, Bool, true, false, IsTrue, List, [], length, drop, Result, Ok, Err, refl, ap, ◌∙◌, arith, length-drop}
 use Rattle.std.specs.Prelude.{if◌then◌else◌, nat_lt}
-use Rattle.std.proofs.lemmas.List.{length-take-le}
 use Rattle.ring_core.specs.Sets.{Set}
 use Rattle.sntrup_kem.specs.Sizes.{enc_size}
 use Rattle.hkdf_labelled.specs.declared.suites.Suite.{Suite}
 use Rattle.key_schedule.specs.declared.modes.Role.TheVariants.{Recipient}
-use Rattle.aes_gcm.specs.Gcm.{body, clear}
-use Rattle.aes_gcm.proofs.Opening.{IsWhole, length-gctr}
-use Rattle.hpke_context.specs.Contexts.{key_in, nonce_of, tag_holds}
-use Rattle.hpke_context.specs.Calls.{encrypts}
+use Rattle.hpke_aead.proofs.Opening.{IsWhole, length-clear}
+use Rattle.hpke_aead.specs.Aeads.{tag_holds, clear}
+use Rattle.hpke_context.specs.Contexts.{key_in, nonce_of}
+use Rattle.hkdf_labelled.specs.Suites.{encrypts}
 use Rattle.sntrup_kem.specs.Kem.{decapsulated}
 use Rattle.ohttp_capsule.specs.declared.asking.Asked.{Asked}
 use Rattle.ohttp_capsule.specs.declared.faults.CapsuleFault.{CapsuleFault}
@@ -19,12 +18,6 @@ use Rattle.ohttp_capsule.specs.Responses.{entropy_size, aead_key, aead_nonce, en
 use Rattle.ohttp_capsule.specs.Replies.{suite_for, answered_by, answered, least_response, nonce_in, ct_of_response, taken_with, taken}
 use Rattle.ohttp_capsule.proofs.Keys.{request_key_is_whole, response_key_is_whole}
 use Rattle.ohttp_capsule.proofs.Telling.{ready_by}
-
--- what an opened ciphertext gives has 16 bytes fewer
-length-clear : (key nonce ct : List ℕ) → IsWhole key → length (clear key nonce ct) ≡ length ct - 16
-unfolding clear
-length-clear key nonce ct whole =
-    length-gctr key nonce (body ct) whole ∙ length-take-le (length ct - 16) ct (omega arith)
 
 -- where the answer of a test is a value, the test passed
 passed : {X : Type 0} (b : Bool) (x y : X) (f : CapsuleFault) → (if b then Ok x else Err f) ≡ Ok y → x ≡ y

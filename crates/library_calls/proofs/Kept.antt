@@ -5,7 +5,7 @@ use Rattle.hkdf_labelled.specs.Hmac.{zero_padded}
 use Rattle.key_schedule.specs.declared.modes.Role.TheVariants.{Sender}
 use Rattle.ring_core.specs.Sets.{Set}
 use Rattle.sntrup_kem.specs.Sizes.{enc_size}
-use Rattle.hpke_context.specs.Calls.{encrypts}
+use Rattle.hkdf_labelled.specs.Suites.{encrypts}
 use Rattle.ohttp_capsule.specs.declared.asking.Asked.{Asked}
 use Rattle.ohttp_capsule.specs.Requests.{context_of}
 use Rattle.library_calls.specs.declared.asks.HpkeAsked.{HpkeAsked}

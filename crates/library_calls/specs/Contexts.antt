@@ -12,7 +12,7 @@ use Rattle.key_schedule.specs.declared.modes.Mode.TheVariants.{Base, Psk}
 use Rattle.key_schedule.specs.declared.schedules.Secrets.{Secrets}
 use Rattle.key_schedule.specs.Exports.{exported}
 use Rattle.key_schedule.specs.Nonces.{compute_nonce}
-use Rattle.hpke_context.specs.Contexts.{key_in, base_nonce_in}
+use Rattle.key_schedule.specs.Secrets.{key_bytes, base_nonce_in}
 use Rattle.library_calls.specs.declared.contexts.HpkeContext.{HpkeContext}
 
 -- ---- numbers that name something
@@ -92,6 +92,6 @@ context_of role limit suite secrets =
       kdf = kdf_id suite.kdf;
       aead = aead_id suite.aead;
       base_nonce = zero_padded 12 (base_nonce_in secrets.cipher);
-      key = zero_padded 32 (key_in secrets.cipher);
+      key = zero_padded 32 (key_bytes secrets.cipher);
       exporter_secret = zero_padded 64 secrets.exporter;
     }

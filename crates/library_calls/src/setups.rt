@@ -2,7 +2,7 @@
 
 ghost use Rattle.std.specs.Prelude.{◌≡◌, ◌≢◌, ◌⊎◌, ◌↔◌, ◌≤◌, length, IsTrue};
 ghost use Rattle.hkdf_labelled.specs.Hmac.{zero_padded};
-ghost use Rattle.hpke_context.specs.Contexts.{key_in, base_nonce_in};
+ghost use Rattle.key_schedule.specs.Secrets.{key_bytes, base_nonce_in};
 ghost use Rattle.key_schedule.specs.Psks.{OneIsMissing};
 ghost use Rattle.key_schedule.specs.Schedule.{secrets_of};
 ghost use Rattle.library_calls.specs.Contexts.{mode_named, context_of};
@@ -77,14 +77,11 @@ pub(crate) fn setup_status(
 
 // A key, with zero bytes behind it.
 fn padded_key(cipher: &CipherSecrets) -> [u8; 32]
-    ensures { result ≡ zero_padded 32 (key_in cipher.now) }
+    ensures { result ≡ zero_padded 32 (key_bytes cipher.now) }
 {
     let mut padded = [0u8; 32];
-    match cipher {
-        CipherSecrets::NoCipher => {}
-        CipherSecrets::Aes128 { key, .. } => padded[..16].copy_from_slice(key),
-        CipherSecrets::Aes256 { key, .. } => padded.copy_from_slice(key),
-    }
+    let key = cipher.key();
+    padded[..key.len()].copy_from_slice(key);
     padded
 }
 
@@ -93,10 +90,8 @@ fn padded_nonce(cipher: &CipherSecrets) -> [u8; 12]
     ensures { result ≡ zero_padded 12 (base_nonce_in cipher.now) }
 {
     let mut padded = [0u8; 12];
-    match cipher {
-        CipherSecrets::NoCipher => {}
-        CipherSecrets::Aes128 { base_nonce, .. } => padded.copy_from_slice(base_nonce),
-        CipherSecrets::Aes256 { base_nonce, .. } => padded.copy_from_slice(base_nonce),
+    if let Some(base_nonce) = cipher.base_nonce() {
+        padded.copy_from_slice(base_nonce);
     }
     padded
 }

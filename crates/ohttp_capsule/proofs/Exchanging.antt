@@ -9,11 +9,11 @@ use Rattle.sntrup_kem.specs.Kem.{enc_of, session_of, decapsulated}
 use Rattle.sntrup_kem.specs.Laws.{BothEndsAgree}
 use Rattle.hkdf_labelled.specs.declared.suites.Suite.{Suite}
 use Rattle.key_schedule.specs.declared.modes.Role.TheVariants.{Sender, Recipient}
-use Rattle.aes_gcm.specs.Gcm.{seal, clear}
-use Rattle.aes_gcm.proofs.Opening.{IsWhole, seal-holds, seal-clear}
-use Rattle.hpke_context.specs.Contexts.{key_in, nonce_of, tag_holds, cipher_of}
-use Rattle.hpke_context.specs.Calls.{encrypts}
-use Rattle.hpke_context.proofs.Tags.{tag_holds-is}
+use Rattle.hpke_aead.proofs.Opening.{IsWhole, seal-holds, seal-clear, holds-long}
+use Rattle.hpke_aead.specs.Aeads.{seal, tag_holds, clear}
+use Rattle.hpke_context.specs.Contexts.{key_in, nonce_of, cipher_of}
+use Rattle.hkdf_labelled.specs.Suites.{encrypts}
+use Rattle.hpke_aead.proofs.Tags.{tag_holds-is}
 use Rattle.ohttp_capsule.specs.declared.asking.Asked.{Asked}
 use Rattle.ohttp_capsule.specs.declared.faults.CapsuleFault.{CapsuleFault}
 use Rattle.ohttp_capsule.specs.declared.faults.CapsuleFault.TheVariants.{Short, Failed}
@@ -106,7 +106,7 @@ takes_response asked nonce reply can size =
     let response = nonce ++ ct in
     let sealed = seal-holds key once [] reply whole in
     let long : least_response asked ≤ length response =
-    omega (arith, length-append nonce ct, sealed.long, size) in
+    omega (arith, length-append nonce ct, holds-long key once [] ct sealed, size) in
     let holds : tag_holds key once [] ct ≡ true = (tag_holds-is key once [] ct).1 sealed in
     cond-false (nat_lt (length response) (least_response asked)) (Err Short)
     (taken_with asked (take n response) (drop n response))
@@ -129,7 +129,7 @@ exchanges set kem sk id suite pk r question nonce reply pair kem_is can size =
     let key = key_in asked.context.secrets.cipher in
     let whole : IsWhole key = request_key_is_whole Sender id suite ss can in
     let ct = seal key (nonce_of asked.context 0) [] question in
-    let tagged = (seal-holds key (nonce_of asked.context 0) [] question whole).long in
+    let tagged = holds-long key (nonce_of asked.context 0) [] ct (seal-holds key (nonce_of asked.context 0) [] question whole) in
     let request = front ++ enc ++ ct in
     let parts = parts_of set front enc ct refl pair.enc_count in
     let context : recipient_of set sk id suite request ≡ context_of Recipient id suite ss =

@@ -3,13 +3,12 @@ use Rattle.std.proofs.Common.{◌≡◌, ◌⊎◌, ℕ, Bool, true, false, IsTr
 use Rattle.std.specs.List.{find}
 use Rattle.std.proofs.lemmas.Bool.{cond-true, cond-false}
 use Rattle.std.proofs.lemmas.Slice.Eq.{bytes_eq-Decides}
-use Rattle.hkdf_labelled.specs.Suites.{kdf_id}
+use Rattle.hkdf_labelled.specs.Suites.{kdf_id, encrypts}
 use Rattle.hkdf_labelled.specs.declared.suites.Suite.{Suite}
 use Rattle.hkdf_labelled.specs.declared.suites.Kdf.{Kdf}
 use Rattle.hkdf_labelled.specs.declared.suites.Kdf.TheVariants.{Sha256, Sha384, Sha512}
 use Rattle.hkdf_labelled.specs.declared.suites.Aead.{Aead}
 use Rattle.hkdf_labelled.specs.declared.suites.Aead.TheVariants.{Aes128, Aes256, ExportOnly}
-use Rattle.hpke_context.specs.Calls.{encrypts}
 use Rattle.ohttp_capsule.specs.Headers.{header, suites_of, suite_named, Names}
 use Rattle.ohttp_capsule.specs.Laws.{NamesOne}
 

@@ -7,11 +7,13 @@ use Rattle.sntrup_kem.specs.Kem.{decapsulated}
 use Rattle.sntrup_kem.specs.Laws.{BothEndsAgree}
 use Rattle.key_schedule.specs.declared.modes.Role.TheVariants.{Recipient}
 use Rattle.hkdf_labelled.specs.declared.suites.Suite.{Suite}
-use Rattle.aes_gcm.specs.Gcm.{Holds, clear}
+use Rattle.hpke_aead.specs.declared.keys.AeadKey.{AeadKey}
 use Rattle.key_schedule.specs.Nonces.{compute_nonce}
-use Rattle.hpke_context.specs.Contexts.{ContextView, key_in, base_nonce_in, nonce_of, tag_holds, cipher_of}
-use Rattle.hpke_context.specs.Calls.{encrypts}
-use Rattle.hpke_context.proofs.Tags.{tag_holds-is}
+use Rattle.key_schedule.specs.Secrets.{base_nonce_in}
+use Rattle.hpke_aead.specs.Aeads.{Holds, tag_holds, clear}
+use Rattle.hpke_context.specs.Contexts.{ContextView, key_in, nonce_of, cipher_of}
+use Rattle.hkdf_labelled.specs.Suites.{encrypts}
+use Rattle.hpke_aead.proofs.Tags.{tag_holds-is}
 use Rattle.ohttp_capsule.specs.declared.asking.Asked.{Asked}
 use Rattle.ohttp_capsule.specs.declared.faults.CapsuleFault.{CapsuleFault}
 use Rattle.ohttp_capsule.specs.declared.faults.CapsuleFault.TheVariants.{Short, Header, NonceSize, Failed, OutOfMemory}
@@ -25,12 +27,12 @@ use Rattle.ohttp_capsule.proofs.Exchanging.{whole_exchange_lem}
 
 -- ---- a tag
 
-wrong_tag : (key nonce ct : List ℕ) → ¬ Holds key nonce [] ct → tag_holds key nonce [] ct ≡ false
+wrong_tag : (key : AeadKey) (nonce ct : List ℕ) → ¬ Holds key nonce [] ct → tag_holds key nonce [] ct ≡ false
 wrong_tag key nonce ct wrong =
     false_from_ne_true (tag_holds key nonce [] ct)
     (λ t. wrong ((tag_holds-is key nonce [] ct).0 t))
 
-tag_is_wrong : (key nonce ct : List ℕ) → tag_holds key nonce [] ct ≡ false
+tag_is_wrong : (key : AeadKey) (nonce ct : List ℕ) → tag_holds key nonce [] ct ≡ false
     → ¬ Holds key nonce [] ct
 tag_is_wrong key nonce ct e holds =
     let t : tag_holds key nonce [] ct ≡ true = (tag_holds-is key nonce [] ct).1 holds in
@@ -43,7 +45,7 @@ failed_by true x f e = absurd cc
 failed_by false x f e = (let same : Failed ≡ f = cc in sym same, refl)
 
 -- what is opened: the text where the tag holds, and else the fault
-pub record IsOpened (key nonce ct : List ℕ) (r : Result (List ℕ) CapsuleFault) : Type 0 where
+pub record IsOpened (key : AeadKey) (nonce ct : List ℕ) (r : Result (List ℕ) CapsuleFault) : Type 0 where
   pub text : IfOk r (λ t. t ≡ clear key nonce ct)
   pub holds : IfOk r (λ t. tag_holds key nonce [] ct ≡ true)
   pub failed : r ≡ Err Failed → tag_holds key nonce [] ct ≡ false
@@ -57,7 +59,7 @@ known_or_memory NonceSize = inl (λ m. cc)
 known_or_memory Failed = inl (λ m. cc)
 known_or_memory OutOfMemory = inr refl
 
-opened_by : (key nonce ct : List ℕ) (b : Bool) → tag_holds key nonce [] ct ≡ b
+opened_by : (key : AeadKey) (nonce ct : List ℕ) (b : Bool) → tag_holds key nonce [] ct ≡ b
     → (r : Result (List ℕ) CapsuleFault)
     → (r ≢ Err OutOfMemory → r ≡ cond b (Ok (clear key nonce ct)) (Err Failed))
     → IsOpened key nonce ct r
@@ -85,19 +87,19 @@ opened_by key nonce ct false is (Err f) told = record {
   ];
 }
 
-pub opened_tells : (key nonce ct : List ℕ) (r : Result (List ℕ) CapsuleFault)
+pub opened_tells : (key : AeadKey) (nonce ct : List ℕ) (r : Result (List ℕ) CapsuleFault)
     → (r ≢ Err OutOfMemory → r ≡ opened_with key nonce ct) → IsOpened key nonce ct r
 opened_tells key nonce ct r told = opened_by key nonce ct (tag_holds key nonce [] ct) refl r told
 
 -- the same with a context's key, at its nonce of number 0
-pub opened_at_first : (context : ContextView) (key base nonce ct : List ℕ)
+pub opened_at_first : (context : ContextView) (key : AeadKey) (base nonce ct : List ℕ)
     (r : Result (List ℕ) CapsuleFault) → key ≡ key_in context.secrets.cipher
     → base ≡ base_nonce_in context.secrets.cipher → nonce ≡ compute_nonce base 0
     → (r ≢ Err OutOfMemory → r ≡ opened_with key nonce ct)
     → IsOpened (key_in context.secrets.cipher) (nonce_of context 0) ct r
 opened_at_first context key base nonce ct r key_is base_is nonce_is told =
     let once = nonce_is ∙ ap (λ (b : List ℕ). compute_nonce b 0) base_is in
-    subst (λ (k : List ℕ). IsOpened k (nonce_of context 0) ct r) key_is
+    subst (λ (k : AeadKey). IsOpened k (nonce_of context 0) ct r) key_is
     (subst (λ (o : List ℕ). IsOpened key o ct r) once (opened_tells key nonce ct r told))
 
 -- ---- the gateway

@@ -2,11 +2,10 @@
 -- 256; sizes are in bytes.
 use Rattle.std.specs.Prelude.{◌≡◌, ℕ, List, [], ◌∷◌, ◌++◌, find, bytes_eq, codes, IsTrue, Option}
 use Rattle.byte_strings.specs.Bytes.{i2osp}
-use Rattle.hkdf_labelled.specs.Suites.{kdf_id, aead_id}
+use Rattle.hkdf_labelled.specs.Suites.{kdf_id, aead_id, encrypts}
 use Rattle.hkdf_labelled.specs.declared.suites.Suite.{Suite}
 use Rattle.hkdf_labelled.specs.declared.suites.Kdf.TheVariants as kdfs
 use Rattle.hkdf_labelled.specs.declared.suites.Aead.TheVariants as aeads
-use Rattle.hpke_context.specs.Calls.{encrypts}
 
 -- the size of hdr: one byte for the key identifier, and two for each of the three algorithms
 abbrev pub header_size : ℕ

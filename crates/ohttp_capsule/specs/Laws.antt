@@ -5,7 +5,7 @@ use Rattle.sntrup_core.specs.Laws.{IsShort}
 use Rattle.sntrup_kem.specs.Sizes.{enc_size}
 use Rattle.sntrup_kem.specs.Kem.{IsGenerated}
 use Rattle.hkdf_labelled.specs.declared.suites.Suite.{Suite}
-use Rattle.hpke_context.specs.Calls.{encrypts}
+use Rattle.hkdf_labelled.specs.Suites.{encrypts}
 use Rattle.ohttp_capsule.specs.declared.asking.Asked.{Asked}
 use Rattle.ohttp_capsule.specs.declared.faults.CapsuleFault.{CapsuleFault}
 use Rattle.ohttp_capsule.specs.Headers.{Names}

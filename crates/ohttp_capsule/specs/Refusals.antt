@@ -2,7 +2,7 @@
 use Rattle.std.specs.Prelude.{◌≡◌, ◌≢◌, ℕ, ◌<◌, ◌≤◌, List, [], length}
 use Rattle.ring_core.specs.Sets.{Set}
 use Rattle.hkdf_labelled.specs.declared.suites.Suite.{Suite}
-use Rattle.aes_gcm.specs.Gcm.{Holds}
+use Rattle.hpke_aead.specs.Aeads.{Holds}
 use Rattle.hpke_context.specs.Contexts.{key_in, nonce_of}
 use Rattle.ohttp_capsule.specs.declared.asking.Asked.{Asked}
 use Rattle.ohttp_capsule.specs.Headers.{Names}

@@ -3,8 +3,9 @@
 use Rattle.std.specs.Prelude.{ℕ, ◌+◌, ◌==◌, nat_lt, if◌then◌else◌, List, [], length, take, drop, Option, Some, None, Result, Ok, Err}
 use Rattle.ring_core.specs.Sets.{Set}
 use Rattle.hkdf_labelled.specs.declared.suites.Suite.{Suite}
-use Rattle.aes_gcm.specs.Gcm.{clear}
-use Rattle.hpke_context.specs.Contexts.{ContextView, cipher_of, tag_holds}
+use Rattle.hpke_aead.specs.declared.keys.AeadKey.{AeadKey}
+use Rattle.hpke_aead.specs.Aeads.{tag_holds, clear}
+use Rattle.hpke_context.specs.Contexts.{ContextView, cipher_of}
 use Rattle.ohttp_capsule.specs.declared.asking.Asked.{Asked}
 use Rattle.ohttp_capsule.specs.declared.faults.CapsuleFault.{CapsuleFault}
 use Rattle.ohttp_capsule.specs.declared.faults.CapsuleFault.TheVariants.{Short, Header, NonceSize, Failed}
@@ -61,7 +62,7 @@ abbrev pub ct_of_response : Asked → List ℕ → List ℕ
 ct_of_response asked response = drop (entropy_size asked.context.suite.aead) response
 
 -- Open(aead_key, aead_nonce, "", ct)
-abbrev pub opened_with : List ℕ → List ℕ → List ℕ → Result (List ℕ) CapsuleFault
+abbrev pub opened_with : AeadKey → List ℕ → List ℕ → Result (List ℕ) CapsuleFault
 opened_with key nonce ct = if tag_holds key nonce [] ct then Ok (clear key nonce ct) else Err Failed
 
 -- the text of a response with this nonce

@@ -5,7 +5,8 @@ use Rattle.hkdf_labelled.specs.declared.suites.Aead.{Aead}
 use Rattle.hkdf_labelled.specs.Suites.{parameters}
 use Rattle.hkdf_labelled.specs.Hkdf.{extract, expand}
 use Rattle.key_schedule.specs.Nonces.{nonce_size}
-use Rattle.aes_gcm.specs.Gcm.{seal}
+use Rattle.hpke_aead.specs.declared.keys.AeadKey.{AeadKey}
+use Rattle.hpke_aead.specs.Aeads.{key_of, seal}
 use Rattle.hpke_context.specs.Contexts.{ContextView, exported_by}
 
 -- Nk (RFC 9180, 7.3). An export-only suite has no key
@@ -29,10 +30,11 @@ response_salt enc nonce = enc ++ nonce
 abbrev pub response_prk : ContextView → List ℕ → List ℕ → List ℕ
 response_prk c enc nonce = extract c.suite.kdf (response_salt enc nonce) (response_secret c)
 
--- aead_key: Expand(prk, "key", Nk)
-abbrev pub aead_key : ContextView → List ℕ → List ℕ → List ℕ
+-- aead_key: Expand(prk, "key", Nk), as the AEAD's own
+abbrev pub aead_key : ContextView → List ℕ → List ℕ → AeadKey
 aead_key c enc nonce =
-    expand c.suite.kdf (response_prk c enc nonce) (codes "key") (key_size c.suite.aead)
+    key_of c.suite.aead
+    (expand c.suite.kdf (response_prk c enc nonce) (codes "key") (key_size c.suite.aead))
 
 -- aead_nonce: Expand(prk, "nonce", Nn)
 abbrev pub aead_nonce : ContextView → List ℕ → List ℕ → List ℕ

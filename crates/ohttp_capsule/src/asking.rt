@@ -2,7 +2,8 @@
 
 ghost use Rattle.std.specs.Prelude.{◌≡◌, ◌+◌, ◌^◌, ◌≤◌, ℕ, List, length, IsTrue, IfOk, OnOk};
 ghost use Rattle.rand_words.specs.Words.{TakesAtMost};
-ghost use Rattle.hpke_context.specs.Calls.{encrypts, HasCipher};
+ghost use Rattle.hkdf_labelled.specs.Suites.{encrypts};
+ghost use Rattle.hpke_context.specs.Calls.{HasCipher};
 ghost use Rattle.sntrup_kem.specs.Sizes.{enc_size};
 ghost use Rattle.sntrup_kem.specs.Kem.{drawn_r, IsGenerated};
 ghost use Rattle.key_schedule.specs.declared.modes.Role.TheVariants.{Sender};

@@ -1,17 +1,18 @@
 //! The key of a response, and what is sealed and opened with it (RFC 9458, 4.4).
 
 ghost use Rattle.std.specs.Prelude.{◌≡◌, ◌≢◌, ◌<◌, ◌≤◌, ◌-◌, ◌+◌, ◌*◌, ◌^◌, [], length, codes, IsTrue, IfOk};
-ghost use Rattle.hkdf_labelled.specs.Suites.{hash_size};
+ghost use Rattle.hkdf_labelled.specs.Suites.{hash_size, encrypts};
 ghost use Rattle.hkdf_labelled.specs.Hkdf.{expand};
-ghost use Rattle.aes_gcm.specs.Gcm.{seal};
-ghost use Rattle.hpke_context.specs.Calls.{HasCipher, encrypts};
+ghost use Rattle.hpke_aead.specs.Aeads.{key_of, seal};
+ghost use Rattle.hpke_context.specs.Calls.{HasCipher};
 ghost use Rattle.ohttp_capsule.specs.Responses.{key_size, entropy_size, response_secret, response_prk, aead_key, aead_nonce, encapsulated_response};
 ghost use Rattle.ohttp_capsule.specs.Replies.{opened_with};
 
 use crate::faults::CapsuleFault;
-use aes_gcm::{Checks, GcmKey};
+use aes_gcm::Checks;
 use byte_strings::{ByteList, PlainList, joined};
 use hkdf_labelled::{Aead, Kdf, Prk, Suite, TAG_SIZE, expand_into, extract};
+use hpke_aead::AeadKey;
 use hpke_context::Context;
 use std::alloc::{AllocError as OutOfMemory, Global};
 
@@ -20,17 +21,13 @@ pub(crate) fn entropy_size(aead: Aead) -> usize
     ensures size { result ≡ entropy_size aead }
     ensures most { result ≤ 32 }
 {
-    match aead {
-        Aead::Aes128 => 16,
-        Aead::Aes256 => 32,
-        Aead::ExportOnly => 12,
-    }
+    aead.parameters().key_size.max(12)
 }
 
 /// The AEAD's key and nonce for a response.
 #[derive(Drop)]
 pub(crate) struct ResponseKey {
-    pub(crate) key: GcmKey,
+    pub(crate) key: AeadKey,
     pub(crate) nonce: [u8; 12],
 }
 
@@ -73,15 +70,15 @@ fn response_prk(
 }
 
 // aead_key, expanded for the AEAD.
-fn gcm_key(suite: &Suite, prk: &Prk) -> GcmKey
+fn aead_key(suite: &Suite, prk: &Prk) -> AeadKey
     requires { IsTrue (encrypts suite.now.aead) }
-    ensures { result ≡ expand suite.now.kdf prk.now (codes "key") (key_size suite.now.aead) }
+    ensures { result ≡ key_of suite.now.aead
+        (expand suite.now.kdf prk.now (codes "key") (key_size suite.now.aead)) }
 {
-    match suite.aead {
-        Aead::Aes128 => GcmKey::new128(&expanded(suite.kdf, prk, b"key")),
-        Aead::Aes256 => GcmKey::new256(&expanded(suite.kdf, prk, b"key")),
-        Aead::ExportOnly => unreachable!(),
-    }
+    let mut bytes = [0u8; 32];
+    let key = &mut bytes[..suite.aead.parameters().key_size];
+    expand_into(suite.kdf, prk.as_slice(), b"key", key);
+    AeadKey::new(suite.aead, key)
 }
 
 /// The key and the nonce of the response with this `nonce`, to a request whose encapsulation is
@@ -99,7 +96,7 @@ pub(crate) fn response_key(
     let prk = response_prk(alloc, context, enc, nonce)?;
     let suite = context.suite();
     Ok(ResponseKey {
-        key: gcm_key(suite, &prk),
+        key: aead_key(suite, &prk),
         nonce: expanded(suite.kdf, &prk, b"nonce"),
     })
 }
@@ -107,7 +104,7 @@ pub(crate) fn response_key(
 /// Seal(key, nonce, "", text).
 pub(crate) fn sealed(
     alloc: Global,
-    key: &GcmKey,
+    key: &AeadKey,
     nonce: &[u8; 12],
     text: &[u8],
 ) -> Result<ByteList, OutOfMemory>
@@ -123,7 +120,7 @@ pub(crate) fn sealed(
 /// Open(key, nonce, "", ct).
 pub(crate) fn opened(
     alloc: Global,
-    key: &GcmKey,
+    key: &AeadKey,
     nonce: &[u8; 12],
     ct: &[u8],
     checks: &mut Checks,

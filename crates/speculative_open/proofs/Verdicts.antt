@@ -3,36 +3,35 @@ use Rattle.std.proofs.Common.{◌≡◌, ℕ, ◌+◌, ◌-◌, ◌<◌, ◌≤�
 use Rattle.std.proofs.lemmas.List.{get_or_append_left, length-take-le, length-map}
 use Rattle.std.proofs.lemmas.Option.{slice_get-map, slice_get_within, none-some, same_Some}
 use Rattle.std.specs.Option.{option_map}
-use Rattle.aes_gcm.specs.Gcm.{Holds}
-use Rattle.aes_gcm.specs.Hashed.{HashedView}
+use Rattle.hpke_aead.specs.declared.keys.AeadKey.{AeadKey}
+use Rattle.hpke_aead.specs.Aeads.{Holds}
 use Rattle.key_schedule.specs.Nonces.{compute_nonce}
 use Rattle.call_places.specs.declared.spans.Item.{Item}
 use Rattle.call_places.specs.Messages.{SealedMessage, sealed_message, sealed_messages}
 use Rattle.speculative_open.specs.Tables.{OpensAt, IsRow, Fits}
 
 -- verdict k of a row is right: it is that at the number guess + i - k, if the item is checked there
-abbrev pub IsRight : ℕ → ℕ → List ℕ → List ℕ → ℕ → SealedMessage → List Bool → ℕ → Type 0
+abbrev pub IsRight : ℕ → ℕ → AeadKey → List ℕ → ℕ → SealedMessage → List Bool → ℕ → Type 0
 IsRight guess limit key base_nonce i x row k =
     (n : ℕ) → n + k ≡ guess + i → k ≤ i → n ≤ limit
     → IsTrue (get_or row k false) ↔ OpensAt key base_nonce n x
 
 -- a row of four right verdicts is one of the item
-pub row_of_four : (guess limit : ℕ) (key base_nonce : List ℕ) (i : ℕ) (x : SealedMessage) (row : List Bool)
+pub row_of_four : (guess limit : ℕ) (key : AeadKey) (base_nonce : List ℕ) (i : ℕ) (x : SealedMessage) (row : List Bool)
     → ((k : ℕ) → k < 4 → IsRight guess limit key base_nonce i x row k) → IsRow guess limit key base_nonce i x row
 row_of_four guess limit key base_nonce i x row right n c =
     let most : n ≤ guess + i = c.0 in
     let least : guess + i ≤ n + min i 3 = c.1 in
     right (guess + i - n) (omega arith) n (omega arith) (omega arith) c.2
 
--- what the check of a hashed ciphertext tells
-pub opens_is : (key base_nonce : List ℕ) (n : ℕ) (x : SealedMessage) (h : HashedView) (aad ct nonce : List ℕ) (v : Bool)
-    → h ≡ record { key = key; aad = aad; ct = ct } → aad ≡ x.aad → ct ≡ x.ct → nonce ≡ compute_nonce base_nonce n
-    → IsTrue v ↔ Holds h.key nonce h.aad h.ct → IsTrue v ↔ OpensAt key base_nonce n x
-opens_is key base_nonce n x h aad ct nonce v is is_aad is_ct is_nonce told =
+-- what the check of a ciphertext tells
+pub opens_is : (key : AeadKey) (base_nonce : List ℕ) (n : ℕ) (x : SealedMessage) (aad ct nonce : List ℕ) (v : Bool)
+    → aad ≡ x.aad → ct ≡ x.ct → nonce ≡ compute_nonce base_nonce n
+    → IsTrue v ↔ Holds key nonce aad ct → IsTrue v ↔ OpensAt key base_nonce n x
+opens_is key base_nonce n x aad ct nonce v is_aad is_ct is_nonce told =
     subst (λ p. IsTrue v ↔ Holds key p x.aad x.ct) is_nonce
     (subst (λ a. IsTrue v ↔ Holds key nonce a x.ct) is_aad
-    (subst (λ t. IsTrue v ↔ Holds key nonce aad t) is_ct
-    (subst (λ (g : HashedView). IsTrue v ↔ Holds g.key nonce g.aad g.ct) is told)))
+    (subst (λ t. IsTrue v ↔ Holds key nonce aad t) is_ct told))
 
 item_of : (f : Item → SealedMessage) (o : Option Item) (x : SealedMessage) → option_map f o ≡ Some x
     → (item : Item) × (o ≡ Some item) × (f item ≡ x)
@@ -40,7 +39,7 @@ item_of f None x is = absurd (none-some x is)
 item_of f (Some item) x is = (item, refl, same_Some (f item) x is)
 
 -- rows in their places at the front of a longer list make a table that fits
-pub fits_taken : (room guess limit n : ℕ) (key base_nonce pool : List ℕ) (items : List Item) (made rest : List (List Bool))
+pub fits_taken : (room guess limit n : ℕ) (key : AeadKey) (base_nonce pool : List ℕ) (items : List Item) (made rest : List (List Bool))
     → length items ≤ length made → length items ≤ n
     → ((i : ℕ) (item : Item) → slice_get items i ≡ Some item
     → IsRow guess limit key base_nonce i (sealed_message pool item) (slice_index_or made i []))
@@ -64,7 +63,7 @@ fits_taken room guess limit n key base_nonce pool items made rest size within ri
     }
 
 -- a row that is told under another name for its place
-pub row_moved : (guess limit : ℕ) (key base_nonce : List ℕ) (from to : ℕ) (x : SealedMessage) (row moved : List Bool)
+pub row_moved : (guess limit : ℕ) (key : AeadKey) (base_nonce : List ℕ) (from to : ℕ) (x : SealedMessage) (row moved : List Bool)
     → from ≡ to → row ≡ moved → IsRow guess limit key base_nonce from x row → IsRow guess limit key base_nonce to x moved
 row_moved guess limit key base_nonce from to x row moved place same right =
     subst (λ i. IsRow guess limit key base_nonce i x moved) place (subst (IsRow guess limit key base_nonce from x) same right)

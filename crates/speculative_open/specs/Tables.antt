@@ -1,14 +1,15 @@
 -- Tables of verdicts: whether each of several ciphertexts opens at the sequence numbers that a guess
 -- makes likely. A byte string is a list of numbers below 256.
 use Rattle.std.specs.Prelude.{ℕ, ◌≡◌, ◌+◌, ◌-◌, ◌≤◌, ◌↔◌, min, Bool, false, IsTrue, List, [], length, slice_get, slice_index_or, Some}
-use Rattle.aes_gcm.specs.Gcm.{Holds}
+use Rattle.hpke_aead.specs.declared.keys.AeadKey.{AeadKey}
+use Rattle.hpke_aead.specs.Aeads.{Holds}
 use Rattle.key_schedule.specs.Nonces.{compute_nonce}
 use Rattle.call_places.specs.Messages.{SealedMessage}
 
 -- ---- verdicts
 
--- GCM opens the ciphertext under the nonce of sequence number n: Open of RFC 9180, 5.2, doesn't fail
-abbrev pub OpensAt : List ℕ → List ℕ → ℕ → SealedMessage → Type 0
+-- the AEAD opens the ciphertext under the nonce of sequence number n: Open of RFC 9180, 5.2, doesn't fail
+abbrev pub OpensAt : AeadKey → List ℕ → ℕ → SealedMessage → Type 0
 OpensAt key base_nonce n x = Holds key (compute_nonce base_nonce n) x.aad x.ct
 
 -- ---- the table
@@ -31,7 +32,7 @@ abbrev pub verdict_at : ℕ → ℕ → List Bool → ℕ → Bool
 verdict_at guess i row n = slice_index_or row (guess + i - n) false
 
 -- row i tells whether item i opens, at each number at which the item is checked
-abbrev pub IsRow : ℕ → ℕ → List ℕ → List ℕ → ℕ → SealedMessage → List Bool → Type 0
+abbrev pub IsRow : ℕ → ℕ → AeadKey → List ℕ → ℕ → SealedMessage → List Bool → Type 0
 IsRow guess limit key base_nonce i x row =
     (n : ℕ) → IsChecked guess limit i n
     → IsTrue (verdict_at guess i row n) ↔ OpensAt key base_nonce n x
@@ -40,7 +41,8 @@ abbrev pub row_of : TableView → ℕ → List Bool
 row_of t i = slice_index_or t.rows i []
 
 -- the table is one of these items, under this key and base_nonce
-pub record Fits (t : TableView) (key base_nonce : List ℕ) (items : List SealedMessage) : Type 0 where
+pub record Fits (t : TableView) (key : AeadKey) (base_nonce : List ℕ) (items : List SealedMessage)
+    : Type 0 where
   pub count : length t.rows ≡ length items
   pub each : (i : ℕ) (x : SealedMessage) → slice_get items i ≡ Some x
       → IsRow t.guess t.limit key base_nonce i x (row_of t i)

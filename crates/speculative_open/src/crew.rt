@@ -7,8 +7,9 @@ ghost use Rattle.call_places.specs.Spans.{ItemIsInPool};
 ghost use Rattle.speculative_open.specs.Tables.{Fits};
 
 use crate::table::GuessTable;
-use aes_gcm::{GcmKey, MayCheck};
+use aes_gcm::MayCheck;
 use call_places::Item;
+use hpke_aead::AeadKey;
 use std::thread::Threads;
 
 /// Who checks the tags of a plan, and fills the tables of its openings.
@@ -25,7 +26,7 @@ pub trait Crew {
     fn fill(
         &self,
         table: &mut GuessTable,
-        key: &GcmKey,
+        key: &AeadKey,
         base_nonce: &[u8; 12],
         guess: u64,
         limit: u64,
@@ -69,7 +70,7 @@ impl<R: Threads + Sync> Crew for OnThreads<'_, R> {
     fn fill(
         &self,
         table: &mut GuessTable,
-        key: &GcmKey,
+        key: &AeadKey,
         base_nonce: &[u8; 12],
         guess: u64,
         limit: u64,
@@ -105,7 +106,7 @@ impl Crew for Alone {
     fn fill(
         &self,
         table: &mut GuessTable,
-        key: &GcmKey,
+        key: &AeadKey,
         base_nonce: &[u8; 12],
         guess: u64,
         limit: u64,

@@ -7,8 +7,9 @@ ghost use Rattle.call_places.specs.Spans.{ItemIsInPool};
 ghost use Rattle.key_schedule.specs.Nonces.{compute_nonce};
 ghost use Rattle.speculative_open.specs.Tables.{IsChecked, IsRow};
 
-use aes_gcm::{GcmKey, MayCheck};
+use aes_gcm::MayCheck;
 use call_places::Item;
+use hpke_aead::AeadKey;
 use key_schedule::nonce_at;
 use std::thread;
 use std::thread::Threads;
@@ -42,7 +43,7 @@ pub(crate) fn place(guess: u64, limit: u64, i: usize, n: u64) -> Option<usize>
 /// What rows are made with, besides the items.
 #[derive(Drop)]
 pub(crate) struct Opener<'a> {
-    pub(crate) key: &'a GcmKey,
+    pub(crate) key: &'a AeadKey,
     pub(crate) base_nonce: &'a [u8; 12],
     pub(crate) guess: u64,
     pub(crate) limit: u64,
@@ -59,20 +60,20 @@ impl Opener<'_> {
         nonce_at(self.base_nonce, number)
     }
 
-    // Row i, of this item. One hash of the item serves all its numbers, and one call of the cipher.
+    // Row i, of this item: one call for all its numbers.
     pub(crate) fn row(&self, permission: MayCheck, i: usize, item: Item) -> Row
         requires { ItemIsInPool (length self.now.pool.now) item }
         ensures { IsRow self.now.guess self.now.limit self.now.key.now self.now.base_nonce.now i
             (sealed_message self.now.pool.now item) result }
     {
         let (aad, text) = (item.aad.of(self.pool), item.text.of(self.pool));
-        let hashed = self.key.hash_ciphertext_by(permission, aad, text);
-        hashed.hold_at(&[
+        let nonces = [
             self.nonce(i, 0),
             self.nonce(i, 1),
             self.nonce(i, 2),
             self.nonce(i, 3),
-        ])
+        ];
+        self.key.hold_at(permission, &nonces, aad, text)
     }
 
     // The rows of the items from index `start` on.

@@ -3,11 +3,13 @@
 ghost use Rattle.std.specs.Prelude.{◌≡◌, ◌≤◌, ◌<◌, ◌↔◌, ℕ, List, [], All, Some, IfOk, IfSome, IsNone, IsTrue, length, slice_get};
 ghost use Rattle.call_places.specs.Messages.{SealedMessage, sealed_messages};
 ghost use Rattle.call_places.specs.Spans.{ItemIsInPool};
+ghost use Rattle.hpke_aead.specs.declared.keys.AeadKey.{AeadKey};
 ghost use Rattle.speculative_open.specs.Tables.{OpensAt, IsChecked, verdict_at, row_of, Fits};
 
 use crate::rows::{BLANK, Opener, Row, place};
-use aes_gcm::{GcmKey, MayCheck};
+use aes_gcm::MayCheck;
 use call_places::Item;
+use hpke_aead::AeadKey;
 use std::alloc::{AllocError as OutOfMemory, Global};
 use std::marker::Model;
 use std::thread;
@@ -57,12 +59,12 @@ impl GuessTable {
     /// Checks item i at the numbers guess + i - k, for k from 0 to min(i, 3), that are at most
     /// `limit`, which is LIMIT. What the table held before is overwritten.
     ///
-    /// Each item is hashed once, by one of several threads where there is work enough. It waits for
+    /// Each item is checked by one of several threads where there is work enough. It waits for
     /// no lock, and takes no memory.
     pub fn fill<R: Threads + Sync>(
         &mut self,
         rt: &R,
-        key: &GcmKey,
+        key: &AeadKey,
         base_nonce: &[u8; 12],
         guess: u64,
         limit: u64,
@@ -94,7 +96,7 @@ impl GuessTable {
     pub fn fill_alone(
         &mut self,
         permission: MayCheck,
-        key: &GcmKey,
+        key: &AeadKey,
         base_nonce: &[u8; 12],
         guess: u64,
         limit: u64,
@@ -134,9 +136,9 @@ impl GuessTable {
         requires row { i < length self.now.rows }
         ensures none { IsNone result ↔ ¬ IsChecked self.now.guess self.now.limit i n }
         ensures some { IfSome result (λ v. v ≡ verdict_at self.now.guess i (row_of self.now i) n) }
-        ensures tells { (key base_nonce : List ℕ) (items : List SealedMessage) (x : SealedMessage)
-            → Fits self.now key base_nonce items → slice_get items i ≡ Some x
-            → IfSome result (λ v. IsTrue v ↔ OpensAt key base_nonce n x) }
+        ensures tells { (key : AeadKey) (base_nonce : List ℕ) (items : List SealedMessage)
+            (x : SealedMessage) → Fits self.now key base_nonce items
+            → slice_get items i ≡ Some x → IfSome result (λ v. IsTrue v ↔ OpensAt key base_nonce n x) }
     {
         let k = place(self.guess, self.limit, i, n)?;
         Some(self.rows[i][k])

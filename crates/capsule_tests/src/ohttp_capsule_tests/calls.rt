@@ -1,7 +1,7 @@
 //! The calls, with ample memory.
 
 ghost use Rattle.std.specs.Prelude.{◌≤◌, ◌^◌, length, IsTrue};
-ghost use Rattle.hpke_context.specs.Calls.{encrypts};
+ghost use Rattle.hkdf_labelled.specs.Suites.{encrypts};
 
 use byte_strings::ByteList;
 use hkdf_labelled::Suite;

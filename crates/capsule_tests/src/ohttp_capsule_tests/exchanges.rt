@@ -1,7 +1,7 @@
 //! Whole exchanges against another program.
 
 ghost use Rattle.std.specs.Prelude.{IsTrue};
-ghost use Rattle.hpke_context.specs.Calls.{encrypts};
+ghost use Rattle.hkdf_labelled.specs.Suites.{encrypts};
 
 use super::calls::{QUESTION, REPLY, answered, asked, keys_of, taken};
 use crate::expected::assert_same;

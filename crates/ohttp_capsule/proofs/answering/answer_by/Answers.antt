@@ -2,7 +2,8 @@ use Rattle.std.proofs.Common.{◌≡◌, ◌-◌, Err, length, take, drop, sym, 
 use Rattle.std.proofs.lemmas.List.{take_all}
 use Rattle.sntrup_kem.specs.Sizes.{enc_size}
 use Rattle.hpke_context.specs.Contexts.{ContextView}
-use Rattle.hpke_context.specs.Calls.{HasCipher, encrypts}
+use Rattle.hkdf_labelled.specs.Suites.{encrypts}
+use Rattle.hpke_context.specs.Calls.{HasCipher}
 use Rattle.ohttp_capsule.specs.declared.faults.CapsuleFault.TheVariants.{OutOfMemory}
 use Rattle.ohttp_capsule.proofs.Telling.{told_refusal, told_memory, told_answer, ready_by, tells}
 use Rattle.ohttp_capsule.proofs.answering.answer_by.Goals as goal

@@ -1,9 +1,8 @@
 use Rattle.std.proofs.Common.{◌≡◌, Ok, Err, [], true, sym, ap, ◌∙◌, rules}
 use Rattle.std.proofs.lemmas.Bool.{cond-true}
 use Rattle.std.proofs.lemmas.List.{take_at}
-use Rattle.aes_gcm.specs.Gcm.{clear}
-use Rattle.hpke_context.specs.Contexts.{tag_holds}
-use Rattle.hpke_context.proofs.Tags.{tag_holds-told}
+use Rattle.hpke_aead.specs.Aeads.{tag_holds, clear}
+use Rattle.hpke_aead.proofs.Tags.{tag_holds-told}
 use Rattle.ohttp_capsule.specs.declared.faults.CapsuleFault.TheVariants.{Failed}
 use Rattle.ohttp_capsule.proofs.responses.opened.Goals as goal
 

@@ -5,7 +5,7 @@ use Rattle.call_places.specs.declared.spans.Item as spans
 use Rattle.call_places.specs.Entries.{own, seq_of, StampsBelow}
 use Rattle.hpke_context.specs.Answers.{Item, Cipher, Unseal, answer, next}
 use Rattle.hpke_context.specs.Contexts.{cipher_of}
-use Rattle.hpke_context.proofs.Tags.{tag_holds-told}
+use Rattle.hpke_aead.proofs.Tags.{tag_holds-told}
 use Rattle.context_books.specs.Batches.{place}
 use Rattle.context_books.specs.Entries.{entry, step_for}
 use Rattle.context_books.specs.Guesses.{is_in_window}

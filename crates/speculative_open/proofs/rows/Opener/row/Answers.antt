@@ -14,8 +14,8 @@ returns c =
     c.nonce.ensures c.nonce-2.ensures c.nonce-3.ensures c.nonce-4.ensures in
     row_of_four self.guess self.limit self.key.now self.base_nonce.now c.args.i x c.hold_at.result
     (λ k K n e l w.
-    opens_is self.key.now self.base_nonce.now n x c.hash_ciphertext_by-hashed.result c.of-aad.result.now c.of-text.result.now (get_or nonces k []) (get_or c.hold_at.result k false)
-    c.hash_ciphertext_by-hashed.ensures c.of-aad.ensures c.of-text.ensures (told k K n e w) (c.hold_at.ensures k K))
+    opens_is self.key.now self.base_nonce.now n x c.of-aad.result.now c.of-text.result.now (get_or nonces k []) (get_or c.hold_at.result k false)
+    c.of-aad.ensures c.of-text.ensures (told k K n e w) (c.hold_at.ensures k K))
   where
     four : (P : ℕ → Type 0) → P 0 → P 1 → P 2 → P 3 → (k : ℕ) → k < 4 → P k
     four P a b c d zero K = a
