@@ -1,7 +1,8 @@
 //! Keys of AEADs: sealing, checking, decrypting.
 
-ghost use Rattle.std.specs.Prelude.{◌≡◌, ◌↔◌, ◌≤◌, ◌<◌, ◌+◌, ◌-◌, ◌^◌, ℕ, [], false, length, slice_index_or, IsTrue};
+ghost use Rattle.std.specs.Prelude.{◌≡◌, ◌↔◌, ◌≤◌, ◌<◌, ◌+◌, ◌-◌, ◌^◌, ℕ, [], false, length, take, slice_index_or, IsTrue};
 ghost use Rattle.hkdf_labelled.specs.Suites.{encrypts, parameters};
+ghost use Rattle.aes_gcm.specs.Gcm.{last_16};
 ghost use Rattle.hpke_aead.specs.Aeads.{key_of, seal, Holds, clear};
 
 use aes_gcm::{Checks, GcmKey, MayCheck};
@@ -41,6 +42,19 @@ impl AeadKey {
     {
         match self {
             AeadKey::Gcm(key) => key.seal_into(nonce, aad, text, out),
+        }
+    }
+
+    /// The same in place: `buffer` has a text and 16 bytes behind it, and then the ciphertext and the tag.
+    pub fn seal_in_place(&self, nonce: &[u8; 12], aad: &[u8], buffer: &mut [u8])
+        requires room { 16 ≤ length buffer.old }
+        requires text { length buffer.old - 16 ≤ 2 ^ 36 - 32 }
+        requires aad { length aad.now < 2 ^ 61 }
+        ensures { buffer.new
+            ≡ seal self.now nonce.now aad.now (take (length buffer.old - 16) buffer.old) }
+    {
+        match self {
+            AeadKey::Gcm(key) => key.seal_in_place(nonce, aad, buffer),
         }
     }
 
@@ -85,6 +99,19 @@ impl AeadKey {
     {
         match self {
             AeadKey::Gcm(key) => key.decrypt_into(nonce, aad, ct, out),
+        }
+    }
+
+    /// The same in place: all but the last 16 bytes of `buffer` become their decryption, and the tag behind
+    /// them stays.
+    pub fn decrypt_in_place(&self, nonce: &[u8; 12], aad: &[u8], buffer: &mut [u8])
+        requires { Holds self.now nonce.now aad.now buffer.old }
+        ensures text { take (length buffer.old - 16) buffer.new
+            ≡ clear self.now nonce.now buffer.old }
+        ensures tag { last_16 buffer.new ≡ last_16 buffer.old }
+    {
+        match self {
+            AeadKey::Gcm(key) => key.decrypt_in_place(nonce, aad, buffer),
         }
     }
 }

@@ -2,7 +2,8 @@
 //! export.
 
 ghost use Rattle.std.specs.Prelude.{◌≡◌, ◌≢◌, ◌⊎◌, ◌↔◌, ◌≤◌, ◌+◌, ◌-◌, length, take, ◌<◌};
-ghost use Rattle.aes_gcm.specs.Gcm.{seal, clear, last_16, Holds};
+ghost use Rattle.aes_gcm.specs.Gcm.{last_16};
+ghost use Rattle.hpke_aead.specs.Aeads.{seal, clear, Holds};
 ghost use Rattle.library_calls.specs.Contexts.{sender, recipient, IsContext, Serves, key_held, nonce_due, export_most, exported_held};
 ghost use Rattle.library_calls.specs.Lengths.{FitsSeal, FitsOpen, FitsSealInPlace, FitsOpenInPlace};
 ghost use Rattle.library_calls.specs.Messages.{FitsSealAll, sealed_all, FitsOpenAll, AllHold, opened_all};

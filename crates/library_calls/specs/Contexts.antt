@@ -1,7 +1,7 @@
 -- The context that a caller in C holds (RFC 9180, 5.1 and 5.2): numbers and bytes.
 use Rattle.std.specs.Prelude.{◌≡◌, ◌⊎◌, ◌≤◌, ℕ, ◌*◌, ◌==◌, if◌then◌else◌, List, take}
 use Rattle.hkdf_labelled.specs.Hmac.{zero_padded}
-use Rattle.hkdf_labelled.specs.Suites.{hash_size, kdf_id, aead_id}
+use Rattle.hkdf_labelled.specs.Suites.{hash_size, kdf_id, aead_id, parameters}
 use Rattle.hkdf_labelled.specs.declared.suites.Suite.{Suite}
 use Rattle.hkdf_labelled.specs.declared.suites.Kdf.{Kdf}
 use Rattle.hkdf_labelled.specs.declared.suites.Kdf.TheVariants.{Sha256, Sha384, Sha512}
@@ -13,6 +13,8 @@ use Rattle.key_schedule.specs.declared.schedules.Secrets.{Secrets}
 use Rattle.key_schedule.specs.Exports.{exported}
 use Rattle.key_schedule.specs.Nonces.{compute_nonce}
 use Rattle.key_schedule.specs.Secrets.{key_bytes, base_nonce_in}
+use Rattle.hpke_aead.specs.declared.keys.AeadKey.{AeadKey}
+use Rattle.hpke_aead.specs.Aeads.{key_of}
 use Rattle.library_calls.specs.declared.contexts.HpkeContext.{HpkeContext}
 
 -- ---- numbers that name something
@@ -60,9 +62,11 @@ HasKey c = (c.aead ≡ 1) ⊎ (c.aead ≡ 2)
 abbrev pub Serves : HpkeContext → ℕ → Type 0
 Serves c role = IsContext c × (c.role ≡ role) × HasKey c
 
--- the key: the first 16 bytes of `key` for AES-128-GCM, and all of it for AES-256-GCM
-abbrev pub key_held : HpkeContext → List ℕ
-key_held c = if c.aead == 1 then take 16 c.key else c.key
+-- the key, as the AEAD's own: the first Nk bytes of `key`
+abbrev pub key_held : HpkeContext → AeadKey
+key_held c =
+    let aead = aead_named c.aead in
+    key_of aead (take (parameters aead).key_size c.key)
 
 -- ComputeNonce of the number that is due (RFC 9180, 5.2)
 abbrev pub nonce_due : HpkeContext → List ℕ

@@ -2,7 +2,8 @@
 -- references; its items are the byte strings behind them.
 use Rattle.std.specs.Prelude.{◌≡◌, ◌<◌, ◌≤◌, ◌+◌, ◌-◌, ◌^◌, ℕ, zero, suc, List, [], ◌++◌, length, map, slice_index_or}
 use Rattle.std.specs.Borrow.{Bor}
-use Rattle.aes_gcm.specs.Gcm.{seal, Holds, clear}
+use Rattle.hpke_aead.specs.declared.keys.AeadKey.{AeadKey}
+use Rattle.hpke_aead.specs.Aeads.{seal, Holds, clear}
 use Rattle.key_schedule.specs.Nonces.{compute_nonce}
 use Rattle.library_calls.specs.declared.contexts.HpkeContext.{HpkeContext}
 use Rattle.library_calls.specs.Contexts.{key_held}
@@ -40,7 +41,7 @@ pub record FitsSealAll (aads texts : List (Bor (List ℕ))) (room : ℕ) : Type 
   pub room_is : room ≡ added (sealed_size texts) (length texts)
 
 -- the ciphertexts of k texts, joined, where this number is that of the first
-abbrev pub sealed_by : List ℕ → List ℕ → ℕ → List (Bor (List ℕ)) → List (Bor (List ℕ)) → ℕ → List ℕ
+abbrev pub sealed_by : AeadKey → List ℕ → ℕ → List (Bor (List ℕ)) → List (Bor (List ℕ)) → ℕ → List ℕ
 sealed_by key base_nonce number aads texts k =
     joined (λ i. seal key (nonce_of base_nonce number i) (item aads i) (item texts i)) k
 
@@ -63,7 +64,7 @@ pub record FitsOpenAll (aads cts : List (Bor (List ℕ))) (room : ℕ) : Type 0 
   pub room_is : room ≡ added (opened_size cts) (length cts)
 
 -- each of k tags holds, where this number is that of the first
-abbrev pub EachHolds : List ℕ → List ℕ → ℕ → List (Bor (List ℕ)) → List (Bor (List ℕ)) → ℕ → Type 0
+abbrev pub EachHolds : AeadKey → List ℕ → ℕ → List (Bor (List ℕ)) → List (Bor (List ℕ)) → ℕ → Type 0
 EachHolds key base_nonce number aads cts n =
     (k : ℕ) → k < n → Holds key (nonce_of base_nonce number k) (item aads k) (item cts k)
 
@@ -71,7 +72,7 @@ abbrev pub AllHold : HpkeContext → List (Bor (List ℕ)) → List (Bor (List �
 AllHold c aads cts = EachHolds (key_held c) c.base_nonce c.number aads cts (length cts)
 
 -- the texts of k ciphertexts, joined
-abbrev pub opened_by : List ℕ → List ℕ → ℕ → List (Bor (List ℕ)) → ℕ → List ℕ
+abbrev pub opened_by : AeadKey → List ℕ → ℕ → List (Bor (List ℕ)) → ℕ → List ℕ
 opened_by key base_nonce number cts k =
     joined (λ i. clear key (nonce_of base_nonce number i) (item cts i)) k
 

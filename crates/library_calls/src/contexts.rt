@@ -1,16 +1,17 @@
 //! One end's context (RFC 9180, 5.2 and 5.3), which its caller holds.
 
 ghost use Rattle.std.specs.Prelude.{◌≡◌, ◌≢◌, ◌⊎◌, ◌↔◌, ◌≤◌, ◌<◌, ◌+◌, ◌*◌, length, IsTrue, IsOk, IfOk, IfErr};
-ghost use Rattle.aes_gcm.specs.Gcm.{seal, clear, Holds};
+ghost use Rattle.hpke_aead.specs.Aeads.{seal, clear, Holds};
 ghost use Rattle.library_calls.specs.Contexts.{sender, recipient, NamesKdf, NamesAead, kdf_named, aead_named, suite_named, IsContext, Serves, key_held, nonce_due, export_most, exported_held};
 ghost use Rattle.library_calls.specs.Lengths.{FitsSeal, FitsOpen, FitsOpenInPlace};
 ghost use Rattle.library_calls.specs.Statuses.{done, wrong_usage, refused_role, refused_nocipher, refused_limit, refused_failed, refused_exportsize};
 
-use crate::ciphers::{fits_open, fits_seal, key_of};
+use crate::ciphers::{fits_open, fits_seal};
 use crate::statuses::{
     REFUSED_EXPORTSIZE, REFUSED_FAILED, REFUSED_LIMIT, REFUSED_NOCIPHER, REFUSED_ROLE, WRONG_USAGE,
 };
-use aes_gcm::{Checks, GcmKey, MayCheck};
+use aes_gcm::{Checks, MayCheck};
+use hpke_aead::AeadKey;
 use hkdf_labelled::{Aead, Kdf, Suite, labeled_expand_into};
 use key_schedule::nonce_at;
 use std::rt::Memory;
@@ -95,7 +96,7 @@ fn is_context(context: &HpkeContext) -> bool
 }
 
 /// The key of a context that serves a call of this role, or why it doesn't.
-pub(crate) fn serving(context: &HpkeContext, role: u16) -> Result<GcmKey, u32>
+pub(crate) fn serving(context: &HpkeContext, role: u16) -> Result<AeadKey, u32>
     ensures ok { IsOk result ↔ Serves context.now role }
     ensures key { IfOk result (λ key. key ≡ key_held context.now) }
     ensures role { (result ≡ Err refused_role)
@@ -111,19 +112,16 @@ pub(crate) fn serving(context: &HpkeContext, role: u16) -> Result<GcmKey, u32>
     if context.role != role {
         return Err(REFUSED_ROLE);
     }
-    let key = match context.aead {
-        1 => key_of(&context.key[..16]),
-        2 => key_of(&context.key),
-        _ => None,
-    };
-    match key {
-        Some(key) => Ok(key),
-        None => Err(REFUSED_NOCIPHER),
+    let aead = aead_named(context.aead);
+    if !aead.encrypts() {
+        return Err(REFUSED_NOCIPHER);
     }
+    let size = aead.parameters().key_size;
+    Ok(AeadKey::new(aead, &context.key[..size]))
 }
 
 /// The key of a sender that has a number left, or why it doesn't seal.
-pub(crate) fn sealing(context: &HpkeContext) -> Result<GcmKey, u32>
+pub(crate) fn sealing(context: &HpkeContext) -> Result<AeadKey, u32>
     ensures ok { IsOk result
         ↔ (Serves context.now sender × (context.now.number < context.now.limit)) }
     ensures key { IfOk result (λ key. key ≡ key_held context.now) }
@@ -184,7 +182,7 @@ pub(crate) fn opening(
     context: &HpkeContext,
     aad: &[u8],
     ct: &[u8],
-) -> Result<GcmKey, u32>
+) -> Result<AeadKey, u32>
     requires { FitsOpenInPlace (length aad.now) (length ct.now) }
     ensures ok { IsOk result ↔ (Serves context.now recipient
         × Holds (key_held context.now) (nonce_due context.now) aad.now ct.now

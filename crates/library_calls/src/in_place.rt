@@ -1,7 +1,8 @@
 //! One message of a context, sealed and opened in its own place.
 
 ghost use Rattle.std.specs.Prelude.{◌≡◌, ◌≢◌, ◌⊎◌, ◌↔◌, ◌≤◌, ◌<◌, ◌+◌, ◌-◌, length, take};
-ghost use Rattle.aes_gcm.specs.Gcm.{seal, clear, last_16, Holds};
+ghost use Rattle.aes_gcm.specs.Gcm.{last_16};
+ghost use Rattle.hpke_aead.specs.Aeads.{seal, clear, Holds};
 ghost use Rattle.library_calls.specs.Contexts.{sender, recipient, IsContext, Serves, key_held, nonce_due};
 ghost use Rattle.library_calls.specs.Lengths.{FitsSealInPlace, FitsOpenInPlace};
 ghost use Rattle.library_calls.specs.Statuses.{done, wrong_usage, refused_role, refused_nocipher, refused_limit, refused_failed};

@@ -1,7 +1,7 @@
 //! Many messages of a context in one call: all of them, or none.
 
 ghost use Rattle.std.specs.Prelude.{◌≡◌, ◌≢◌, ◌⊎◌, ◌↔◌, ◌≤◌, ◌<◌, ◌+◌, ◌-◌, ◌^◌, ◌++◌, ℕ, length, take, IsTrue, IfSome, IfNone};
-ghost use Rattle.aes_gcm.specs.Gcm.{seal, clear, Holds};
+ghost use Rattle.hpke_aead.specs.Aeads.{seal, clear, Holds};
 ghost use Rattle.library_calls.specs.Contexts.{sender, recipient, IsContext, Serves};
 ghost use Rattle.library_calls.specs.Messages.{item, sealed_by, FitsSealAll, sealed_all, FitsOpenAll, EachHolds, AllHold, opened_by, opened_all};
 ghost use Rattle.library_calls.specs.Statuses.{done, wrong_usage, refused_role, refused_nocipher, refused_limit, refused_failed};
@@ -9,7 +9,8 @@ ghost use Rattle.library_calls.specs.Statuses.{done, wrong_usage, refused_role, 
 use crate::ciphers::{AAD_END, MOST_TEXT};
 use crate::contexts::{HpkeContext, RECIPIENT, SENDER, serving};
 use crate::statuses::{REFUSED_FAILED, REFUSED_LIMIT, WRONG_USAGE};
-use aes_gcm::{Checks, GcmKey, MayCheck};
+use aes_gcm::{Checks, MayCheck};
+use hpke_aead::AeadKey;
 use key_schedule::nonce_at;
 use std::rt::Memory;
 
@@ -53,7 +54,7 @@ fn fits_seal_all(aads: &[&[u8]], texts: &[&[u8]], room: usize) -> bool
 
 // Seals a text at a place of `out`, and gives where it ends.
 fn put_sealed(
-    key: &GcmKey,
+    key: &AeadKey,
     nonce: &[u8; 12],
     aad: &[u8],
     text: &[u8],
@@ -75,7 +76,7 @@ fn put_sealed(
 
 // Seals all of what fits.
 fn seal_each(
-    key: &GcmKey,
+    key: &AeadKey,
     base_nonce: &[u8; 12],
     number: u64,
     aads: &[&[u8]],
@@ -169,7 +170,7 @@ fn fits_open_all(aads: &[&[u8]], cts: &[&[u8]], room: usize) -> bool
 }
 
 // Whether a tag holds.
-fn holds(permission: MayCheck, key: &GcmKey, nonce: &[u8; 12], aad: &[u8], ct: &[u8]) -> bool
+fn holds(permission: MayCheck, key: &AeadKey, nonce: &[u8; 12], aad: &[u8], ct: &[u8]) -> bool
     requires aad { length aad.now < 2 ^ 61 }
     requires ct { length ct.now ≤ 2 ^ 36 - 16 }
     ensures { IsTrue result ↔ Holds key.now nonce.now aad.now ct.now }
@@ -181,7 +182,7 @@ fn holds(permission: MayCheck, key: &GcmKey, nonce: &[u8; 12], aad: &[u8], ct: &
 // Whether all tags hold.
 fn all_hold(
     permission: MayCheck,
-    key: &GcmKey,
+    key: &AeadKey,
     base_nonce: &[u8; 12],
     number: u64,
     aads: &[&[u8]],
@@ -203,7 +204,7 @@ fn all_hold(
 
 // Opens a ciphertext to a place of `out`, and gives where the text ends.
 fn put_opened(
-    key: &GcmKey,
+    key: &AeadKey,
     nonce: &[u8; 12],
     aad: &[u8],
     ct: &[u8],
@@ -223,7 +224,7 @@ fn put_opened(
 
 // Opens all, whose tags hold.
 fn open_each(
-    key: &GcmKey,
+    key: &AeadKey,
     base_nonce: &[u8; 12],
     number: u64,
     aads: &[&[u8]],

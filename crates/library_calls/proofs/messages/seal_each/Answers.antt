@@ -1,5 +1,5 @@
 use Rattle.std.proofs.Common.{◌≡◌, ◌+◌, ◌++◌, ℕ, List, length, ap, ap₂, refl, sym, ◌∙◌, arith}
-use Rattle.aes_gcm.specs.Gcm.{seal}
+use Rattle.hpke_aead.specs.Aeads.{seal}
 use Rattle.library_calls.specs.Messages.{item, sealed_size, nonce_of}
 use Rattle.library_calls.proofs.Sizes.{added-none, added-more, added-within, joined-none, joined-more}
 use Rattle.library_calls.proofs.messages.seal_each.Goals as goal
