@@ -6,7 +6,7 @@ ghost use Rattle.hkdf_labelled.specs.Labels.{labeled_expand};
 ghost use Rattle.hkdf_labelled.specs.Suites.{hash_size};
 
 use crate::hkdf::expand_parts;
-use crate::labels::expand_prefix;
+use crate::labels::{expand_prefix, suite_id};
 use crate::macs::Mac;
 use crate::prks::Prk;
 use crate::suites::{Kdf, Suite};
@@ -50,7 +50,7 @@ impl Expander {
         requires { length out.old ≤ 255 * hash_size self.now.kdf }
         ensures { out.new ≡ expand self.now.kdf self.now.prk info.now (length out.old) }
     {
-        expand_parts(self.kdf, self.keyed.copy(), &[], &[], info, out);
+        expand_parts(self.kdf, self.keyed.copy(), &[], &[], &[], info, out);
     }
 
     /// LabeledExpand (RFC 9180, 4), as [`labeled_expand_into`](crate::labeled_expand_into), for a
@@ -61,7 +61,8 @@ impl Expander {
         ensures { out.new
             ≡ labeled_expand suite.now self.now.prk label.now info.now (length out.old) }
     {
-        let prefix = expand_prefix(suite, out.len() as u16);
-        expand_parts(self.kdf, self.keyed.copy(), &prefix, label, info, out);
+        let prefix = expand_prefix(out.len() as u16);
+        let keyed = self.keyed.copy();
+        expand_parts(self.kdf, keyed, &prefix, &suite_id(suite), label, info, out);
     }
 }

@@ -22,24 +22,26 @@ pub fn extract(kdf: Kdf, salt: &[u8], ikm: &[u8]) -> Prk
 }
 
 // The output block after `previous`, numbered `counter`. The MAC has the key, and no message yet.
-// The info is `prefix`, `label` and `info` joined.
+// The info is `prefix`, `suite_id`, `label` and `info` joined.
 fn next_block(
     mac: Mac,
     previous: &Prk,
     prefix: &[u8],
+    suite_id: &[u8],
     label: &[u8],
     info: &[u8],
     counter: u8,
 ) -> Prk
     ensures value { (kdf : Kdf) (prk : List ℕ) → IsKeyed mac kdf prk []
         → result ≡ hmac_of kdf prk
-        (previous.now ++ (prefix.now ++ label.now ++ info.now) ++ counter ∷ []) }
+        (previous.now ++ (prefix.now ++ suite_id.now ++ label.now ++ info.now) ++ counter ∷ []) }
     ensures size { (kdf : Kdf) (prk : List ℕ) → IsKeyed mac kdf prk []
         → length result ≡ hash_size kdf }
 {
     let mut mac = mac;
     mac.update(previous.as_slice());
     mac.update(prefix);
+    mac.update(suite_id);
     mac.update(label);
     mac.update(info);
     mac.update(&[counter]);
@@ -58,11 +60,12 @@ fn copy_at(out: &mut [u8], at: usize, bytes: &[u8]) -> usize
 }
 
 // HKDF-Expand under the PRK that the MAC has as its key, with no message yet. The info is `prefix`,
-// `label` and `info` joined. It comes in three parts, since joining them would take memory.
+// `suite_id`, `label` and `info` joined. It comes in parts, since joining them would take memory.
 pub(crate) fn expand_parts(
     kdf: Kdf,
     keyed: Mac,
     prefix: &[u8],
+    suite_id: &[u8],
     label: &[u8],
     info: &[u8],
     out: &mut [u8],
@@ -70,17 +73,26 @@ pub(crate) fn expand_parts(
     requires keyed { (prk : List ℕ) × IsKeyed keyed kdf prk [] }
     requires blocks { length out.old ≤ 255 * hash_size kdf }
     ensures { (prk : List ℕ) → IsKeyed keyed kdf prk []
-        → out.new ≡ expand kdf prk (prefix.now ++ label.now ++ info.now) (length out.old) }
+        → out.new ≡ expand kdf prk (prefix.now ++ suite_id.now ++ label.now ++ info.now)
+        (length out.old) }
 {
     let mut previous = Prk::from_slice(&[]);
     let mut counter = 0u8;
     let mut filled = 0;
     'filling: while out.len() - filled > kdf.size() {
         counter += 1;
-        previous = next_block(keyed.copy(), &previous, prefix, label, info, counter);
+        previous = next_block(
+            keyed.copy(),
+            &previous,
+            prefix,
+            suite_id,
+            label,
+            info,
+            counter,
+        );
         filled += copy_at(out, filled, previous.as_slice());
     }
-    let last = next_block(keyed, &previous, prefix, label, info, counter + 1);
+    let last = next_block(keyed, &previous, prefix, suite_id, label, info, counter + 1);
     copy_at(out, filled, last.as_slice());
 }
 
@@ -92,5 +104,5 @@ pub fn expand_into(kdf: Kdf, prk: &[u8], info: &[u8], out: &mut [u8])
     requires { length out.old ≤ 255 * hash_size kdf }
     ensures { out.new ≡ expand kdf prk.now info.now (length out.old) }
 {
-    expand_parts(kdf, Mac::new(kdf, prk), &[], &[], info, out);
+    expand_parts(kdf, Mac::new(kdf, prk), &[], &[], &[], info, out);
 }

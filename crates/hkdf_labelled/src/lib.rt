@@ -25,7 +25,9 @@ mod suites;
 
 pub use expanders::Expander;
 pub use hkdf::{expand_into, extract};
-pub use labels::{labeled_expand_into, labeled_extract, suite_id};
+pub use labels::{
+    labeled_expand_into, labeled_expand_with, labeled_extract, labeled_extract_with, suite_id,
+};
 pub use macs::{Mac, hmac};
 pub use prks::Prk;
 pub use suites::{Aead, AeadParameters, Kdf, Suite, TAG_SIZE};

@@ -20,7 +20,7 @@ filling-init c = record {
 pub filling-preserved : goal.filling-preserved
 filling-preserved c =
     let kdf = c.args.kdf in
-    let info = c.args.prefix.now ++ c.args.label.now ++ c.args.info.now in
+    let info = c.args.prefix.now ++ c.args.suite_id.now ++ c.args.label.now ++ c.args.info.now in
     let n = c.filling.counter in
     let whole = c.filling.invariant.whole in
     let copied_keyed : (prk : List ℕ) → IsKeyed c.args.keyed kdf prk [] → IsKeyed c.copy.result kdf prk [] =
@@ -50,7 +50,7 @@ filling-preserved c =
 pub returns : goal.returns
 returns c = λ prk keyed.
     let kdf = c.args.kdf in
-    let info = c.args.prefix.now ++ c.args.label.now ++ c.args.info.now in
+    let info = c.args.prefix.now ++ c.args.suite_id.now ++ c.args.label.now ++ c.args.info.now in
     let n = c.filling.counter in
     let filled = c.filling.filled in
     let len = length c.args.out.now in

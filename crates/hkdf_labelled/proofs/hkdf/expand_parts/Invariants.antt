@@ -7,9 +7,9 @@ use Rattle.hkdf_labelled.proofs.hkdf.expand_parts.Given as goal
 abbrev pub invariant-filling : goal.invariant-filling
 invariant-filling l = record {
   done : (prk : List ℕ) → IsKeyed l.fn.keyed l.fn.kdf prk []
-      → take l.filled l.out ≡ take l.filled (output_blocks l.fn.kdf prk (l.prefix ++ l.label ++ l.info) l.counter);
+      → take l.filled l.out ≡ take l.filled (output_blocks l.fn.kdf prk (l.prefix ++ l.suite_id ++ l.label ++ l.info) l.counter);
   last : (prk : List ℕ) → IsKeyed l.fn.keyed l.fn.kdf prk []
-      → l.previous ≡ output_block l.fn.kdf prk (l.prefix ++ l.label ++ l.info) l.counter;
+      → l.previous ≡ output_block l.fn.kdf prk (l.prefix ++ l.suite_id ++ l.label ++ l.info) l.counter;
   within : l.filled ≤ length l.out;
   whole : l.filled ≡ l.counter * hash_size l.fn.kdf;
   few : l.counter < 255;

@@ -1,11 +1,8 @@
-use Rattle.std.proofs.Common.{◌++◌, length, ap, ◌∙◌}
-use Rattle.hkdf_labelled.specs.Hkdf.{expand}
+use Rattle.std.proofs.Common.{length, ap, ◌∙◌}
+use Rattle.hkdf_labelled.specs.Labels.{labeled_expand_with}
 use Rattle.hkdf_labelled.proofs.labels.labeled_expand_into.Goals as goal
 
 pub returns : goal.returns
 returns c =
-    let kdf = c.args.suite.now.kdf in
-    let prk = c.args.prk.now in
-    let len = length c.args.out.now in
-    c.expand_parts.ensures prk c.new-keyed.ensures
-    ∙ ap (λ prefix. expand kdf prk (prefix ++ c.args.label.now ++ c.args.info.now) len) c.expand_prefix-prefix.ensures
+    c.labeled_expand_with.ensures
+    ∙ ap (λ id. labeled_expand_with c.args.suite.now.kdf id c.args.prk.now c.args.label.now c.args.info.now (length c.args.out.now)) c.suite_id.ensures

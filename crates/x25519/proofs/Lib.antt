@@ -1,0 +1,4 @@
+pub mod BitLaws
+pub mod LadderLaws
+pub mod ClampLaws
+mod Published
