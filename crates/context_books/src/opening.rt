@@ -16,7 +16,6 @@ use batch_plans::limits::TAG_SIZE;
 use batch_plans::{LaneProgress, Reply};
 use call_places::{Item, Span, Step};
 use hpke_context::Context;
-use key_schedule::nonce_at;
 
 // Decrypts a ciphertext, whose tag holds at the number, to the bytes that a span names.
 fn open_at(context: &Context, number: u64, aad: &[u8], ct: &[u8], pool: &mut [u8], span: Span)
@@ -28,12 +27,9 @@ fn open_at(context: &Context, number: u64, aad: &[u8], ct: &[u8], pool: &mut [u8
     ensures opened { span_bytes pool.new span
         ≡ (cipher_of context.now).clear number aad.now ct.now }
 {
-    let (Some(key), Some(base_nonce)) = (context.cipher(), context.base_nonce()) else {
-        unreachable!()
-    };
     let start = span.start as usize;
     let out = &mut pool[start..start + span.len as usize];
-    key.decrypt_into(&nonce_at(base_nonce, number), aad, ct, out);
+    context.open_at(number, aad, ct, out);
 }
 
 // The reply to an item at this number, whose bytes are written.

@@ -13,7 +13,6 @@ use batch_plans::limits::TAG_SIZE;
 use batch_plans::{LaneProgress, Reply};
 use call_places::Span;
 use hpke_context::Context;
-use key_schedule::nonce_at;
 
 // Seals a text to the bytes that a span names.
 fn seal_at(context: &Context, number: u64, aad: &[u8], text: &[u8], pool: &mut [u8], span: Span)
@@ -26,12 +25,9 @@ fn seal_at(context: &Context, number: u64, aad: &[u8], text: &[u8], pool: &mut [
     ensures sealed { span_bytes pool.new span
         ≡ (cipher_of context.now).sealed number aad.now text.now }
 {
-    let (Some(key), Some(base_nonce)) = (context.cipher(), context.base_nonce()) else {
-        unreachable!()
-    };
     let start = span.start as usize;
     let out = &mut pool[start..start + span.len as usize];
-    key.seal_into(&nonce_at(base_nonce, number), aad, text, out);
+    context.seal_at(number, aad, text, out);
 }
 
 // The reply to a seal, whose bytes are written.

@@ -13,7 +13,6 @@ use crate::book::Book;
 use aes_gcm::Checks;
 use call_places::{Item, Place, Step};
 use hpke_context::Context;
-use key_schedule::nonce_at;
 use speculative_open::GuessTable;
 
 impl Book {
@@ -93,9 +92,5 @@ fn verdict(
     if let Some(holds) = known {
         return holds;
     }
-    let (Some(key), Some(base_nonce)) = (context.cipher(), context.base_nonce()) else {
-        unreachable!()
-    };
-    let nonce = nonce_at(base_nonce, number);
-    key.check_tag(&nonce, item.aad.of(pool), item.text.of(pool), checks)
+    context.holds_at(number, item.aad.of(pool), item.text.of(pool), checks)
 }

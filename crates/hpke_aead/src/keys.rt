@@ -65,6 +65,7 @@ impl AeadKey {
         requires ct { length ct.now ≤ 2 ^ 36 - 16 }
         requires aad { length aad.now < 2 ^ 61 }
         ensures truth { IsTrue result ↔ Holds self.now nonce.now aad.now ct.now }
+        ensures long { IsTrue result → 16 ≤ length ct.now }
         ensures count { checks.new ≡ checks.old + 1 }
     {
         match self {

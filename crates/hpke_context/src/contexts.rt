@@ -1,14 +1,16 @@
 //! Contexts, which don't change.
 
-ghost use Rattle.std.specs.Prelude.{◌≡◌, ◌≤◌, ◌<◌, ◌↔◌, length, IsSome, IsNone, IfSome, IsOk, OnOk, OnErr};
+ghost use Rattle.std.specs.Prelude.{◌≡◌, ◌≤◌, ◌<◌, ◌+◌, ◌-◌, ◌^◌, ◌↔◌, length, IsSome, IsNone, IfSome, IsOk, IsTrue, OnOk, OnErr};
 ghost use Rattle.key_schedule.specs.Secrets.{aead_of, base_nonce_in};
-ghost use Rattle.hpke_context.specs.Contexts.{key_in, export_limit, exported_by};
+ghost use Rattle.hpke_aead.specs.Aeads.{Holds};
+ghost use Rattle.hpke_context.specs.Contexts.{key_in, nonce_of, cipher_of, export_limit, exported_by};
 ghost use Rattle.hpke_context.specs.Calls.{HasCipher, IsExportOnly, KeepsKey};
 
 use crate::faults::CallFault;
+use aes_gcm::Checks;
 use hkdf_labelled::{Expander, Suite};
 use hpke_aead::AeadKey;
-use key_schedule::{CipherSecrets, Role, Secrets};
+use key_schedule::{CipherSecrets, Role, Secrets, nonce_at};
 use std::marker::Model;
 
 /// One end's context (RFC 9180, 5.1 and 5.2) without its sequence number: it doesn't change once
@@ -117,6 +119,59 @@ impl Context {
         ensures nonce { IfSome result (λ nonce. nonce.now ≡ base_nonce_in self.now.secrets.cipher) }
     {
         self.cipher.base_nonce()
+    }
+
+    // The key, and the nonce of a number.
+    fn at(&self, number: u64) -> (&AeadKey, [u8; 12])
+        requires { HasCipher self.now }
+        ensures key { result.0.now ≡ key_in self.now.secrets.cipher }
+        ensures nonce { result.1 ≡ nonce_of self.now number }
+    {
+        let (Some(key), Some(base_nonce)) = (self.cipher(), self.base_nonce()) else {
+            unreachable!()
+        };
+        (key, nonce_at(base_nonce, number))
+    }
+
+    /// Seals a text at a number: fills `out` with the ciphertext, as long as `text`, and the tag of 16
+    /// bytes. That no two texts are sealed at one number is the caller's to keep.
+    pub fn seal_at(&self, number: u64, aad: &[u8], text: &[u8], out: &mut [u8])
+        requires cipher { HasCipher self.now }
+        requires room { length out.old ≡ length text.now + 16 }
+        requires text { length text.now ≤ 2 ^ 36 - 32 }
+        requires aad { length aad.now < 2 ^ 61 }
+        ensures { out.new ≡ (cipher_of self.now).sealed number aad.now text.now }
+    {
+        let (key, nonce) = self.at(number);
+        key.seal_into(&nonce, aad, text, out);
+    }
+
+    /// Whether a tag holds at a number. Decrypts nothing. Each call counts as one check.
+    pub fn holds_at(&self, number: u64, aad: &[u8], ct: &[u8], checks: &mut Checks) -> bool
+        requires cipher { HasCipher self.now }
+        requires count { checks.old < 2 ^ 64 - 1 }
+        requires ct { length ct.now ≤ 2 ^ 36 - 16 }
+        requires aad { length aad.now < 2 ^ 61 }
+        ensures verdict { result ≡ (cipher_of self.now).holds number aad.now ct.now }
+        ensures truth { IsTrue result ↔ Holds (key_in self.now.secrets.cipher)
+            (nonce_of self.now number) aad.now ct.now }
+        ensures long { IsTrue result → 16 ≤ length ct.now }
+        ensures count { checks.new ≡ checks.old + 1 }
+    {
+        let (key, nonce) = self.at(number);
+        key.check_tag(&nonce, aad, ct, checks)
+    }
+
+    /// Decrypts a ciphertext whose tag holds at a number: fills `out` with the text, which is 16 bytes
+    /// shorter. The tag isn't computed again.
+    pub fn open_at(&self, number: u64, aad: &[u8], ct: &[u8], out: &mut [u8])
+        requires cipher { HasCipher self.now }
+        requires holds { IsTrue ((cipher_of self.now).holds number aad.now ct.now) }
+        requires room { length out.old + 16 ≡ length ct.now }
+        ensures { out.new ≡ (cipher_of self.now).clear number aad.now ct.now }
+    {
+        let (key, nonce) = self.at(number);
+        key.decrypt_into(&nonce, aad, ct, out);
     }
 
     /// The most bytes that one export gives: 255 Nh, the limit of HKDF-Expand.

@@ -8,7 +8,7 @@ ghost use Rattle.hpke_context.specs.Calls.{HasCipher, IsExportOnly, CanSeal, Can
 use crate::contexts::Context;
 use crate::faults::CallFault;
 use aes_gcm::Checks;
-use key_schedule::{Role, nonce_at};
+use key_schedule::Role;
 use std::marker::Model;
 
 /// A context that seals or opens one message after another (RFC 9180, 5.2). A contract sees the
@@ -89,15 +89,14 @@ impl Sequential {
         if self.context.role() == Role::Recipient {
             return Err(CallFault::Role);
         }
-        let (Some(key), Some(base_nonce)) = (self.context.cipher(), self.context.base_nonce())
-        else {
+        if self.context.cipher().is_none() {
             return Err(CallFault::NoCipher);
-        };
+        }
         if self.seq == self.context.limit() {
             return Err(CallFault::Limit);
         }
         let seq = self.seq;
-        key.seal_into(&nonce_at(base_nonce, seq), aad, text, out);
+        self.context.seal_at(seq, aad, text, out);
         self.seq += 1;
         Ok(seq)
     }
@@ -144,19 +143,17 @@ impl Sequential {
         if self.context.role() == Role::Sender {
             return Err(CallFault::Role);
         }
-        let (Some(key), Some(base_nonce)) = (self.context.cipher(), self.context.base_nonce())
-        else {
+        if self.context.cipher().is_none() {
             return Err(CallFault::NoCipher);
-        };
+        }
         let seq = self.seq;
-        let nonce = nonce_at(base_nonce, seq);
-        if !key.check_tag(&nonce, aad, ct, checks) {
+        if !self.context.holds_at(seq, aad, ct, checks) {
             return Err(CallFault::Failed);
         }
         if seq == self.context.limit() {
             return Err(CallFault::Limit);
         }
-        key.decrypt_into(&nonce, aad, ct, out);
+        self.context.open_at(seq, aad, ct, out);
         self.seq += 1;
         Ok(seq)
     }

@@ -19,7 +19,7 @@ use crate::statuses::{NO_MEMORY, REFUSED_FAILED, REFUSED_SHORT, WRONG_USAGE};
 use aes_gcm::MayCheck;
 use byte_strings::copied;
 use hpke_context::Context;
-use key_schedule::{Role, nonce_at};
+use key_schedule::Role;
 use ohttp_capsule::headers::header;
 use ohttp_capsule::setups::context_of;
 use ohttp_capsule::{Asked, CapsuleFault, take_by};
@@ -91,14 +91,11 @@ fn put_request(context: &Context, key_id: u8, enc: &[u8], text: &[u8], request: 
     ensures { request.new ≡ header key_id context.now.suite ++ enc.now
         ++ (cipher_of context.now).sealed 0 [] text.now }
 {
-    let (Some(key), Some(base_nonce)) = (context.cipher(), context.base_nonce()) else {
-        unreachable!()
-    };
     let (front, ct) = request.split_at_mut(HEADER_SIZE + enc.len());
     let (hdr, sent) = front.split_at_mut(HEADER_SIZE);
     hdr.copy_from_slice(&header(key_id, context.suite()));
     sent.copy_from_slice(enc);
-    key.seal_into(&nonce_at(base_nonce, 0), &[], text, ct);
+    context.seal_at(0, &[], text, ct);
 }
 
 // An encapsulation, with zero bytes behind it.

@@ -11,8 +11,8 @@ use crate::statuses::{
     REFUSED_EXPORTSIZE, REFUSED_FAILED, REFUSED_LIMIT, REFUSED_NOCIPHER, REFUSED_ROLE, WRONG_USAGE,
 };
 use aes_gcm::{Checks, MayCheck};
-use hpke_aead::AeadKey;
 use hkdf_labelled::{Aead, Kdf, Suite, labeled_expand_into};
+use hpke_aead::AeadKey;
 use key_schedule::nonce_at;
 use std::rt::Memory;
 

@@ -91,17 +91,6 @@ pub opened_tells : (key : AeadKey) (nonce ct : List ℕ) (r : Result (List ℕ) 
     → (r ≢ Err OutOfMemory → r ≡ opened_with key nonce ct) → IsOpened key nonce ct r
 opened_tells key nonce ct r told = opened_by key nonce ct (tag_holds key nonce [] ct) refl r told
 
--- the same with a context's key, at its nonce of number 0
-pub opened_at_first : (context : ContextView) (key : AeadKey) (base nonce ct : List ℕ)
-    (r : Result (List ℕ) CapsuleFault) → key ≡ key_in context.secrets.cipher
-    → base ≡ base_nonce_in context.secrets.cipher → nonce ≡ compute_nonce base 0
-    → (r ≢ Err OutOfMemory → r ≡ opened_with key nonce ct)
-    → IsOpened (key_in context.secrets.cipher) (nonce_of context 0) ct r
-opened_at_first context key base nonce ct r key_is base_is nonce_is told =
-    let once = nonce_is ∙ ap (λ (b : List ℕ). compute_nonce b 0) base_is in
-    subst (λ (k : AeadKey). IsOpened k (nonce_of context 0) ct r) key_is
-    (subst (λ (o : List ℕ). IsOpened key o ct r) once (opened_tells key nonce ct r told))
-
 -- ---- the gateway
 
 pub record Told (set : Set) (kem : ℕ) (sk : List ℕ) (id : ℕ) (request nonce text : List ℕ)
@@ -335,7 +324,7 @@ told_late asked response r long is = record {
 }
 
 -- what is opened with the key of the parts of a response
-pub taken_by_parts : (asked : Asked) (response key once enc nonce ct : List ℕ)
+pub taken_by_parts : (asked : Asked) (response : List ℕ) (key : AeadKey) (once enc nonce ct : List ℕ)
     → enc ≡ asked.enc → nonce ≡ nonce_in asked response → ct ≡ ct_of_response asked response
     → key ≡ aead_key asked.context enc nonce → once ≡ aead_nonce asked.context enc nonce
     → opened_with key once ct

@@ -5,11 +5,10 @@ ghost use Rattle.hpke_context.specs.Contexts.{cipher_of};
 ghost use Rattle.hpke_context.specs.Calls.{HasCipher};
 
 use crate::faults::CapsuleFault;
-use crate::responses::{opened, sealed};
 use aes_gcm::Checks;
-use byte_strings::ByteList;
+use byte_strings::{ByteList, PlainList};
+use hkdf_labelled::TAG_SIZE;
 use hpke_context::Context;
-use key_schedule::nonce_at;
 use std::alloc::{AllocError as OutOfMemory, Global};
 
 /// ContextS.Seal("", text), at number 0.
@@ -23,10 +22,9 @@ pub(crate) fn sealed_first(
     ensures ct { IfOk result (λ ct. ct ≡ (cipher_of context.now).sealed 0 [] text.now) }
     ensures size { IfOk result (λ ct. length ct ≡ length text.now + 16) }
 {
-    let (Some(key), Some(base_nonce)) = (context.cipher(), context.base_nonce()) else {
-        unreachable!()
-    };
-    sealed(alloc, key, &nonce_at(base_nonce, 0), text)
+    let mut ct = vec![in alloc; 0u8; text.len() + TAG_SIZE]?;
+    context.seal_at(0, &[], text, &mut ct);
+    Ok(PlainList::from_vec(ct))
 }
 
 /// ContextR.Open("", ct), at number 0 (RFC 9180, 5.2): the text of a request's ciphertext.
@@ -49,8 +47,10 @@ pub fn opened_first(
     ensures faults { (f : CapsuleFault) → result ≡ Err f
         → (f ≡ CapsuleFault.Failed) ⊎ (f ≡ CapsuleFault.OutOfMemory) }
 {
-    let (Some(key), Some(base_nonce)) = (context.cipher(), context.base_nonce()) else {
-        unreachable!()
-    };
-    opened(alloc, key, &nonce_at(base_nonce, 0), ct, checks)
+    if !context.holds_at(0, &[], ct, checks) {
+        return Err(CapsuleFault::Failed);
+    }
+    let mut text = vec![in alloc; 0u8; ct.len() - TAG_SIZE]?;
+    context.open_at(0, &[], ct, &mut text);
+    Ok(PlainList::from_vec(text))
 }

@@ -6,7 +6,6 @@ ghost use Rattle.hpke_context.specs.Calls.{HasCipher};
 
 use crate::contexts::SharedContext;
 use hpke_context::CallFault;
-use key_schedule::nonce_at;
 
 impl SharedContext {
     /// Encrypts a text at a number that was drawn: fills `out` with the ciphertext, as long as
@@ -22,11 +21,7 @@ impl SharedContext {
         requires aad { length aad.now < 2 ^ 61 }
         ensures { out.new ≡ (cipher_of self.now.context).sealed number aad.now text.now }
     {
-        let (Some(key), Some(base_nonce)) = (self.context().cipher(), self.context().base_nonce())
-        else {
-            unreachable!()
-        };
-        key.seal_into(&nonce_at(base_nonce, number), aad, text, out);
+        self.context().seal_at(number, aad, text, out);
     }
 
     /// Decrypts a ciphertext that was opened at this number: fills `out` with the text, which is 16
@@ -39,11 +34,7 @@ impl SharedContext {
         requires room { length out.old + 16 ≡ length ct.now }
         ensures { out.new ≡ (cipher_of self.now.context).clear number aad.now ct.now }
     {
-        let (Some(key), Some(base_nonce)) = (self.context().cipher(), self.context().base_nonce())
-        else {
-            unreachable!()
-        };
-        key.decrypt_into(&nonce_at(base_nonce, number), aad, ct, out);
+        self.context().open_at(number, aad, ct, out);
     }
 
     /// Context.Export(exporter_context, L) (RFC 9180, 5.3): fills `out`, whose length is L. It waits
