@@ -16,7 +16,7 @@ const char *hpkebatch_strerror(uint32_t status) {
     case HPKEBATCH_ROLE: return "a recipient does not seal, and a sender does not open";
     case HPKEBATCH_NOCIPHER: return "the context is export-only";
     case HPKEBATCH_LIMIT: return "the context's numbers are used up";
-    case HPKEBATCH_FAILED: return "the tag does not hold: the message was changed, or it is another's turn";
+    case HPKEBATCH_FAILED: return "the tag does not hold: the message was changed, or another one is due";
     case HPKEBATCH_EXPORTSIZE: return "one export gives fewer bytes";
     case HPKEBATCH_EXHAUSTED: return "the seed's stream gives no key: none of its polynomials g has an inverse";
     case HPKEBATCH_NOINVERSE: return "the seed's stream gives no key: its polynomial 3f has no inverse";
