@@ -10,11 +10,11 @@
  * The caller owns all memory. Nothing is kept between two calls, and nothing has to be freed. Some calls take memory
  * by malloc and give it back by free before they return; where there is none they answer HPKEBATCH_NO_MEMORY.
  *
- * What each call answers is proved of the caller's own bytes, but for what stands here in plain C, which is tested:
+ * What each call answers is proved of the caller's own bytes. Tested, and not proved, is what is plain C:
  * hpkebatch_strerror, hpkebatch_version, and the inline functions at the end. These conditions are left to C, and
  * nothing checks them:
- * - A pointer isn't null, unless it is to no bytes: its size is said, and 0. That null is taken then is tested for each
- *   such argument of each call, and for the byte strings of a list; the proof has a pointer to memory there too.
+ * - A pointer isn't null, unless its size is said and is 0. That null is taken there is tested, and not proved: for each
+ *   such argument of each call, and for the byte strings of lists.
  * - Memory is valid for as many bytes as are said. What is written overlaps nothing else that the call is lent.
  * - A context is given to one call at a time, and nobody else changes it. Calls on different memory may go on in
  *   different threads.
