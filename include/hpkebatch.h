@@ -419,7 +419,7 @@ HPKEBATCH_INLINE void hpkebatch_wipe_asked(hpkebatch_asked *asked)
     explicit_bzero(asked, sizeof *asked);
 }
 
-/* The names of the enumerations, for #ifdef. */
+/* The names of the enumerations, for #ifdef. (#if takes each for 0.) */
 #define HPKEBATCH_DONE HPKEBATCH_DONE
 #define HPKEBATCH_WRONG_USAGE HPKEBATCH_WRONG_USAGE
 #define HPKEBATCH_BAD_BATCH HPKEBATCH_BAD_BATCH
