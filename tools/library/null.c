@@ -63,6 +63,11 @@ CASE(gcm_open)
     of->status = hpkebatch_gcm_open(zero, 32, zero, p[0], 0, tag, 16, p[1], 0);
 }
 
+CASE(gcm_open_short)
+{
+    of->status = hpkebatch_gcm_open(zero, 32, zero, p[0], 0, p[1], 0, p[2], 0);
+}
+
 CASE(gcm_open_refused)
 {
     of->status = hpkebatch_gcm_open(p[0], 0, zero, p[1], 0, p[2], 0, p[3], 0);
@@ -238,10 +243,43 @@ CASE(open_one)
     keep(of, &context, sizeof context);
 }
 
-CASE(open_refused)
+CASE(open_short)
 {
     hpkebatch_context context = recipient;
     of->status = hpkebatch_context_open(&context, p[0], 0, p[1], 0, p[2], 0);
+    keep(of, &context, sizeof context);
+}
+
+CASE(seal_in_place)
+{
+    hpkebatch_context context = sender;
+    uint8_t buffer[16] = {0};
+    of->status = hpkebatch_context_seal_in_place(&context, p[0], 0, buffer, 16);
+    keep(of, &context, sizeof context);
+    keep(of, buffer, 16);
+}
+
+CASE(seal_in_place_refused)
+{
+    hpkebatch_context context = sender;
+    of->status = hpkebatch_context_seal_in_place(&context, p[0], 0, p[1], 0);
+    keep(of, &context, sizeof context);
+}
+
+CASE(open_in_place)
+{
+    hpkebatch_context context = recipient;
+    uint8_t cts[32];
+    sealed(cts);
+    of->status = hpkebatch_context_open_in_place(&context, p[0], 0, cts, 16);
+    keep(of, &context, sizeof context);
+    keep(of, cts, 32);
+}
+
+CASE(open_in_place_short)
+{
+    hpkebatch_context context = recipient;
+    of->status = hpkebatch_context_open_in_place(&context, p[0], 0, p[1], 0);
     keep(of, &context, sizeof context);
 }
 
@@ -311,7 +349,7 @@ CASE(open_all)
     keep(of, &context, sizeof context);
 }
 
-CASE(open_all_refused)
+CASE(open_all_short)
 {
     hpkebatch_context context = recipient;
     hpkebatch_bytes aad = {p[0], 0}, ct = {p[1], 0};
@@ -394,6 +432,7 @@ static const struct {
     ROW(gcm_seal_aad, 1, DONE),
     ROW(gcm_seal_refused, 4, WRONG_USAGE),
     ROW(gcm_open, 2, DONE),
+    ROW(gcm_open_short, 3, FAILED),
     ROW(gcm_open_refused, 4, WRONG_USAGE),
     ROW(shared_base, 4, DONE),
     ROW(shared_psk, 4, PSKMISSING),
@@ -407,7 +446,11 @@ static const struct {
     ROW(seal_aad, 1, DONE),
     ROW(seal_refused, 3, WRONG_USAGE),
     ROW(open_one, 2, DONE),
-    ROW(open_refused, 3, WRONG_USAGE),
+    ROW(open_short, 3, FAILED),
+    ROW(seal_in_place, 1, DONE),
+    ROW(seal_in_place_refused, 2, WRONG_USAGE),
+    ROW(open_in_place, 1, DONE),
+    ROW(open_in_place_short, 2, FAILED),
     ROW(export_some, 1, DONE),
     ROW(export_none, 2, DONE),
     ROW(seal_all_none, 3, DONE),
@@ -416,7 +459,7 @@ static const struct {
     ROW(seal_all_refused, 3, WRONG_USAGE),
     ROW(open_all_none, 3, DONE),
     ROW(open_all, 3, DONE),
-    ROW(open_all_refused, 3, WRONG_USAGE),
+    ROW(open_all_short, 3, FAILED),
     ROW(read_nothing, 1, BAD_BATCH),
     ROW(read_no_room, 2, NO_ROOM),
     ROW(read_batch, 1, DONE),
