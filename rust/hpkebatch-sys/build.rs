@@ -4,6 +4,7 @@
 //! which no name but `hpkebatch_*` is global, so that nothing here meets a name of another library.
 
 use std::env;
+use std::ffi::OsStr;
 use std::path::{Path, PathBuf};
 use std::process::{exit, Command};
 
@@ -54,20 +55,13 @@ fn check_target() -> Result<(), Fault> {
     ))
 }
 
-/// Makes an object of the text, and of each C file that is there.
+/// Makes an object of each C file that is there, and of the text. `parts.c` comes first: its `#error`
+/// says best why nothing can be made.
 fn objects(texts: &Path, out: &Path) -> Result<Vec<PathBuf>, Fault> {
     let compiler = tool("CC", &["cc", "gcc", "clang"], "a C compiler")?;
-    let mut objects = vec![out.join("text.o")];
-    compiler.run(&[
-        "-x".as_ref(),
-        "assembler".as_ref(),
-        "-c".as_ref(),
-        texts.join("hpkebatch_c.s").as_os_str(),
-        "-o".as_ref(),
-        objects[0].as_os_str(),
-    ])?;
-    for name in ["parts", "library"] {
-        let source = texts.join(name).with_extension("c");
+    let mut objects = Vec::new();
+    for name in ["parts.c", "library.c", "hpkebatch_c.s"] {
+        let source = texts.join(name);
         if source.is_file() {
             let object = out.join(name).with_extension("o");
             compile(&compiler, &source, &object)?;
@@ -78,15 +72,14 @@ fn objects(texts: &Path, out: &Path) -> Result<Vec<PathBuf>, Fault> {
 }
 
 fn compile(compiler: &Tool, source: &Path, object: &Path) -> Result<(), Fault> {
-    compiler.run(&[
-        "-O2".as_ref(),
-        "-fPIC".as_ref(),
-        "-DLIBRARY".as_ref(),
-        "-c".as_ref(),
-        source.as_os_str(),
-        "-o".as_ref(),
-        object.as_os_str(),
-    ])
+    let words = match source.extension() {
+        Some(extension) if extension == "s" => &["-x", "assembler"][..],
+        _ => &["-O2", "-fPIC", "-DLIBRARY"][..],
+    };
+    let mut words: Vec<&OsStr> = words.iter().map(OsStr::new).collect();
+    words.extend(["-c".as_ref(), source.as_os_str()]);
+    words.extend(["-o".as_ref(), object.as_os_str()]);
+    compiler.run(&words)
 }
 
 /// Makes `libhpkebatch.a` of one object that has all of them, with no global name but the library's own.
@@ -141,7 +134,7 @@ fn is_on_path(name: &str) -> bool {
 }
 
 impl Tool {
-    fn run(&self, words: &[&std::ffi::OsStr]) -> Result<(), Fault> {
+    fn run(&self, words: &[&OsStr]) -> Result<(), Fault> {
         let name = &self.0[0];
         let output = Command::new(name)
             .args(&self.0[1..])

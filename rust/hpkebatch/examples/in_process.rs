@@ -10,8 +10,8 @@ use hpkebatch::{for_tests, Aead, Kem, Parameters, PublicKey, Sender, TAG_SIZE};
 use hpkebatch_sys as sys;
 use std::time::{Duration, Instant};
 
-/// How long each row is timed.
-const TIME: Duration = Duration::from_millis(300);
+/// How long each pair of rows is timed.
+const TIME: Duration = Duration::from_millis(500);
 
 /// A round has so many calls that the clock's own time isn't seen.
 const ROUND: Duration = Duration::from_micros(200);
@@ -19,33 +19,36 @@ const ROUND: Duration = Duration::from_micros(200);
 const SEED: [u8; 32] = [7; 32];
 
 fn main() {
-    let public = for_tests::secret_key(Kem::Sntrup761, &SEED, 0).expect("a key of the seed");
-    let public = public.public_key();
+    let key = for_tests::secret_key(Kem::Sntrup761, &SEED, 0).expect("a key of the seed");
     println!("what\tbytes\tmicroseconds");
     for size in [64, 1024, 16384] {
         seals(size);
     }
-    records(&public, 1024);
+    records(&key.public_key(), 1024);
     keys();
 }
 
-/// The least time that a call took, in microseconds.
-fn best(mut call: impl FnMut()) -> f64 {
+/// Prints a row of this crate's call, and one of the library's own. They take turns, so that both
+/// have what else the machine does.
+fn rows(what: &str, bytes: usize, mut call: impl FnMut(), mut by_sys: impl FnMut()) {
     let once = Instant::now();
     call();
     let calls = (ROUND.as_nanos() / once.elapsed().as_nanos().max(1)).clamp(1, 1000) as u32;
     let begin = Instant::now();
-    let mut best = Duration::MAX;
+    let (mut best, mut best_by_sys) = (f64::MAX, f64::MAX);
     while begin.elapsed() < TIME {
-        let round = Instant::now();
-        (0..calls).for_each(|_| call());
-        best = best.min(round.elapsed() / calls);
+        best = best.min(round(calls, &mut call));
+        best_by_sys = best_by_sys.min(round(calls, &mut by_sys));
     }
-    best.as_nanos() as f64 / 1000.0
+    println!("{what}\t{bytes}\t{best:.2}");
+    println!("{what} by sys\t{bytes}\t{best_by_sys:.2}");
 }
 
-fn row(what: &str, bytes: usize, call: impl FnMut()) {
-    println!("{what}\t{bytes}\t{:.2}", best(call));
+/// What a call takes in a round of them, in microseconds.
+fn round(calls: u32, call: &mut impl FnMut()) -> f64 {
+    let begin = Instant::now();
+    (0..calls).for_each(|_| call());
+    begin.elapsed().as_nanos() as f64 / f64::from(calls) / 1000.0
 }
 
 fn parameters() -> Parameters<'static> {
@@ -56,56 +59,56 @@ fn parameters() -> Parameters<'static> {
 }
 
 fn seals(size: usize) {
-    let (text, mut out) = (vec![5; size], vec![0; size + TAG_SIZE]);
+    let text = vec![5; size];
+    let (mut out, mut out_by_sys) = (vec![0; size + TAG_SIZE], vec![0; size + TAG_SIZE]);
     let mut sender = Sender::from_shared_secret(1, &SEED, &parameters()).expect("a context");
-    row("seal", size, || {
-        sender.seal(b"", &text, &mut out).expect("sealed");
-    });
     let mut context = context_of_shared_secret();
-    row("seal by sys", size, || {
-        assert_eq!(
-            seal_by_sys(&mut context, &text, &mut out),
-            sys::HPKEBATCH_DONE
-        );
-    });
+    rows(
+        "seal",
+        size,
+        || sender.seal(b"", &text, &mut out).expect("sealed"),
+        || seal_by_sys(&mut context, &text, &mut out_by_sys),
+    );
 }
 
 fn records(to: &PublicKey, size: usize) {
-    let (text, mut out) = (vec![5; size], vec![0; size + TAG_SIZE]);
-    row("record", size, || {
-        let mut sender = Sender::new(to, &parameters()).expect("a context");
-        sender.seal(b"", &text, &mut out).expect("sealed");
-    });
-    row("record by sys", size, || {
-        let mut context = empty();
-        assert_eq!(set_up_by_sys(&mut context, to), sys::HPKEBATCH_DONE);
-        assert_eq!(
-            seal_by_sys(&mut context, &text, &mut out),
-            sys::HPKEBATCH_DONE
-        );
-    });
+    let text = vec![5; size];
+    let (mut out, mut out_by_sys) = (vec![0; size + TAG_SIZE], vec![0; size + TAG_SIZE]);
+    rows(
+        "record",
+        size,
+        || {
+            let mut sender = Sender::new(to, &parameters()).expect("a context");
+            sender.seal(b"", &text, &mut out).expect("sealed");
+        },
+        || {
+            let mut context = empty();
+            set_up_by_sys(&mut context, to);
+            seal_by_sys(&mut context, &text, &mut out_by_sys);
+        },
+    );
 }
 
+/// Both make the keys of one seed, so that both draw as often.
 fn keys() {
-    let mut stream = 0;
-    row("keygen", 0, || {
-        stream += 1;
-        let _ = for_tests::secret_key(Kem::Sntrup761, &SEED, stream);
-    });
     let (mut public, mut secret) = ([0; 1158], [0; 1763]);
-    let mut stream = 0;
-    row("keygen by sys", 0, || {
-        stream += 1;
-        // SAFETY: the arrays have the sizes of the set.
-        unsafe {
-            sys::hpkebatch_sntrup761_keygen(
-                SEED.as_ptr(),
-                stream,
-                public.as_mut_ptr(),
-                secret.as_mut_ptr(),
-            )
-        };
-    });
+    rows(
+        "keygen",
+        0,
+        || drop(for_tests::secret_key(Kem::Sntrup761, &SEED, 0).expect("a key")),
+        || {
+            // SAFETY: the arrays have the sizes of the set.
+            let status = unsafe {
+                sys::hpkebatch_sntrup761_keygen(
+                    SEED.as_ptr(),
+                    0,
+                    public.as_mut_ptr(),
+                    secret.as_mut_ptr(),
+                )
+            };
+            assert_eq!(status, sys::HPKEBATCH_DONE);
+        },
+    );
 }
 
 const fn empty() -> sys::hpkebatch_context {
@@ -149,11 +152,11 @@ fn context_of_shared_secret() -> sys::hpkebatch_context {
     context
 }
 
-fn set_up_by_sys(context: &mut sys::hpkebatch_context, to: &PublicKey) -> u32 {
+fn set_up_by_sys(context: &mut sys::hpkebatch_context, to: &PublicKey) {
     let (mut seed, mut enc) = ([0; 32], [0; 1039]);
     let (info, none) = (b"info", b"".as_ptr());
     // SAFETY: each pointer is that of an array of the size that is said, or that the set has.
-    unsafe {
+    let status = unsafe {
         assert_eq!(sys::getrandom(seed.as_mut_ptr().cast(), 32, 0), 32);
         sys::hpkebatch_sntrup761_sender(
             context,
@@ -172,12 +175,13 @@ fn set_up_by_sys(context: &mut sys::hpkebatch_context, to: &PublicKey) -> u32 {
             none,
             0,
         )
-    }
+    };
+    assert_eq!(status, sys::HPKEBATCH_DONE);
 }
 
-fn seal_by_sys(context: &mut sys::hpkebatch_context, text: &[u8], out: &mut [u8]) -> u32 {
+fn seal_by_sys(context: &mut sys::hpkebatch_context, text: &[u8], out: &mut [u8]) {
     // SAFETY: each pointer is that of a slice, before its length.
-    unsafe {
+    let status = unsafe {
         sys::hpkebatch_context_seal(
             context,
             b"".as_ptr(),
@@ -187,5 +191,6 @@ fn seal_by_sys(context: &mut sys::hpkebatch_context, text: &[u8], out: &mut [u8]
             out.as_mut_ptr(),
             out.len(),
         )
-    }
+    };
+    assert_eq!(status, sys::HPKEBATCH_DONE);
 }
