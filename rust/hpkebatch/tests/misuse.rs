@@ -195,6 +195,22 @@ fn an_export_only_suite_exports() {
 }
 
 #[test]
+fn a_thread_with_a_small_stack_is_served() {
+    let calls = || KEMS.map(|kem| both_ends_agree_and_export(&SecretKey::generate(kem).unwrap()));
+    let thread = std::thread::Builder::new().stack_size(SMALL_STACK);
+    thread.spawn(calls).unwrap().join().unwrap();
+}
+
+/// What the library asks for (`hpkebatch.h`): here for the whole thread.
+const SMALL_STACK: usize = 128 * 1024;
+
+fn both_ends_agree_and_export(key: &SecretKey) {
+    both_ends_agree(key, &Parameters::new(b"info"));
+    let sender = Sender::new(&key.public_key(), &Parameters::new(b"info")).unwrap();
+    sender.export(b"", &mut [0; 32]).unwrap();
+}
+
+#[test]
 fn nothing_secret_is_printed() {
     let key = SecretKey::generate(Kem::Sntrup761).unwrap();
     let psk = Psk {
