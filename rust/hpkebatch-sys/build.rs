@@ -1,7 +1,8 @@
 //! Assembles the library's text, and makes an archive of it for the linker.
 //!
-//! The steps are those of the repository's `tools/make_library`: the text and the C files beside it are made into one object, in
-//! which no name but `hpkebatch_*` is global, so that nothing here meets a name of another library.
+//! The steps are those of the repository's `tools/make_library`: the text and the C files beside it
+//! are made into one object, in which no name but `hpkebatch_*` is global, so that nothing here
+//! meets a name of another library.
 
 use std::env;
 use std::ffi::OsStr;
@@ -11,7 +12,8 @@ use std::process::{exit, Command};
 /// Why nothing was built, in a sentence.
 type Fault = String;
 
-/// A command: its first word names a program, and the others are words that each call of it begins with.
+/// A command: its first word names a program, and the others are words that each call of it begins
+/// with.
 struct Tool(Vec<String>);
 
 fn main() {
@@ -55,8 +57,8 @@ fn check_target() -> Result<(), Fault> {
     ))
 }
 
-/// Makes an object of each C file that is there, and of the text. `parts.c` comes first: its `#error`
-/// says best why nothing can be made.
+/// Makes an object of each C file that is there, and of the text. `parts.c` comes first: its
+/// `#error` says best why nothing can be made.
 fn objects(texts: &Path, out: &Path) -> Result<Vec<PathBuf>, Fault> {
     let compiler = tool("CC", &["cc", "gcc", "clang"], "a C compiler")?;
     let mut objects = Vec::new();
@@ -82,7 +84,8 @@ fn compile(compiler: &Tool, source: &Path, object: &Path) -> Result<(), Fault> {
     compiler.run(&words)
 }
 
-/// Makes `libhpkebatch.a` of one object that has all of them, with no global name but the library's own.
+/// Makes `libhpkebatch.a` of one object that has all of them, with no global name but the library's
+/// own.
 fn archive(objects: &[PathBuf], out: &Path) -> Result<(), Fault> {
     let linker = tool("LD", &["ld", "ld.lld"], "a linker")?;
     let copier = tool("OBJCOPY", &["objcopy", "llvm-objcopy"], "objcopy")?;
@@ -101,7 +104,8 @@ fn archive(objects: &[PathBuf], out: &Path) -> Result<(), Fault> {
     archiver.run(&["rcsD".as_ref(), archive.as_os_str(), one.as_os_str()])
 }
 
-/// The tool that a variable of the environment names, or else the first of these that is on the PATH.
+/// The tool that a variable of the environment names, or else the first of these that is on the
+/// PATH.
 fn tool(variable: &str, names: &[&str], what: &str) -> Result<Tool, Fault> {
     println!("cargo:rerun-if-env-changed={variable}");
     let named = env::var(variable).unwrap_or_default();

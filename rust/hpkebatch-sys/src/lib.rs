@@ -1,18 +1,21 @@
-//! The calls of hpkebatch's library for C, as `c/hpkebatch.h` declares them: HPKE (RFC 9180) over Streamlined NTRU Prime.
+//! The calls of hpkebatch's library for C, as `c/hpkebatch.h` declares them: HPKE (RFC 9180) over
+//! Streamlined NTRU Prime.
 //!
-//! The header says what each call reads and writes, what it answers, and what its caller must see to. The crate `hpkebatch` has
-//! safe calls over these. `build.rs` assembles the library from the text that its proved sources compile to.
+//! The header says what each call reads and writes, what it answers, and what its caller must see
+//! to. The crate `hpkebatch` has safe calls over these. `build.rs` assembles the library from the
+//! text that its proved sources compile to.
 //!
-//! What each call answers is proved of its caller's own bytes, in the language of its sources. These declarations are written by hand: a
-//! test holds names, types, sizes and numbers to the header.
+//! What each call answers is proved of its caller's own bytes, in the language of its sources.
+//! These declarations are written by hand: a test holds names, types, sizes and numbers to the
+//! header.
 //!
 //! ```
 //! use hpkebatch_sys::*;
 //!
-//! let (seed, mut public_key, mut secret_key) = ([7; HPKEBATCH_SEED_SIZE], [0; 1158], [0; 1763]);
+//! let (seed, mut public, mut secret) = ([7; HPKEBATCH_SEED_SIZE], [0; 1158], [0; 1763]);
 //! // SAFETY: the three have the sizes that the header asks for.
 //! let status = unsafe {
-//!     hpkebatch_sntrup761_keygen(seed.as_ptr(), 0, public_key.as_mut_ptr(), secret_key.as_mut_ptr())
+//!     hpkebatch_sntrup761_keygen(seed.as_ptr(), 0, public.as_mut_ptr(), secret.as_mut_ptr())
 //! };
 //! assert_eq!(status, HPKEBATCH_DONE);
 //! ```
@@ -25,8 +28,8 @@ mod numbers;
 
 pub use numbers::*;
 
-/// A context, which its caller holds. Read what you like, and change nothing: a number that is used again for another text gives both
-/// texts away. So it is neither `Copy` nor `Clone`.
+/// A context, which its caller holds. Read what you like, and change nothing: a number that is used
+/// again for another text gives both texts away. So it is neither `Copy` nor `Clone`.
 #[repr(C)]
 pub struct hpkebatch_context {
     /// the sequence number that is due
@@ -59,7 +62,8 @@ pub struct hpkebatch_bytes {
     pub size: usize,
 }
 
-/// What a client of Oblivious HTTP keeps of a request, to take its response with. Keep it secret, and change nothing.
+/// What a client of Oblivious HTTP keeps of a request, to take its response with. Keep it secret,
+/// and change nothing.
 #[repr(C)]
 pub struct hpkebatch_asked {
     /// by which the gateway finds its key
@@ -106,14 +110,16 @@ extern "C" {
 
     // ---- the KEM, Streamlined NTRU Prime (round 3)
 
-    /// Makes a pair of keys of sntrup761. `seed` has 32 bytes, the public key 1158, the secret key 1763.
+    /// Makes a pair of keys of sntrup761. `seed` has 32 bytes, the public key 1158, the secret key
+    /// 1763.
     pub fn hpkebatch_sntrup761_keygen(
         seed: *const u8,
         stream: u64,
         public_key: *mut u8,
         secret_key: *mut u8,
     ) -> u32;
-    /// Makes a pair of keys of sntrup857. `seed` has 32 bytes, the public key 1322, the secret key 1999.
+    /// Makes a pair of keys of sntrup857. `seed` has 32 bytes, the public key 1322, the secret key
+    /// 1999.
     pub fn hpkebatch_sntrup857_keygen(
         seed: *const u8,
         stream: u64,
@@ -237,7 +243,8 @@ extern "C" {
         psk_id: *const u8,
         psk_id_len: usize,
     ) -> u32;
-    /// Seals at the number that is due: `out` gets the ciphertext and its tag, `text_len + 16` bytes.
+    /// Seals at the number that is due: `out` gets the ciphertext and its tag, `text_len + 16`
+    /// bytes.
     pub fn hpkebatch_context_seal(
         context: *mut hpkebatch_context,
         aad: *const u8,

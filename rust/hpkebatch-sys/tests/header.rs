@@ -1,4 +1,5 @@
-//! Holds the declarations of this crate to `c/hpkebatch.h`: layouts, numbers, and the types of each call.
+//! Holds the declarations of this crate to `c/hpkebatch.h`: layouts, numbers, and the types of each
+//! call.
 
 use hpkebatch_sys::{hpkebatch_asked, hpkebatch_bytes, hpkebatch_context};
 use std::mem::{align_of, offset_of, size_of};
@@ -41,7 +42,7 @@ fn a_byte_string_is_laid_out_as_the_library_has_it() {
     assert_eq!(offset_of!(hpkebatch_bytes, size), 8);
 }
 
-/// Words and signs, with the comments left out, and `const uint8_t key[32]` the same as `const uint8_t *key`.
+/// The words and signs of a text.
 fn tokens(text: &str) -> Vec<String> {
     let mut tokens = Vec::new();
     let mut word = String::new();
@@ -60,7 +61,7 @@ fn tokens(text: &str) -> Vec<String> {
     tokens
 }
 
-/// A parameter of the header as Rust has it, its name first.
+/// A parameter of the header as Rust has it, its name first. An array is a pointer, as in C.
 fn parameter(text: &str) -> String {
     let tokens = tokens(text);
     let is_pointer = tokens.iter().any(|token| token == "*" || token == "[");

@@ -1,6 +1,6 @@
-//! Times what one process does: a context's seal, a record with a context of its own, and a key. The
-//! rows `.. by sys` make the library's calls with nothing between, so that the difference is what this
-//! crate adds.
+//! Times what one process does: a context's seal, a record with a context of its own, and a key.
+//! The rows `.. by sys` make the library's calls with nothing between, so that the difference is
+//! what this crate adds.
 //!
 //! usage: cargo run --release --example in_process
 //!

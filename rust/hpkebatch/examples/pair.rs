@@ -1,9 +1,10 @@
-//! Seals to a public key, and opens with the secret one. Keys, encapsulation and ciphertext are hex.
+//! Seals to a public key, and opens with the secret one. Keys, encapsulation and ciphertext are
+//! hex.
 //!
 //! usage: pair keygen | pair seal PUBLIC_HEX_FILE | pair open SECRET_HEX_FILE
 //!
-//! `keygen` prints two lines: the public key and the secret one. `seal` reads a text, and prints two
-//! lines: the encapsulation and the ciphertext. `open` reads those, and writes the text.
+//! `keygen` prints two lines: the public key and the secret one. `seal` reads a text, and prints
+//! two lines: the encapsulation and the ciphertext. `open` reads those, and writes the text.
 
 use hpkebatch::{Aead, Kem, Parameters, PublicKey, Recipient, SecretKey, Sender};
 use std::error::Error;

@@ -118,8 +118,8 @@ impl Sender {
         Ok(sender)
     }
 
-    /// Sets a sender up for a shared secret that another KEM gave, whose id is `kem` (RFC 9180, 5.1,
-    /// KeySchedule). Use a shared secret for one sender, and once.
+    /// Sets a sender up for a shared secret that another KEM gave, whose id is `kem` (RFC 9180,
+    /// 5.1, KeySchedule). Use a shared secret for one sender, and once.
     ///
     /// ```
     /// use hpkebatch::{Parameters, Recipient, Sender};
@@ -166,8 +166,8 @@ impl Sender {
     /// Seals a text at the next number (RFC 9180, 5.2, ContextS.Seal): fills `out` with the
     /// ciphertext and its tag. `out` has [`TAG_SIZE`](crate::TAG_SIZE) bytes more than the text.
     ///
-    /// `aad` isn't sent: the recipient opens with the same. [`Error::WrongUsage`] says that `out` has
-    /// another size, or the text more than 2^36 − 32 bytes. [`Error::Limit`] and
+    /// `aad` isn't sent: the recipient opens with the same. [`Error::WrongUsage`] says that `out`
+    /// has another size, or the text more than 2^36 − 32 bytes. [`Error::Limit`] and
     /// [`Error::NoCipher`] say that the context doesn't seal.
     ///
     /// ```
@@ -290,8 +290,8 @@ impl Recipient {
     ///
     /// It answers [`Error::WrongUsage`] where `enc` has another size than
     /// [`Kem::enc_size`](crate::Kem::enc_size), or the limit is 0; [`Error::Form`] where the key's
-    /// bytes encode none; [`Error::PskPair`], [`Error::PskMissing`] and [`Error::NoMemory`]. If `enc`
-    /// was changed, the context is another, and each opening answers [`Error::Failed`].
+    /// bytes encode none; [`Error::PskPair`], [`Error::PskMissing`] and [`Error::NoMemory`]. If
+    /// `enc` was changed, the context is another, and each opening answers [`Error::Failed`].
     ///
     /// ```
     /// use hpkebatch::{Kem, Parameters, Recipient, SecretKey, Sender};

@@ -1,7 +1,7 @@
 //! Keys and senders that draw nothing: for tests whose answers are known. Don't seal with them.
 //!
-//! The random words are those of ChaCha20 with the seed for its key and the stream for its nonce. Who
-//! knows both has the key, and reads what the sender seals.
+//! The random words are those of ChaCha20 with the seed for its key and the stream for its nonce.
+//! Who knows both has the key, and reads what the sender seals.
 
 use crate::contexts::Sender;
 use crate::error::Error;

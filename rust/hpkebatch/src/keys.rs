@@ -30,8 +30,8 @@ pub struct PublicKey {
 }
 
 impl PublicKey {
-    /// The key with these bytes. Only their number is tested, and [`Error::WrongUsage`] says that it
-    /// is another.
+    /// The key with these bytes. Only their number is tested, and [`Error::WrongUsage`] says that
+    /// it is another.
     ///
     /// ```
     /// use hpkebatch::{Error, Kem, PublicKey};

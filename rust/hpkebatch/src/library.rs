@@ -1,8 +1,8 @@
 //! The calls of the library, over this crate's types. All of its unsafe code stands here.
 //!
 //! What the header leaves to C (`hpkebatch.h`) holds by types:
-//! - A pointer is that of a reference: never null, and valid for as many bytes as are said. That of an
-//!   empty slice points to no byte, and none is read behind it.
+//! - A pointer is that of a reference: never null, and valid for as many bytes as are said. That of
+//!   an empty slice points to no byte, and no byte is read or written there.
 //! - What is written is lent by `&mut`, so it overlaps nothing else that the call is lent.
 //! - One call at a time has a context: it is lent by `&mut`, or by `&` of a type that isn't `Sync`.
 //! - A Rust program has one malloc. A signal handler and a forked child may call what is safe for
@@ -191,8 +191,8 @@ impl Context {
             Kem::Sntrup857 => sys::hpkebatch_sntrup857_recipient,
         };
         let (psk, psk_id) = parameters.psk_inputs();
-        // SAFETY: `enc` and the secret key have the sizes of their set; each other pointer is that of
-        // a slice, before its length.
+        // SAFETY: `enc` and the secret key have the sizes of their set; each other pointer is that
+        // of a slice, before its length.
         Error::check(unsafe {
             call(
                 &mut self.held,

@@ -253,7 +253,8 @@ fn status_of(word: &str) -> u32 {
     }
 }
 
-/// Runs a line, and holds what it gives to what the line says. Whether it could be asked for at all.
+/// Runs a line, and holds what it gives to what the line says. Whether it could be asked for at
+/// all.
 fn holds(line: &str, context: &mut Context) -> bool {
     let mut fields = Fields(line.split(' '));
     match run(&mut fields, context) {
