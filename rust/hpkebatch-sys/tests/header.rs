@@ -80,6 +80,7 @@ fn parameter(text: &str) -> String {
     let kind = match kind.as_str() {
         "uint8_t" => "u8",
         "uint16_t" => "u16",
+        "uint32_t" => "u32",
         "uint64_t" => "u64",
         "size_t" => "usize",
         other => other,
@@ -91,39 +92,50 @@ fn parameter(text: &str) -> String {
     }
 }
 
-/// The calls that a text declares, each with its parameters as Rust has them.
-fn declared(text: &str, before: &str, after: &str) -> Vec<(String, Vec<String>)> {
-    let starts: Vec<&str> = text.split(before).skip(1).collect();
-    let parts = starts.iter().filter_map(|start| {
-        let (declaration, _) = start.split_once(after)?;
-        let (name, parameters) = declaration.split_once('(')?;
-        let parameters = parameters.trim_end_matches([')', ',', '\n', ' ']);
-        Some((
-            name.to_string(),
-            parameters.split(',').map(str::to_string).collect(),
-        ))
+/// A call: its name, its parameters as Rust has them, and what it gives.
+#[derive(Debug, PartialEq)]
+struct Call {
+    name: String,
+    parameters: Vec<String>,
+    gives: String,
+}
+
+/// The calls of the header: lines that begin with what they give, and end as a declaration does.
+fn calls_of_the_header() -> Vec<Call> {
+    let kinds = [("\nuint32_t ", "u32"), ("\nconst char *", "*const c_char")];
+    let calls = kinds.into_iter().flat_map(|(before, gives)| {
+        let declarations = HEADER.split(before).skip(1);
+        declarations.filter_map(move |declaration| {
+            let (name, rest) = declaration.split_once('(')?;
+            let (parameters, _) = rest.split_once(");")?;
+            let parameters = parameters.split(',').filter(|it| *it != "void");
+            Some(Call {
+                name: name.to_string(),
+                parameters: parameters.map(parameter).collect(),
+                gives: gives.to_string(),
+            })
+        })
     });
-    parts.collect()
+    calls.collect()
 }
 
-fn calls_of_the_header() -> Vec<(String, Vec<String>)> {
-    let calls = declared(HEADER, "\nuint32_t ", ");").into_iter();
+fn calls_of_this_crate() -> Vec<Call> {
+    let declarations = CALLS.split("pub fn ").skip(1);
+    let calls = declarations.filter_map(|declaration| {
+        let (declaration, _) = declaration.split_once(';')?;
+        let (name, rest) = declaration.split_once('(')?;
+        let (parameters, gives) = rest.split_once(") -> ")?;
+        let parameters = parameters.split(',').map(str::trim);
+        let parameters = parameters.filter(|it| !it.is_empty());
+        Some(Call {
+            name: name.to_string(),
+            parameters: parameters.map(str::to_string).collect(),
+            gives: gives.to_string(),
+        })
+    });
     calls
-        .map(|(name, parameters)| (name, parameters.iter().map(|it| parameter(it)).collect()))
+        .filter(|call| call.name.starts_with("hpkebatch_"))
         .collect()
-}
-
-fn calls_of_this_crate() -> Vec<(String, Vec<String>)> {
-    let calls = declared(CALLS, "pub fn ", ";").into_iter();
-    let own = calls.filter(|(name, _)| name.starts_with("hpkebatch_"));
-    own.map(|(name, parameters)| {
-        let (last, first) = parameters.split_last().expect("a call has parameters");
-        let last = last.split(')').next().unwrap_or_default().to_string();
-        let parameters = first.iter().chain([&last]);
-        let parameters = parameters.map(|it| it.split_whitespace().collect::<Vec<_>>().join(" "));
-        (name, parameters.filter(|it| !it.is_empty()).collect())
-    })
-    .collect()
 }
 
 #[test]
@@ -131,10 +143,10 @@ fn each_call_has_the_types_of_the_header() {
     let header = calls_of_the_header();
     let calls = calls_of_this_crate();
     assert!(calls.len() >= 26, "only {} calls are declared", calls.len());
-    for (name, parameters) in &calls {
-        let found = header.iter().find(|(other, _)| other == name);
-        let (_, wanted) = found.unwrap_or_else(|| panic!("the header has no {name}"));
-        assert_eq!(parameters, wanted, "the parameters of {name}");
+    for call in &calls {
+        let found = header.iter().find(|other| other.name == call.name);
+        let wanted = found.unwrap_or_else(|| panic!("the header has no {}", call.name));
+        assert_eq!(call, wanted);
     }
 }
 
