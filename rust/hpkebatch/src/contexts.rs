@@ -92,8 +92,10 @@ impl Sender {
     /// Sets a sender up for the owner of a public key, with a fresh encapsulation (RFC 9180, 5.1,
     /// SetupBaseS and SetupPSKS).
     ///
-    /// It answers [`Error::WrongUsage`] where the limit is 0, [`Error::PskPair`],
-    /// [`Error::PskMissing`], [`Error::NoMemory`] and [`Error::NoRandom`].
+    /// # Errors
+    ///
+    /// [`Error::WrongUsage`] where the limit is 0, [`Error::PskPair`], [`Error::PskMissing`],
+    /// [`Error::NoMemory`] and [`Error::NoRandom`].
     ///
     /// ```
     /// use hpkebatch::{Kem, Parameters, SecretKey, Sender};
@@ -120,6 +122,10 @@ impl Sender {
 
     /// Sets a sender up for a shared secret that another KEM gave, whose id is `kem` (RFC 9180,
     /// 5.1, KeySchedule). Use a shared secret for one sender, and once.
+    ///
+    /// # Errors
+    ///
+    /// [`Error::WrongUsage`] where the limit is 0, [`Error::PskPair`] and [`Error::PskMissing`].
     ///
     /// ```
     /// use hpkebatch::{Parameters, Recipient, Sender};
@@ -166,9 +172,12 @@ impl Sender {
     /// Seals a text at the next number (RFC 9180, 5.2, ContextS.Seal): fills `out` with the
     /// ciphertext and its tag. `out` has [`TAG_SIZE`](crate::TAG_SIZE) bytes more than the text.
     ///
-    /// `aad` isn't sent: the recipient opens with the same. [`Error::WrongUsage`] says that `out`
-    /// has another size, or the text more than 2^36 − 32 bytes. [`Error::Limit`] and
-    /// [`Error::NoCipher`] say that the context doesn't seal.
+    /// `aad` isn't sent: the recipient opens with the same.
+    ///
+    /// # Errors
+    ///
+    /// - [`Error::WrongUsage`]: `out` has another size, or the text more than 2^36 − 32 bytes.
+    /// - [`Error::NoCipher`], [`Error::Limit`]: the context doesn't seal, or doesn't seal any more.
     ///
     /// ```
     /// use hpkebatch::{Error, Kem, Parameters, SecretKey, Sender, TAG_SIZE};
@@ -185,6 +194,10 @@ impl Sender {
     }
 
     /// [`Sender::seal`] into a new `Vec`.
+    ///
+    /// # Errors
+    ///
+    /// Those of [`Sender::seal`], and [`Error::NoMemory`].
     ///
     /// ```
     /// use hpkebatch::{Kem, Parameters, SecretKey, Sender};
@@ -203,7 +216,9 @@ impl Sender {
 
     /// Fills `out` with a secret that the recipient exports too (RFC 9180, 5.3, Context.Export).
     ///
-    /// [`Error::ExportSize`] says that `out` has more than 255 times the bytes of the KDF's hash.
+    /// # Errors
+    ///
+    /// [`Error::ExportSize`]: `out` has more than 255 times the bytes of the KDF's hash.
     ///
     /// ```
     /// use hpkebatch::{Kem, Parameters, SecretKey, Sender};
@@ -288,10 +303,14 @@ impl Recipient {
 
     /// Sets a recipient up from a sender's encapsulation (RFC 9180, 5.1, SetupBaseR and SetupPSKR).
     ///
-    /// It answers [`Error::WrongUsage`] where `enc` has another size than
-    /// [`Kem::enc_size`](crate::Kem::enc_size), or the limit is 0; [`Error::Form`] where the key's
-    /// bytes encode none; [`Error::PskPair`], [`Error::PskMissing`] and [`Error::NoMemory`]. If
-    /// `enc` was changed, the context is another, and each opening answers [`Error::Failed`].
+    /// If `enc` was changed, the context is another, and each opening answers [`Error::Failed`].
+    ///
+    /// # Errors
+    ///
+    /// - [`Error::WrongUsage`]: `enc` has another size than [`Kem::enc_size`](crate::Kem::enc_size),
+    ///   or the limit is 0.
+    /// - [`Error::Form`]: the key's bytes encode none.
+    /// - [`Error::PskPair`], [`Error::PskMissing`] and [`Error::NoMemory`].
     ///
     /// ```
     /// use hpkebatch::{Kem, Parameters, Recipient, SecretKey, Sender};
@@ -311,6 +330,10 @@ impl Recipient {
 
     /// Sets a recipient up for a shared secret that another KEM gave, whose id is `kem` (RFC 9180,
     /// 5.1, KeySchedule). [`Sender::from_shared_secret`] shows both ends.
+    ///
+    /// # Errors
+    ///
+    /// Those of [`Sender::from_shared_secret`].
     ///
     /// ```
     /// use hpkebatch::{Parameters, Recipient};
@@ -333,9 +356,11 @@ impl Recipient {
     /// Opens a message at the next number (RFC 9180, 5.2, ContextR.Open): if its tag holds, fills
     /// `out` with the text. `out` has [`TAG_SIZE`](crate::TAG_SIZE) bytes fewer than `ct`.
     ///
-    /// [`Error::Failed`] says that the tag doesn't hold: the number stays, and `out` too.
-    /// [`Error::WrongUsage`] says that `out` has another size, or that `ct` has no room for a tag.
-    /// [`Error::Limit`] and [`Error::NoCipher`] say that the context doesn't open.
+    /// # Errors
+    ///
+    /// - [`Error::Failed`]: the tag doesn't hold. The number stays, and `out` too.
+    /// - [`Error::WrongUsage`]: `out` has another size, or `ct` no room for a tag.
+    /// - [`Error::NoCipher`], [`Error::Limit`]: the context doesn't open, or doesn't open any more.
     ///
     /// ```
     /// use hpkebatch::{Error, Kem, Parameters, Recipient, SecretKey, Sender, TAG_SIZE};
@@ -359,6 +384,10 @@ impl Recipient {
 
     /// [`Recipient::open`] into a new `Vec`.
     ///
+    /// # Errors
+    ///
+    /// Those of [`Recipient::open`], and [`Error::NoMemory`].
+    ///
     /// ```
     /// use hpkebatch::{Kem, Parameters, Recipient, SecretKey, Sender};
     ///
@@ -378,7 +407,9 @@ impl Recipient {
 
     /// Fills `out` with a secret that the sender exports too (RFC 9180, 5.3, Context.Export).
     ///
-    /// [`Error::ExportSize`] says that `out` has more than 255 times the bytes of the KDF's hash.
+    /// # Errors
+    ///
+    /// [`Error::ExportSize`]: `out` has more than 255 times the bytes of the KDF's hash.
     ///
     /// ```
     /// use hpkebatch::{Parameters, Recipient, Sender};

@@ -9,8 +9,11 @@ use crate::keys::{PublicKey, SecretKey};
 use crate::library::Seed;
 use crate::suites::{Kem, Parameters};
 
-/// The key of a seed and a stream. [`Error::Exhausted`] and [`Error::NoInverse`] say that they give
-/// none.
+/// The key of a seed and a stream.
+///
+/// # Errors
+///
+/// [`Error::Exhausted`] and [`Error::NoInverse`], where they give none, and [`Error::NoMemory`].
 ///
 /// ```
 /// use hpkebatch::{for_tests, Kem};
@@ -24,7 +27,11 @@ pub fn secret_key(kem: Kem, seed: &[u8; 32], stream: u64) -> Result<SecretKey, E
     SecretKey::of_seed(kem, &Seed { bytes, stream })
 }
 
-/// The sender of a seed and a stream. It is set up as [`Sender::new`] says.
+/// The sender of a seed and a stream, which is set up as [`Sender::new`] says.
+///
+/// # Errors
+///
+/// Those of [`Sender::new`], but for [`Error::NoRandom`].
 ///
 /// ```
 /// use hpkebatch::{for_tests, Kem, Parameters};

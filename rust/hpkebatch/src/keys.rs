@@ -30,8 +30,11 @@ pub struct PublicKey {
 }
 
 impl PublicKey {
-    /// The key with these bytes. Only their number is tested, and [`Error::WrongUsage`] says that
-    /// it is another.
+    /// The key with these bytes. Only their number is tested.
+    ///
+    /// # Errors
+    ///
+    /// [`Error::WrongUsage`]: they aren't [`Kem::public_size`] many.
     ///
     /// ```
     /// use hpkebatch::{Error, Kem, PublicKey};
@@ -140,8 +143,10 @@ impl SecretKey {
 
     /// Makes a pair of keys from random bytes of the system (RFC 9180, 4, GenerateKeyPair).
     ///
-    /// [`Error::NoRandom`] and [`Error::NoMemory`] say that there are none. Should the system's
-    /// bytes give no key a hundred times in a row, the last cause is named.
+    /// # Errors
+    ///
+    /// [`Error::NoRandom`], [`Error::NoMemory`], and [`Error::Exhausted`] or [`Error::NoInverse`]
+    /// where a hundred seeds in a row give no key.
     ///
     /// ```
     /// use hpkebatch::{Kem, SecretKey};
@@ -168,8 +173,14 @@ impl SecretKey {
         Ok(key)
     }
 
-    /// The key with these bytes. Only their number is tested here, and [`Error::WrongUsage`] says
-    /// that it is another. A recipient answers [`Error::Form`] where they encode no secret key.
+    /// The key with these bytes. Only their number is tested here: [`Recipient::new`] answers
+    /// [`Error::Form`] where they encode no secret key.
+    ///
+    /// [`Recipient::new`]: crate::Recipient::new
+    ///
+    /// # Errors
+    ///
+    /// [`Error::WrongUsage`]: they aren't [`Kem::secret_size`] many.
     ///
     /// ```
     /// use hpkebatch::{Kem, SecretKey};
