@@ -22,7 +22,7 @@
 #![no_std]
 #![allow(non_camel_case_types)] // the names are the header's
 
-use core::ffi::{c_int, c_uint, c_void};
+use core::ffi::{c_char, c_int, c_uint, c_void};
 
 mod numbers;
 
@@ -81,6 +81,13 @@ pub struct hpkebatch_asked {
 }
 
 extern "C" {
+    // ---- words, in plain C
+
+    /// The version of the library, as "0.4.0": a text that stays as it is.
+    pub fn hpkebatch_version() -> *const c_char;
+    /// A sentence on a status, in English: a text that stays as it is. Any number has one.
+    pub fn hpkebatch_strerror(status: u32) -> *const c_char;
+
     // ---- AES-128-GCM and AES-256-GCM (NIST SP 800-38D)
 
     /// Encrypts by AES-GCM: `out` gets the ciphertext and its tag, `text_len + 16` bytes.

@@ -42,6 +42,8 @@ pub const HPKEBATCH_SHORT: u32 = 20;
 pub const HPKEBATCH_HEADER: u32 = 21;
 /// the nonce of the response has another size than its AEAD asks for
 pub const HPKEBATCH_NONCESIZE: u32 = 22;
+/// the system gave no random bytes: no call of the library answers it
+pub const HPKEBATCH_NO_RANDOM: u32 = 24;
 
 // ---- sizes
 
@@ -74,6 +76,10 @@ pub const HPKEBATCH_RECIPIENT: u16 = 1;
 pub const HPKEBATCH_BASE: u16 = 0;
 /// mode psk (RFC 9180, 5.1.2)
 pub const HPKEBATCH_PSK: u16 = 1;
+/// sntrup761, by an id of this library's own
+pub const HPKEBATCH_SNTRUP761: u16 = 63329;
+/// sntrup857, by an id of this library's own
+pub const HPKEBATCH_SNTRUP857: u16 = 63575;
 /// HKDF-SHA256 (RFC 9180, 7.2)
 pub const HPKEBATCH_HKDF_SHA256: u16 = 1;
 /// HKDF-SHA384 (RFC 9180, 7.2)

@@ -1,6 +1,7 @@
 //! Which names the archive has, by `nm` of binutils: the library's own are global, and no others.
 
 use std::collections::BTreeSet;
+use std::ffi::CStr;
 use std::process::Command;
 
 const ARCHIVE: &str = concat!(env!("OUT_DIR"), "/libhpkebatch.a");
@@ -49,4 +50,17 @@ fn nothing_that_the_texts_call_is_missing() {
     assert!(undefined.contains("malloc"), "{undefined:?}");
     let own = |name: &String| name.starts_with("rattle") || name.starts_with("hpkebatch");
     assert!(!undefined.iter().any(own), "{undefined:?}");
+}
+
+#[test]
+fn the_library_says_which_version_it_is_and_what_a_status_means() {
+    // SAFETY: both give a text that ends in a zero byte and stays.
+    let (version, sentence) = unsafe {
+        (
+            CStr::from_ptr(hpkebatch_sys::hpkebatch_version()),
+            CStr::from_ptr(hpkebatch_sys::hpkebatch_strerror(11)),
+        )
+    };
+    assert_eq!(version.to_str(), Ok(env!("CARGO_PKG_VERSION")));
+    assert!(sentence.to_bytes().starts_with(b"the tag does not hold"));
 }

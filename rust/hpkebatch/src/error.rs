@@ -69,7 +69,7 @@ impl Error {
             Self::Form => sys::HPKEBATCH_FORM,
             Self::PskPair => sys::HPKEBATCH_PSKPAIR,
             Self::PskMissing => sys::HPKEBATCH_PSKMISSING,
-            Self::NoRandom => NO_RANDOM,
+            Self::NoRandom => sys::HPKEBATCH_NO_RANDOM,
             Self::Unknown(status) => status,
         }
     }
@@ -89,13 +89,11 @@ impl Error {
             sys::HPKEBATCH_FORM => Self::Form,
             sys::HPKEBATCH_PSKPAIR => Self::PskPair,
             sys::HPKEBATCH_PSKMISSING => Self::PskMissing,
+            sys::HPKEBATCH_NO_RANDOM => Self::NoRandom,
             other => Self::Unknown(other),
         })
     }
 }
-
-/// The status of who draws a seed and gets none.
-const NO_RANDOM: u32 = 24;
 
 impl fmt::Display for Error {
     fn fmt(&self, out: &mut fmt::Formatter<'_>) -> fmt::Result {
@@ -129,6 +127,5 @@ mod tests {
             let error = Error::check(status).unwrap_err();
             assert_eq!(error.status(), status);
         }
-        assert_eq!(Error::check(NO_RANDOM), Err(Error::Unknown(NO_RANDOM)));
     }
 }

@@ -45,8 +45,8 @@ impl Kem {
     #[must_use]
     pub const fn id(self) -> u16 {
         match self {
-            Self::Sntrup761 => 63329,
-            Self::Sntrup857 => 63575,
+            Self::Sntrup761 => sys::HPKEBATCH_SNTRUP761,
+            Self::Sntrup857 => sys::HPKEBATCH_SNTRUP857,
         }
     }
 
