@@ -271,6 +271,24 @@ extern "C" {
         out: *mut u8,
         out_len: usize,
     ) -> u32;
+    /// Seals at the number that is due, in place: `buffer` has a text and 16 bytes behind it, and
+    /// gets the ciphertext and its tag.
+    pub fn hpkebatch_context_seal_in_place(
+        context: *mut hpkebatch_context,
+        aad: *const u8,
+        aad_len: usize,
+        buffer: *mut u8,
+        buffer_len: usize,
+    ) -> u32;
+    /// Opens at the number that is due, in place, if the tag holds: `buffer` has a ciphertext and its
+    /// tag, and gets the text in the ciphertext's place.
+    pub fn hpkebatch_context_open_in_place(
+        context: *mut hpkebatch_context,
+        aad: *const u8,
+        aad_len: usize,
+        buffer: *mut u8,
+        buffer_len: usize,
+    ) -> u32;
     /// Exports a secret of `out_len` bytes.
     pub fn hpkebatch_context_export(
         context: *const hpkebatch_context,

@@ -142,7 +142,7 @@ fn calls_of_this_crate() -> Vec<Call> {
 fn each_call_has_the_types_of_the_header() {
     let header = calls_of_the_header();
     let calls = calls_of_this_crate();
-    assert!(calls.len() >= 26, "only {} calls are declared", calls.len());
+    assert!(calls.len() >= 30, "only {} calls are declared", calls.len());
     for call in &calls {
         let found = header.iter().find(|other| other.name == call.name);
         let wanted = found.unwrap_or_else(|| panic!("the header has no {}", call.name));

@@ -3,12 +3,10 @@
 use crate::error::Error;
 use crate::keys::{PublicKey, RandomSeed, SecretKey};
 use crate::library::{Context, Seed};
-use crate::suites::{Parameters, MOST_ENC};
+use crate::suites::{Parameters, MOST_ENC, TAG_SIZE};
 use core::fmt;
 use hpkebatch_sys::{HPKEBATCH_RECIPIENT, HPKEBATCH_SENDER};
 
-#[cfg(feature = "alloc")]
-use crate::suites::TAG_SIZE;
 #[cfg(feature = "alloc")]
 use alloc::vec::Vec;
 
@@ -214,6 +212,29 @@ impl Sender {
         Ok(out)
     }
 
+    /// Seals at the next number, as [`Sender::seal`], in place: the text is `buffer` without its
+    /// last [`TAG_SIZE`](crate::TAG_SIZE) bytes, and these get the tag.
+    ///
+    /// # Errors
+    ///
+    /// - [`Error::WrongUsage`]: `buffer` has no room for a tag, or more than 2^36 − 16 bytes.
+    /// - [`Error::NoCipher`], [`Error::Limit`]: as with [`Sender::seal`].
+    ///
+    /// ```
+    /// use hpkebatch::{Kem, Parameters, SecretKey, Sender, TAG_SIZE};
+    ///
+    /// let bob = SecretKey::generate(Kem::Sntrup761)?.public_key();
+    /// let mut sender = Sender::new(&bob, &Parameters::new(b""))?;
+    /// let mut buffer = [0; 5 + TAG_SIZE];
+    /// buffer[..5].copy_from_slice(b"hello");
+    /// sender.seal_in_place(b"", &mut buffer)?;
+    /// assert_ne!(&buffer[..5], b"hello");
+    /// # Ok::<(), hpkebatch::Error>(())
+    /// ```
+    pub fn seal_in_place(&mut self, aad: &[u8], buffer: &mut [u8]) -> Result<(), Error> {
+        self.context.seal_in_place(aad, buffer)
+    }
+
     /// Fills `out` with a secret that the recipient exports too (RFC 9180, 5.3, Context.Export).
     ///
     /// # Errors
@@ -358,8 +379,9 @@ impl Recipient {
     ///
     /// # Errors
     ///
-    /// - [`Error::Failed`]: the tag doesn't hold. The number stays, and `out` too.
-    /// - [`Error::WrongUsage`]: `out` has another size, or `ct` no room for a tag.
+    /// - [`Error::Failed`]: the tag doesn't hold, or `ct` has no room for one and `out` is empty. The
+    ///   number stays, and `out` too.
+    /// - [`Error::WrongUsage`]: `out` has another size.
     /// - [`Error::NoCipher`], [`Error::Limit`]: the context doesn't open, or doesn't open any more.
     ///
     /// ```
@@ -403,6 +425,36 @@ impl Recipient {
         let mut out = zeros(ct.len().saturating_sub(TAG_SIZE))?;
         self.open(aad, ct, &mut out)?;
         Ok(out)
+    }
+
+    /// Opens at the next number, as [`Recipient::open`], in place: if the tag holds, the text stands
+    /// where its ciphertext was, and is given back without the tag behind it.
+    ///
+    /// # Errors
+    ///
+    /// - [`Error::Failed`]: the tag doesn't hold, or `buffer` has no room for one. The number stays,
+    ///   and `buffer` too.
+    /// - [`Error::NoCipher`], [`Error::Limit`]: as with [`Recipient::open`].
+    ///
+    /// ```
+    /// use hpkebatch::{Error, Kem, Parameters, Recipient, SecretKey, Sender};
+    ///
+    /// let key = SecretKey::generate(Kem::Sntrup761)?;
+    /// let mut sender = Sender::new(&key.public_key(), &Parameters::new(b""))?;
+    /// let mut buffer = sender.seal_to_vec(b"", b"hello")?;
+    /// let mut recipient = Recipient::new(&key, sender.enc(), &Parameters::new(b""))?;
+    /// assert_eq!(recipient.open_in_place(b"other", &mut buffer), Err(Error::Failed));
+    /// assert_eq!(recipient.open_in_place(b"", &mut buffer)?, b"hello");
+    /// # Ok::<(), hpkebatch::Error>(())
+    /// ```
+    pub fn open_in_place<'a>(
+        &mut self,
+        aad: &[u8],
+        buffer: &'a mut [u8],
+    ) -> Result<&'a mut [u8], Error> {
+        self.context.open_in_place(aad, buffer)?;
+        let text = buffer.len() - TAG_SIZE;
+        Ok(&mut buffer[..text])
     }
 
     /// Fills `out` with a secret that the sender exports too (RFC 9180, 5.3, Context.Export).

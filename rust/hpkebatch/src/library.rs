@@ -244,6 +244,34 @@ impl Context {
         })
     }
 
+    /// ContextS.Seal (RFC 9180, 5.2), in place.
+    pub(crate) fn seal_in_place(&mut self, aad: &[u8], buffer: &mut [u8]) -> Result<(), Error> {
+        // SAFETY: each pointer is that of a slice, before its length.
+        Error::check(unsafe {
+            sys::hpkebatch_context_seal_in_place(
+                &mut self.held,
+                aad.as_ptr(),
+                aad.len(),
+                buffer.as_mut_ptr(),
+                buffer.len(),
+            )
+        })
+    }
+
+    /// ContextR.Open (RFC 9180, 5.2), in place.
+    pub(crate) fn open_in_place(&mut self, aad: &[u8], buffer: &mut [u8]) -> Result<(), Error> {
+        // SAFETY: each pointer is that of a slice, before its length.
+        Error::check(unsafe {
+            sys::hpkebatch_context_open_in_place(
+                &mut self.held,
+                aad.as_ptr(),
+                aad.len(),
+                buffer.as_mut_ptr(),
+                buffer.len(),
+            )
+        })
+    }
+
     /// Context.Export (RFC 9180, 5.3).
     pub(crate) fn export(&self, exporter_context: &[u8], out: &mut [u8]) -> Result<(), Error> {
         // SAFETY: each pointer is that of a slice, before its length.

@@ -13,6 +13,13 @@ enum Context {
     Recipient(Recipient),
 }
 
+/// Where a message is sealed and opened: into other memory, or where it stands.
+#[derive(Clone, Copy)]
+enum Way {
+    Apart,
+    InPlace,
+}
+
 /// A line asks for what the types of this crate rule out.
 struct RuledOut;
 
@@ -185,25 +192,52 @@ fn written(size: usize, call: impl FnOnce(&mut [u8]) -> Result<(), Error>) -> An
     answer(result, |()| vec![out])
 }
 
-fn seal(fields: &mut Fields<'_>, context: &mut Context) -> Answer {
+/// A call that writes where it reads, and nothing where it isn't done.
+fn written_in_place(
+    mut buffer: Vec<u8>,
+    call: impl FnOnce(&mut [u8]) -> Result<(), Error>,
+) -> Answer {
+    let before = buffer.clone();
+    let result = call(&mut buffer);
+    assert!(result.is_ok() || buffer == before);
+    answer(result, |()| vec![buffer])
+}
+
+fn seal(fields: &mut Fields<'_>, context: &mut Context, way: Way) -> Answer {
     let (aad, text) = (fields.bytes(), fields.bytes());
     let Context::Sender(sender) = context else {
         return Err(RuledOut);
     };
     let number = sender.number();
-    let (error, out) = written(text.len() + TAG_SIZE, |out| sender.seal(&aad, &text, out))?;
+    let (error, out) = match way {
+        Way::Apart => written(text.len() + TAG_SIZE, |out| sender.seal(&aad, &text, out)),
+        Way::InPlace => {
+            let buffer = [&text[..], &[0xaa; TAG_SIZE]].concat();
+            written_in_place(buffer, |buffer| sender.seal_in_place(&aad, buffer))
+        }
+    }?;
     assert_eq!(sender.number() - number, out.len() as u64);
     Ok((error, out))
 }
 
-fn open(fields: &mut Fields<'_>, context: &mut Context) -> Answer {
+fn open(fields: &mut Fields<'_>, context: &mut Context, way: Way) -> Answer {
     let (aad, ct) = (fields.bytes(), fields.bytes());
     let Context::Recipient(recipient) = context else {
         return Err(RuledOut);
     };
     let number = recipient.number();
     let size = ct.len().saturating_sub(TAG_SIZE);
-    let (error, out) = written(size, |out| recipient.open(&aad, &ct, out))?;
+    let (error, out) = match way {
+        Way::Apart => written(size, |out| recipient.open(&aad, &ct, out)),
+        Way::InPlace => {
+            let mut buffer = ct.clone();
+            let opened = recipient.open_in_place(&aad, &mut buffer);
+            let opened = opened.map(|text| text.to_vec());
+            assert_eq!(buffer[size..], ct[size..], "the tag stays");
+            assert!(opened.is_ok() || buffer == ct);
+            answer(opened, |text| vec![text])
+        }
+    }?;
     assert_eq!(recipient.number() - number, out.len() as u64);
     Ok((error, out))
 }
@@ -217,7 +251,7 @@ fn export(fields: &mut Fields<'_>, context: &mut Context) -> Answer {
     })
 }
 
-fn run(fields: &mut Fields<'_>, context: &mut Context) -> Answer {
+fn run(fields: &mut Fields<'_>, context: &mut Context, way: Way) -> Answer {
     let word = fields.word();
     if ["sender", "recipient", "shared"].contains(&word) {
         *context = Context::None;
@@ -227,8 +261,8 @@ fn run(fields: &mut Fields<'_>, context: &mut Context) -> Answer {
         "sender" => sender(fields, context),
         "recipient" => recipient(fields, context),
         "shared" => shared(fields, context),
-        "seal" => seal(fields, context),
-        "open" => open(fields, context),
+        "seal" => seal(fields, context, way),
+        "open" => open(fields, context, way),
         "export" => export(fields, context),
         other => panic!("no line begins with {other}"),
     }
@@ -255,9 +289,9 @@ fn status_of(word: &str) -> u32 {
 
 /// Runs a line, and holds what it gives to what the line says. Whether it could be asked for at
 /// all.
-fn holds(line: &str, context: &mut Context) -> bool {
+fn holds(line: &str, context: &mut Context, way: Way) -> bool {
     let mut fields = Fields(line.split(' '));
-    match run(&mut fields, context) {
+    match run(&mut fields, context, way) {
         Ok((error, mut given)) => {
             assert_eq!(error.status(), status_of(fields.word()), "the status");
             given.resize(fields.0.clone().count(), Vec::new()); // `-` where it isn't done
@@ -277,6 +311,15 @@ fn holds(line: &str, context: &mut Context) -> bool {
 
 #[test]
 fn each_case_has_the_answer_of_the_second_program() {
+    each_case_holds(Way::Apart);
+}
+
+#[test]
+fn each_case_has_that_answer_in_place() {
+    each_case_holds(Way::InPlace);
+}
+
+fn each_case_holds(way: Way) {
     let file = concat!(
         env!("CARGO_MANIFEST_DIR"),
         "/../../tools/cases/in_process.cases"
@@ -290,7 +333,7 @@ fn each_case_has_the_answer_of_the_second_program() {
             continue;
         }
         println!("line {}: {}", number + 1, &line[..line.len().min(70)]);
-        match holds(line, &mut context) {
+        match holds(line, &mut context, way) {
             true => asked += 1,
             false => ruled_out += 1,
         }

@@ -153,7 +153,7 @@ fn outputs_of_another_size_are_refused() {
     }
     assert_eq!(
         recipient.open(b"", &sealed[..15], &mut []),
-        Err(Error::WrongUsage)
+        Err(Error::Failed)
     );
     assert_eq!((recipient.number(), opened), (0, [9; 6]));
     recipient
@@ -162,6 +162,22 @@ fn outputs_of_another_size_are_refused() {
     assert_eq!(opened, *b"hello\x09");
     assert_eq!(sender.seal(b"", b"", &mut [0; 16]), Err(Error::Limit));
     assert_eq!(sender.export(b"", &mut [0; 8161]), Err(Error::ExportSize));
+}
+
+#[test]
+fn buffers_with_no_room_for_a_tag_are_refused() {
+    let parameters = Parameters::new(b"");
+    let mut sender = Sender::from_shared_secret(1, &[7; 32], &parameters).unwrap();
+    let mut recipient = Recipient::from_shared_secret(1, &[7; 32], &parameters).unwrap();
+    for size in [0, 15] {
+        let mut buffer = vec![9; size];
+        let sealed = sender.seal_in_place(b"", &mut buffer);
+        assert_eq!(sealed, Err(Error::WrongUsage));
+        let opened = recipient.open_in_place(b"", &mut buffer);
+        assert_eq!(opened.err(), Some(Error::Failed));
+        assert!(buffer.iter().all(|byte| *byte == 9));
+    }
+    assert_eq!((sender.number(), recipient.number()), (0, 0));
 }
 
 #[test]
