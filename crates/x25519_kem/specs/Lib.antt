@@ -1,0 +1,2 @@
+pub mod Kem
+pub mod Laws
