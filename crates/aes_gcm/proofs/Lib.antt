@@ -1,5 +1,4 @@
 pub mod XorBytes
-pub mod Tags
 pub mod Streams
 pub mod Opening
 pub mod Published

@@ -2,15 +2,14 @@
 
 ghost use Rattle.std.specs.Prelude.{◌≡◌, ◌≤◌, ◌<◌, ◌-◌, ◌^◌, ◌↔◌, ℕ, List, [], false, length, slice_index_or, IsTrue};
 ghost use Rattle.aes_block.specs.Cipher.{cipher};
-ghost use Rattle.aes_gcm.specs.Gcm.{j0, Holds, last_16};
+ghost use Rattle.aes_gcm.specs.Gcm.{j0, Holds};
 
 use crate::adding::add_blocks;
-use crate::checks::MayCheck;
 use crate::counters::Block;
 use crate::key::GcmKey;
 use std::marker::Model;
-use std::simd::prelude::*;
 use std::thread::Threads;
+use tag_checks::{MayCheck, ends_in};
 
 /// A ciphertext with its associated data and its key, hashed once. The hash doesn't depend on the
 /// nonce, so a check at a further nonce costs one block of the cipher. A contract sees the key, the
@@ -83,16 +82,6 @@ impl GcmKey {
     }
 }
 
-// Whether a byte string ends in these 16 bytes. All of them are compared at once, so that the only
-// branch is that on the verdict.
-fn is_last_16(bytes: &[u8], tag: &Block) -> bool
-    requires { 16 ≤ length bytes.now }
-    ensures { IsTrue result ↔ (last_16 bytes.now ≡ tag.now) }
-{
-    let end = u8x16::from_slice(&bytes[bytes.len() - 16..]);
-    !end.simd_ne(u8x16::from_array(*tag)).any()
-}
-
 impl HashedCiphertext<'_> {
     // Whether its tag is the one that is masked by the cipher of the J0 of a nonce.
     #[tactic(auto, unfolding(crate::specs::Gcm::tag_of))]
@@ -104,7 +93,7 @@ impl HashedCiphertext<'_> {
             return false;
         }
         let tag = add_blocks(self.hash, mask);
-        is_last_16(self.ct, &tag)
+        ends_in(self.ct, &tag)
     }
 
     /// Whether the authenticated decryption function (SP 800-38D, 7.2) finds that the ciphertext

@@ -6,11 +6,11 @@ ghost use Rattle.aes_gcm.specs.Gcm.{hash_key, counter_block, j0, gctr_from, gctr
 ghost use Rattle.aes_gcm.specs.Groups.{IsGroup};
 
 use crate::adding::{add_block_at, add_blocks, add_rest};
-use crate::checks::Checks;
 use crate::counters::{Block, Blocks, counter_block};
 use aes_block::AesKey;
 use ghash_core::{Ghash, GhashKey};
 use std::marker::Model;
+use tag_checks::Checks;
 
 /// A key of AES-128-GCM or AES-256-GCM, with what is made of it once: the round keys, about 2 KiB,
 /// and the tables of the hash subkey. A contract sees the key's bytes.

@@ -17,12 +17,11 @@
 #![tactic(auto)]
 
 mod adding;
-mod checks;
 mod counters;
 mod hashed;
 mod key;
 pub mod laws;
 
-pub use checks::{Checks, MayCheck};
 pub use hashed::HashedCiphertext;
 pub use key::GcmKey;
+pub use tag_checks::{Checks, MayCheck};
