@@ -1,0 +1,251 @@
+//go:build linux && amd64 && cgo
+
+package hpkebatch
+
+import (
+	"errors"
+	"fmt"
+	"runtime"
+	"sync"
+)
+
+// A Sender seals messages to one recipient. Several goroutines may use it: each message gets a number of its own, and
+// the recipient opens them in the order of the numbers. Close it at the end.
+type Sender struct{ context context }
+
+// NewSender makes a sender for whoever has the private key of pk. It gives enc, which the recipient needs.
+func NewSender(pk *PublicKey, kdf KDF, aead AEAD, info []byte, options ...Option) (enc []byte, s *Sender, err error) {
+	enc = make([]byte, pk.kem.encSize)
+	s, err = senderInto(enc, pk, newParameters(kdf, aead, info, options))
+	if err != nil {
+		return nil, nil, err
+	}
+	return enc, s, nil
+}
+
+// NewSenderFromShared makes a sender from a shared secret, which a KEM with this id gave. Use a shared secret for one
+// sender, and once: a second sender uses its keys and nonces for other messages, which gives both away.
+func NewSenderFromShared(kemID uint16, sharedSecret []byte, kdf KDF, aead AEAD, info []byte, options ...Option) (*Sender, error) {
+	s := new(Sender)
+	err := s.context.setUp(func(c *contextBytes) error {
+		return setUpShared(c, roleSender, kemID, sharedSecret, newParameters(kdf, aead, info, options))
+	})
+	return orNil(s, err)
+}
+
+// senderInto draws a seed, and fills enc.
+func senderInto(enc []byte, pk *PublicKey, p *parameters) (*Sender, error) {
+	var s *Sender
+	err := withSeed(func(from *seed) (err error) {
+		s, err = senderOf(from, 0, enc, pk, p)
+		return err
+	})
+	return s, err
+}
+
+// senderOf makes the sender of a seed's stream, and fills enc.
+func senderOf(from *seed, stream uint64, enc []byte, pk *PublicKey, p *parameters) (*Sender, error) {
+	if pk.kem.id == 0 {
+		return nil, errZeroKey
+	}
+	s := new(Sender)
+	err := s.context.setUp(func(c *contextBytes) error {
+		return setUpSender(c, enc, from, stream, pk, p)
+	})
+	return orNil(s, err)
+}
+
+// Seal encrypts the next message, and authenticates aad with it. The ciphertext has [TagSize] bytes more than plaintext.
+func (s *Sender) Seal(aad, plaintext []byte) ([]byte, error) {
+	return s.context.seal(aad, plaintext, make([]byte, len(plaintext)+TagSize))
+}
+
+// Export gives a secret of length bytes, which the recipient has too. Each exporterContext gives another one.
+func (s *Sender) Export(exporterContext string, length int) ([]byte, error) {
+	return s.context.export(exporterContext, length)
+}
+
+// Close overwrites the context with zeros. It waits for calls that use it; later ones answer [ErrClosed].
+func (s *Sender) Close() error { return s.context.close() }
+
+// A Recipient opens the messages of one sender, in the order in which they were sealed. Several goroutines may use it,
+// but the order is theirs to keep. Close it at the end.
+type Recipient struct{ context context }
+
+// NewRecipient makes a recipient of what a sender gave as enc. KDF, AEAD, info and options must be the sender's. Where
+// they aren't, or where enc was changed, the recipient is another one, and each Open answers [ErrOpen].
+func NewRecipient(enc []byte, k *PrivateKey, kdf KDF, aead AEAD, info []byte, options ...Option) (*Recipient, error) {
+	return recipientOf(enc, k, newParameters(kdf, aead, info, options))
+}
+
+func recipientOf(enc []byte, k *PrivateKey, p *parameters) (*Recipient, error) {
+	kem := k.KEM()
+	if len(enc) != kem.encSize {
+		return nil, fmt.Errorf("%w: an encapsulation of %s has %d bytes, and this one has %d", ErrUsage, kem, kem.encSize, len(enc))
+	}
+	r := new(Recipient)
+	err := k.lend(func(secret []byte) error {
+		return r.context.setUp(func(c *contextBytes) error { return setUpRecipient(c, enc, kem, secret, p) })
+	})
+	return orNil(r, err)
+}
+
+// NewRecipientFromShared makes a recipient from a shared secret, which a KEM with this id gave.
+func NewRecipientFromShared(kemID uint16, sharedSecret []byte, kdf KDF, aead AEAD, info []byte, options ...Option) (*Recipient, error) {
+	r := new(Recipient)
+	err := r.context.setUp(func(c *contextBytes) error {
+		return setUpShared(c, roleRecipient, kemID, sharedSecret, newParameters(kdf, aead, info, options))
+	})
+	return orNil(r, err)
+}
+
+// Open decrypts the next message, if it and aad are what the sender sealed. Else it answers [ErrOpen], and the same
+// message may come again.
+func (r *Recipient) Open(aad, ciphertext []byte) ([]byte, error) {
+	plaintext, err := r.context.open(aad, ciphertext)
+	if len(ciphertext) < TagSize && errors.Is(err, ErrUsage) {
+		err = ErrOpen
+	}
+	return plaintext, err
+}
+
+// Export gives a secret of length bytes, which the sender has too. Each exporterContext gives another one.
+func (r *Recipient) Export(exporterContext string, length int) ([]byte, error) {
+	return r.context.export(exporterContext, length)
+}
+
+// Close overwrites the context with zeros. It waits for calls that use it; later ones answer [ErrClosed].
+func (r *Recipient) Close() error { return r.context.close() }
+
+// Seal makes a sender and seals one message. It gives enc and behind it the ciphertext.
+func Seal(pk *PublicKey, kdf KDF, aead AEAD, info, plaintext []byte, options ...Option) ([]byte, error) {
+	size := pk.kem.encSize
+	sealed := make([]byte, size+len(plaintext)+TagSize)
+	s, err := senderInto(sealed[:size:size], pk, newParameters(kdf, aead, info, options))
+	if err != nil {
+		return nil, err
+	}
+	defer s.Close()
+	if _, err := s.context.seal(nil, plaintext, sealed[size:]); err != nil {
+		return nil, err
+	}
+	return sealed, nil
+}
+
+// Open opens what [Seal] sealed.
+func Open(k *PrivateKey, kdf KDF, aead AEAD, info, ciphertext []byte, options ...Option) ([]byte, error) {
+	size := k.KEM().encSize
+	if len(ciphertext) < size {
+		return nil, ErrOpen
+	}
+	r, err := NewRecipient(ciphertext[:size], k, kdf, aead, info, options...)
+	if err != nil {
+		return nil, err
+	}
+	defer r.Close()
+	return r.Open(nil, ciphertext[size:])
+}
+
+// A context is what Sender and Recipient have in common. It may not be copied: `go vet` tells of a copy, and a copy
+// answers ErrCopied.
+type context struct {
+	_    noCopy
+	self *context
+	// What prints a struct by its fields prints this pointer, and no secret.
+	held *heldContext
+}
+
+// What a context holds, in memory of its own, with no pointer in it.
+type heldContext struct {
+	mutex  sync.Mutex
+	isOpen bool
+	bytes  contextBytes
+}
+
+// go vet's copylocks looks for these two methods.
+type noCopy struct{}
+
+func (*noCopy) Lock()   {}
+func (*noCopy) Unlock() {}
+
+func (c *context) setUp(fill func(*contextBytes) error) error {
+	held := new(heldContext)
+	if err := fill(&held.bytes); err != nil {
+		return err
+	}
+	held.isOpen = true
+	runtime.SetFinalizer(held, (*heldContext).close)
+	c.self, c.held = c, held
+	return nil
+}
+
+// lend gives the context's bytes to one call at a time.
+func (c *context) lend(call func(*contextBytes) error) error {
+	if c.self != c {
+		return ErrCopied
+	}
+	c.held.mutex.Lock()
+	defer c.held.mutex.Unlock()
+	if !c.held.isOpen {
+		return ErrClosed
+	}
+	return call(&c.held.bytes)
+}
+
+func (c *context) seal(aad, plaintext, out []byte) ([]byte, error) {
+	err := c.lend(func(bytes *contextBytes) error { return contextSeal(bytes, aad, plaintext, out) })
+	return orNone(out, err)
+}
+
+func (c *context) open(aad, ciphertext []byte) ([]byte, error) {
+	room := len(ciphertext) - TagSize
+	if room < 0 {
+		room = 0
+	}
+	out := make([]byte, room)
+	err := c.lend(func(bytes *contextBytes) error { return contextOpen(bytes, aad, ciphertext, out) })
+	return orNone(out, err)
+}
+
+// 255 times the size of SHA-512, which no export passes. The library knows the limit of each KDF.
+const mostExported = 255 * 64
+
+func (c *context) export(exporterContext string, length int) ([]byte, error) {
+	if length < 0 || length > mostExported {
+		return nil, ErrExportSize
+	}
+	out := make([]byte, length)
+	err := c.lend(func(bytes *contextBytes) error { return contextExport(bytes, []byte(exporterContext), out) })
+	return orNone(out, err)
+}
+
+func (c *context) close() error {
+	if c.self != c {
+		return ErrCopied
+	}
+	runtime.SetFinalizer(c.held, nil)
+	c.held.close()
+	return nil
+}
+
+func (h *heldContext) close() {
+	h.mutex.Lock()
+	defer h.mutex.Unlock()
+	h.bytes, h.isOpen = contextBytes{}, false
+}
+
+// orNone gives out, or nothing where there is an error.
+func orNone(out []byte, err error) ([]byte, error) {
+	if err != nil {
+		return nil, err
+	}
+	return out, nil
+}
+
+// orNil gives a new Sender or Recipient, or nil where there is an error.
+func orNil[End Sender | Recipient](end *End, err error) (*End, error) {
+	if err != nil {
+		return nil, err
+	}
+	return end, nil
+}
