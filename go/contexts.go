@@ -151,8 +151,7 @@ func Open(k *PrivateKey, kdf KDF, aead AEAD, info, ciphertext []byte, options ..
 type context struct {
 	_    noCopy
 	self *context
-	// What prints a struct by its fields prints this pointer, and no secret.
-	held *heldContext
+	held hidden[heldContext]
 }
 
 // What a context holds, in memory of its own, with no pointer in it.
@@ -175,7 +174,7 @@ func (c *context) setUp(fill func(*contextBytes) error) error {
 	}
 	held.isOpen = true
 	runtime.SetFinalizer(held, (*heldContext).close)
-	c.self, c.held = c, held
+	c.self, c.held = c, hide(held)
 	return nil
 }
 
@@ -184,12 +183,13 @@ func (c *context) lend(call func(*contextBytes) error) error {
 	if c.self != c {
 		return ErrCopied
 	}
-	c.held.mutex.Lock()
-	defer c.held.mutex.Unlock()
-	if !c.held.isOpen {
+	held := c.held()
+	held.mutex.Lock()
+	defer held.mutex.Unlock()
+	if !held.isOpen {
 		return ErrClosed
 	}
-	return call(&c.held.bytes)
+	return call(&held.bytes)
 }
 
 func (c *context) seal(aad, plaintext, out []byte) ([]byte, error) {
@@ -223,8 +223,8 @@ func (c *context) close() error {
 	if c.self != c {
 		return ErrCopied
 	}
-	runtime.SetFinalizer(c.held, nil)
-	c.held.close()
+	runtime.SetFinalizer(c.held(), nil)
+	c.held().close()
 	return nil
 }
 

@@ -113,10 +113,7 @@ func (k *PublicKey) Equal(x crypto.PublicKey) bool {
 }
 
 // A PrivateKey is a key to open with. It may be used by several goroutines. What prints values shows none of its bytes.
-type PrivateKey struct {
-	// Packages that print a struct by its fields print this pointer.
-	held *heldKey
-}
+type PrivateKey struct{ held hidden[heldKey] }
 
 // What a private key holds, in memory of its own.
 type heldKey struct {
@@ -134,7 +131,7 @@ func newPrivateKey(kem KEM, data []byte) *PrivateKey {
 	public := clone(data[start : start+kem.publicSize])
 	held := &heldKey{bytes: data, public: &PublicKey{kem, public}}
 	runtime.SetFinalizer(held, (*heldKey).close)
-	return &PrivateKey{held}
+	return &PrivateKey{hide(held)}
 }
 
 // KEM gives the key's KEM.
@@ -145,7 +142,7 @@ func (k *PrivateKey) PublicKey() *PublicKey {
 	if k.held == nil {
 		return &PublicKey{}
 	}
-	return k.held.public
+	return k.held().public
 }
 
 // Bytes gives a copy of the key's bytes, which is then yours to wipe.
@@ -181,8 +178,8 @@ func (k *PrivateKey) Equal(x crypto.PrivateKey) bool {
 // public half stays.
 func (k *PrivateKey) Close() error {
 	if k.held != nil {
-		runtime.SetFinalizer(k.held, nil)
-		k.held.close()
+		runtime.SetFinalizer(k.held(), nil)
+		k.held().close()
 	}
 	return nil
 }
@@ -199,12 +196,13 @@ func (k *PrivateKey) lend(use func(secret []byte) error) error {
 	if k.held == nil {
 		return errZeroKey
 	}
-	k.held.mutex.RLock()
-	defer k.held.mutex.RUnlock()
-	if k.held.bytes == nil {
+	held := k.held()
+	held.mutex.RLock()
+	defer held.mutex.RUnlock()
+	if held.bytes == nil {
 		return ErrClosed
 	}
-	return use(k.held.bytes)
+	return use(held.bytes)
 }
 
 // String tells the kind of key, and none of its bytes.
@@ -235,6 +233,12 @@ func withSeed(use func(*seed) error) error {
 		}
 	}
 }
+
+// A hidden value isn't reached by what prints values by reflection, as fmt prints a struct's fields that it may not call
+// methods of: of a function it prints the address.
+type hidden[T any] func() *T
+
+func hide[T any](value *T) hidden[T] { return func() *T { return value } }
 
 // wipe overwrites bytes on the heap with zeros.
 func wipe(b []byte) {
