@@ -100,9 +100,9 @@ func TestReadmeRuns(t *testing.T) {
 		t.Errorf("the program with a vendor folder prints %q", out)
 	}
 	said := "hpkebatch_is_for_linux_on_amd64_and_needs_cgo_and_a_C_compiler"
-	m.fails(said, "CGO_ENABLED=0", "build", ".")
-	m.fails(said, "GOOS=darwin", "build", ".")
-	m.fails(said, "GOARCH=arm64", "build", ".")
+	m.fails(said, "CGO_ENABLED=0", "build", "hpkebatch")
+	m.fails(said, "GOOS=darwin", "build", "hpkebatch")
+	m.fails(said, "GOARCH=arm64", "build", "hpkebatch")
 }
 
 // The lines of the package's doc and of the README are those of the example, which runs.
