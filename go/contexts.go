@@ -7,6 +7,7 @@ import (
 	"fmt"
 	"runtime"
 	"sync"
+	"unsafe"
 )
 
 // A Sender seals messages to one recipient. Several goroutines may use it: each message gets a number of its own, and
@@ -57,7 +58,13 @@ func senderOf(from *seed, stream uint64, enc []byte, pk *PublicKey, p *parameter
 
 // Seal encrypts the next message, and authenticates aad with it. The ciphertext has [TagSize] bytes more than plaintext.
 func (s *Sender) Seal(aad, plaintext []byte) ([]byte, error) {
-	return s.context.seal(aad, plaintext, make([]byte, len(plaintext)+TagSize))
+	return s.AppendSeal(nil, aad, plaintext)
+}
+
+// AppendSeal is [Sender.Seal] behind the bytes of dst, and makes no new slice where dst has room. The room may be the
+// plaintext's own: AppendSeal(text[:0], aad, text).
+func (s *Sender) AppendSeal(dst, aad, plaintext []byte) ([]byte, error) {
+	return s.context.seal(dst, aad, plaintext)
 }
 
 // Export gives a secret of length bytes, which the recipient has too. Each exporterContext gives another one.
@@ -72,8 +79,8 @@ func (s *Sender) Close() error { return s.context.close() }
 // but the order is theirs to keep. Close it at the end.
 type Recipient struct{ context context }
 
-// NewRecipient makes a recipient of what a sender gave as enc. KDF, AEAD, info and options must be the sender's. Where
-// they aren't, or where enc was changed, the recipient is another one, and each Open answers [ErrOpen].
+// NewRecipient makes a recipient of what a sender gave as enc. KDF, AEAD, info and psk must be the sender's. Where they
+// aren't, or where enc was changed, the recipient is another one, and each Open answers [ErrOpen].
 func NewRecipient(enc []byte, k *PrivateKey, kdf KDF, aead AEAD, info []byte, options ...Option) (*Recipient, error) {
 	return recipientOf(enc, k, newParameters(kdf, aead, info, options))
 }
@@ -102,7 +109,13 @@ func NewRecipientFromShared(kemID uint16, sharedSecret []byte, kdf KDF, aead AEA
 // Open decrypts the next message, if it and aad are what the sender sealed. Else it answers [ErrOpen], and the same
 // message may come again.
 func (r *Recipient) Open(aad, ciphertext []byte) ([]byte, error) {
-	plaintext, err := r.context.open(aad, ciphertext)
+	return r.AppendOpen(nil, aad, ciphertext)
+}
+
+// AppendOpen is [Recipient.Open] behind the bytes of dst, and makes no new slice where dst has room. The room may be the
+// ciphertext's own: AppendOpen(ciphertext[:0], aad, ciphertext). Where the message doesn't open, nothing is written.
+func (r *Recipient) AppendOpen(dst, aad, ciphertext []byte) ([]byte, error) {
+	plaintext, err := r.context.open(dst, aad, ciphertext)
 	if len(ciphertext) < TagSize && errors.Is(err, ErrUsage) {
 		err = ErrOpen
 	}
@@ -120,16 +133,13 @@ func (r *Recipient) Close() error { return r.context.close() }
 // Seal makes a sender and seals one message. It gives enc and behind it the ciphertext.
 func Seal(pk *PublicKey, kdf KDF, aead AEAD, info, plaintext []byte, options ...Option) ([]byte, error) {
 	size := pk.kem.encSize
-	sealed := make([]byte, size+len(plaintext)+TagSize)
-	s, err := senderInto(sealed[:size:size], pk, newParameters(kdf, aead, info, options))
+	enc := make([]byte, size, size+len(plaintext)+TagSize)
+	s, err := senderInto(enc, pk, newParameters(kdf, aead, info, options))
 	if err != nil {
 		return nil, err
 	}
 	defer s.Close()
-	if _, err := s.context.seal(nil, plaintext, sealed[size:]); err != nil {
-		return nil, err
-	}
-	return sealed, nil
+	return s.AppendSeal(enc, nil, plaintext)
 }
 
 // Open opens what [Seal] sealed.
@@ -192,19 +202,44 @@ func (c *context) lend(call func(*contextBytes) error) error {
 	return call(&held.bytes)
 }
 
-func (c *context) seal(aad, plaintext, out []byte) ([]byte, error) {
-	err := c.lend(func(bytes *contextBytes) error { return contextSeal(bytes, aad, plaintext, out) })
-	return orNone(out, err)
+func (c *context) seal(dst, aad, plaintext []byte) ([]byte, error) {
+	return c.appendTo(dst, len(plaintext)+TagSize, aad, plaintext, contextSeal)
 }
 
-func (c *context) open(aad, ciphertext []byte) ([]byte, error) {
+func (c *context) open(dst, aad, ciphertext []byte) ([]byte, error) {
 	room := len(ciphertext) - TagSize
 	if room < 0 {
 		room = 0
 	}
-	out := make([]byte, room)
-	err := c.lend(func(bytes *contextBytes) error { return contextOpen(bytes, aad, ciphertext, out) })
-	return orNone(out, err)
+	return c.appendTo(dst, room, aad, ciphertext, contextOpen)
+}
+
+// appendTo writes what a call makes of a text behind dst. The library wants its memory apart from what it reads.
+func (c *context) appendTo(dst []byte, size int, aad, text []byte, call func(bytes *contextBytes, aad, text, out []byte) error) ([]byte, error) {
+	whole := dst
+	if cap(dst)-len(dst) < size {
+		whole = make([]byte, len(dst), len(dst)+size)
+		copy(whole, dst)
+	}
+	whole = whole[:len(dst)+size]
+	tail := whole[len(dst):]
+	out := tail
+	if overlap(out, text) || overlap(out, aad) {
+		out = make([]byte, size)
+		defer wipe(out)
+	}
+	if err := c.lend(func(bytes *contextBytes) error { return call(bytes, aad, text, out) }); err != nil {
+		return nil, err
+	}
+	copy(tail, out)
+	return whole, nil
+}
+
+// overlap tells whether a byte of memory is in both.
+func overlap(a, b []byte) bool {
+	return len(a) > 0 && len(b) > 0 &&
+		uintptr(unsafe.Pointer(&a[0])) <= uintptr(unsafe.Pointer(&b[len(b)-1])) &&
+		uintptr(unsafe.Pointer(&b[0])) <= uintptr(unsafe.Pointer(&a[len(a)-1]))
 }
 
 // 255 times the size of SHA-512, which no export passes. The library knows the limit of each KDF.
@@ -215,8 +250,10 @@ func (c *context) export(exporterContext string, length int) ([]byte, error) {
 		return nil, ErrExportSize
 	}
 	out := make([]byte, length)
-	err := c.lend(func(bytes *contextBytes) error { return contextExport(bytes, []byte(exporterContext), out) })
-	return orNone(out, err)
+	if err := c.lend(func(bytes *contextBytes) error { return contextExport(bytes, []byte(exporterContext), out) }); err != nil {
+		return nil, err
+	}
+	return out, nil
 }
 
 func (c *context) close() error {
@@ -232,14 +269,6 @@ func (h *heldContext) close() {
 	h.mutex.Lock()
 	defer h.mutex.Unlock()
 	h.bytes, h.isOpen = contextBytes{}, false
-}
-
-// orNone gives out, or nothing where there is an error.
-func orNone(out []byte, err error) ([]byte, error) {
-	if err != nil {
-		return nil, err
-	}
-	return out, nil
 }
 
 // orNil gives a new Sender or Recipient, or nil where there is an error.

@@ -356,3 +356,111 @@ func TestWhatIsNoSuite(t *testing.T) {
 		wants(t, "a psk that isn't whole", err, ErrPSK)
 	}
 }
+
+// The bytes behind a slice up to its capacity.
+func behind(b []byte) []byte { return b[len(b):cap(b)] }
+
+func TestAppendWritesBehindDst(t *testing.T) {
+	sealed := sealedInOrder(t, 1)[0]
+	for _, room := range []int{0, len(sealed) - 1, len(sealed), len(sealed) + 5} {
+		s, r := newTestSender(t), newTestRecipient(t)
+		dst := append(make([]byte, 0, 3+room), "abc"...)
+		spare := behind(dst)
+		out, err := s.AppendSeal(dst, nil, testText)
+		if err != nil || !bytes.Equal(out, append([]byte("abc"), sealed...)) {
+			t.Errorf("AppendSeal with room for %d: %q, %v", room, out, err)
+		}
+		if fits := room >= len(sealed); fits != (&out[0] == &dst[0]) || fits == isZero(spare) && room > 0 {
+			t.Errorf("AppendSeal with room for %d writes elsewhere", room)
+		}
+		if room > len(sealed) && !isZero(spare[len(sealed):]) {
+			t.Error("AppendSeal writes too much")
+		}
+		dst = append(make([]byte, 0, 3+room), "abc"...)
+		out, err = r.AppendOpen(dst, nil, sealed)
+		if err != nil || string(out) != "abc"+string(testText) {
+			t.Errorf("AppendOpen with room for %d: %q, %v", room, out, err)
+		}
+		if fits := room >= len(testText); fits != (&out[0] == &dst[0]) {
+			t.Errorf("AppendOpen with room for %d writes elsewhere", room)
+		}
+		s.Close()
+		r.Close()
+	}
+}
+
+func TestAppendOpenOfASpoiltMessageWritesNothing(t *testing.T) {
+	r := newTestRecipient(t)
+	defer r.Close()
+	spoilt := sealedInOrder(t, 1)[0]
+	spoilt[0] ^= 1
+	before, dst := clone(spoilt), make([]byte, 0, 100)
+	for _, to := range [][]byte{dst, spoilt[:0]} {
+		out, err := r.AppendOpen(to, nil, spoilt)
+		wants(t, "AppendOpen", err, ErrOpen)
+		if out != nil || !isZero(behind(dst)) || !bytes.Equal(spoilt, before) {
+			t.Error("bytes are written")
+		}
+	}
+}
+
+// Text and result lie in one buffer, in each way in which they may.
+func TestAppendToItsOwnBytes(t *testing.T) {
+	sealed := sealedInOrder(t, 1)[0]
+	const at = 60
+	for start := 0; start < 2*at; start++ {
+		s, r, buffer := newTestSender(t), newTestRecipient(t), make([]byte, 3*at)
+		copy(buffer[at:], testText)
+		out, err := s.AppendSeal(buffer[start:start], nil, buffer[at:at+len(testText)])
+		if err != nil || !bytes.Equal(out, sealed) || &out[0] != &buffer[start] {
+			t.Fatalf("AppendSeal to byte %d: %v", start, err)
+		}
+		copy(buffer[at:], sealed)
+		out, err = r.AppendOpen(buffer[start:start], nil, buffer[at:at+len(sealed)])
+		if err != nil || !bytes.Equal(out, testText) || &out[0] != &buffer[start] {
+			t.Fatalf("AppendOpen to byte %d: %v", start, err)
+		}
+		s.Close()
+		r.Close()
+	}
+	s, r, aad := newTestSender(t), newTestRecipient(t), append(make([]byte, 0, 100), "the aad"...)
+	defer s.Close()
+	defer r.Close()
+	ciphertext, err := s.AppendSeal(aad[:0], aad, testText)
+	if err != nil {
+		t.Fatal(err)
+	}
+	if plaintext, err := r.Open([]byte("the aad"), ciphertext); err != nil || !bytes.Equal(plaintext, testText) {
+		t.Errorf("with aad in the room: %v", err)
+	}
+}
+
+func TestOverlap(t *testing.T) {
+	all := make([]byte, 10)
+	for a := 0; a < len(all); a++ {
+		for b := a; b <= len(all); b++ {
+			for c := 0; c < len(all); c++ {
+				for d := c; d <= len(all); d++ {
+					wanted := a < d && c < b && a < b && c < d
+					if overlap(all[a:b], all[c:d]) != wanted {
+						t.Fatalf("[%d, %d) and [%d, %d)", a, b, c, d)
+					}
+				}
+			}
+		}
+	}
+}
+
+func TestAppendAllocatesNothing(t *testing.T) {
+	s := newTestSender(t)
+	defer s.Close()
+	buffer := make([]byte, 0, 100)
+	count := testing.AllocsPerRun(100, func() {
+		if _, err := s.AppendSeal(buffer, nil, testText); err != nil {
+			t.Fatal(err)
+		}
+	})
+	if count != 0 {
+		t.Errorf("AppendSeal allocates %v times", count)
+	}
+}

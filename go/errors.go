@@ -25,7 +25,7 @@ var (
 	// ErrUsage says that a length doesn't fit, or that a KEM, KDF, AEAD or limit is none.
 	ErrUsage = errors.New("hpkebatch: a length doesn't fit, or a KEM, KDF, AEAD or limit is none")
 	// ErrClosed says that the context or the key was closed before.
-	ErrClosed = errors.New("hpkebatch: it was closed")
+	ErrClosed = errors.New("hpkebatch: the context or the key was closed")
 	// ErrCopied says that a Sender or Recipient is a copy of another, or was made by no function of this package.
 	ErrCopied = errors.New("hpkebatch: a Sender or Recipient was copied, or was made by no function of this package")
 	// ErrNoMemory says that malloc has no memory.
