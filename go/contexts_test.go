@@ -5,6 +5,7 @@ package hpkebatch
 import (
 	"bytes"
 	"errors"
+	"fmt"
 	"reflect"
 	"runtime"
 	"sync"
@@ -350,6 +351,11 @@ func TestWhatIsNoSuite(t *testing.T) {
 		if aead, err := NewAEAD(id); err != nil || aead.ID() != id {
 			t.Errorf("AEAD %d: %v", id, err)
 		}
+	}
+	p := newParameters(HKDFSHA384(), AES256GCM(), []byte("info"), []Option{WithPSK([]byte("psk"), []byte("id")), WithLimit(5)})
+	told := fmt.Sprintf("%d %d %s %d %s %s %d", p.kdf.ID(), p.aead.ID(), p.info, p.mode, p.psk, p.pskID, p.limit)
+	if told != "2 2 info 1 psk id 5" {
+		t.Errorf("the parameters are %s", told)
 	}
 	for _, psk := range []Option{WithPSK(nil, nil), WithPSK(testSecret, nil), WithPSK(nil, testSecret)} {
 		_, err = NewSenderFromShared(32, testSecret, HKDFSHA256(), AES128GCM(), nil, psk)

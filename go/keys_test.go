@@ -33,11 +33,13 @@ func TestKeysGoThroughBytes(t *testing.T) {
 		if err != nil || !private.Equal(key) || !private.PublicKey().Equal(key.PublicKey()) {
 			t.Errorf("%s: the private key is another: %v", kem, err)
 		}
-		public, err := kem.NewPublicKey(key.PublicKey().Bytes())
+		publicData := key.PublicKey().Bytes()
+		public, err := kem.NewPublicKey(publicData)
 		if err != nil || !public.Equal(key.PublicKey()) || public.KEM() != kem {
 			t.Errorf("%s: the public key is another: %v", kem, err)
 		}
 		wipe(data)
+		wipe(publicData)
 		public.Bytes()[0] ^= 1
 		if !private.Equal(key) || !public.Equal(key.PublicKey()) {
 			t.Errorf("%s: a key has the caller's bytes", kem)
@@ -179,6 +181,13 @@ func TestPrintingShowsNoSecret(t *testing.T) {
 	}
 	inside := holder{key, key, *key, *key, s}
 	var printed []string
+	for _, verb := range []string{"%v", "%+v", "%#v", "%s", "%x", "%q", "%d"} {
+		for _, value := range []any{key, *key} {
+			if text := fmt.Sprintf(verb, value); text != "private key of sntrup761" {
+				t.Errorf("%s prints %.100s", verb, text)
+			}
+		}
+	}
 	for _, verb := range []string{"%v", "%+v", "%#v", "%s", "%x", "%X", "%q", "%d", "%t"} {
 		for _, value := range []any{key, *key, inside, &inside, []*PrivateKey{key}, s, &s.context} {
 			printed = append(printed, fmt.Sprintf(verb, value))
