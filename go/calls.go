@@ -3,6 +3,7 @@
 package hpkebatch
 
 // #cgo CFLAGS: -DLIBRARY
+// #include <stdlib.h>
 // #include "hpkebatch.h"
 //
 // // What is answered in place of a call, where the processor lacks what the text uses of x86-64-v2.
@@ -51,6 +52,20 @@ package hpkebatch
 //                                : hpkebatch_context_shared(context, role, mode, kem, kdf, aead, limit, shared_secret,
 //                                                           shared_secret_len, info, info_len, psk, psk_len, psk_id,
 //                                                           psk_id_len);
+// }
+//
+// // Seals or opens a list. Its additional data stand at `data` one behind another, and its texts behind them: a list of
+// // Go's own slices has pointers in it, which cgo lends to no call.
+// static uint32_t all(int opens, hpkebatch_context *context, const uint8_t *data, const size_t *sizes, size_t count,
+//                     uint8_t *out, size_t out_len) {
+//     hpkebatch_bytes *strings = calloc(2 * count + 1, sizeof *strings);
+//     if (strings == NULL) return HPKEBATCH_NO_MEMORY;
+//     for (size_t i = 0; i < 2 * count; data += sizes[i++])
+//         strings[i] = (hpkebatch_bytes){data, sizes[i]};
+//     uint32_t status = (opens ? hpkebatch_context_open_all : hpkebatch_context_seal_all)(
+//         context, strings, count, strings + count, count, out, out_len);
+//     free(strings);
+//     return status;
 // }
 import "C"
 
@@ -155,6 +170,31 @@ func contextSeal(c *contextBytes, aad, plaintext, out []byte) error {
 
 func contextOpen(c *contextBytes, aad, ciphertext, out []byte) error {
 	return errorOf(C.hpkebatch_context_open(c, at(aad), size(aad), at(ciphertext), size(ciphertext), at(out), size(out)))
+}
+
+// contextAll seals or opens a list: sizes has those of the additional data, and then those of the texts, as they stand in
+// data.
+func contextAll(opens bool, c *contextBytes, data []byte, sizes []C.size_t, out []byte) error {
+	opening := C.int(0)
+	if opens {
+		opening = 1
+	}
+	// One size more, so that there is a first one to point at.
+	sizes = append(sizes, 0)
+	return errorOf(C.all(opening, c, at(data), &sizes[0], C.size_t(len(sizes)/2), at(out), size(out)))
+}
+
+// joined gives byte strings one behind another, and their sizes.
+func joined(strings ...[]byte) (data []byte, sizes []C.size_t) {
+	total := 0
+	for _, s := range strings {
+		total += len(s)
+	}
+	data, sizes = make([]byte, 0, total), make([]C.size_t, 0, len(strings)+1)
+	for _, s := range strings {
+		data, sizes = append(data, s...), append(sizes, size(s))
+	}
+	return data, sizes
 }
 
 func contextExport(c *contextBytes, exporterContext, out []byte) error {

@@ -3,7 +3,6 @@
 package hpkebatch
 
 import (
-	"errors"
 	"fmt"
 	"runtime"
 	"sync"
@@ -67,6 +66,12 @@ func (s *Sender) AppendSeal(dst, aad, plaintext []byte) ([]byte, error) {
 	return s.context.seal(dst, aad, plaintext)
 }
 
+// SealAll seals a list of messages in one call, all or none: for short ones several times as fast as one by one. aads has
+// additional data for each message, or is nil. What it gives, [Recipient.Open] and [Recipient.OpenAll] open.
+func (s *Sender) SealAll(aads, plaintexts [][]byte) ([][]byte, error) {
+	return s.context.all(false, aads, plaintexts)
+}
+
 // Export gives a secret of length bytes, which the recipient has too. Each exporterContext gives another one.
 func (s *Sender) Export(exporterContext string, length int) ([]byte, error) {
 	return s.context.export(exporterContext, length)
@@ -116,10 +121,29 @@ func (r *Recipient) Open(aad, ciphertext []byte) ([]byte, error) {
 // ciphertext's own: AppendOpen(ciphertext[:0], aad, ciphertext). Where the message doesn't open, nothing is written.
 func (r *Recipient) AppendOpen(dst, aad, ciphertext []byte) ([]byte, error) {
 	plaintext, err := r.context.open(dst, aad, ciphertext)
-	if len(ciphertext) < TagSize && errors.Is(err, ErrUsage) {
+	if err == ErrUsage && len(ciphertext) < TagSize {
 		err = ErrOpen
 	}
 	return plaintext, err
+}
+
+// OpenAll opens a list of messages in one call, all or none: if one of them doesn't open, it answers [ErrOpen], and the
+// first is still the next. aads has additional data for each message, or is nil.
+func (r *Recipient) OpenAll(aads, ciphertexts [][]byte) ([][]byte, error) {
+	plaintexts, err := r.context.all(true, aads, ciphertexts)
+	if err == ErrUsage && hasShort(ciphertexts) {
+		err = ErrOpen
+	}
+	return plaintexts, err
+}
+
+func hasShort(ciphertexts [][]byte) bool {
+	for _, ciphertext := range ciphertexts {
+		if len(ciphertext) < TagSize {
+			return true
+		}
+	}
+	return false
 }
 
 // Export gives a secret of length bytes, which the sender has too. Each exporterContext gives another one.
@@ -240,6 +264,38 @@ func overlap(a, b []byte) bool {
 	return len(a) > 0 && len(b) > 0 &&
 		uintptr(unsafe.Pointer(&a[0])) <= uintptr(unsafe.Pointer(&b[len(b)-1])) &&
 		uintptr(unsafe.Pointer(&b[0])) <= uintptr(unsafe.Pointer(&a[len(a)-1]))
+}
+
+// all seals or opens a list. What it gives stands in one piece of memory.
+func (c *context) all(opens bool, aads, texts [][]byte) ([][]byte, error) {
+	if aads == nil {
+		aads = make([][]byte, len(texts))
+	}
+	if len(aads) != len(texts) {
+		return nil, fmt.Errorf("%w: there are %d additional data for %d messages", ErrUsage, len(aads), len(texts))
+	}
+	step := TagSize
+	if opens {
+		step = -TagSize
+	}
+	data, sizes := joined(append(append([][]byte(nil), aads...), texts...)...)
+	defer wipe(data)
+	results, total := make([][]byte, len(texts)), 0
+	for _, text := range texts {
+		total += len(text) + step
+	}
+	if total < 0 {
+		total = 0
+	}
+	out := make([]byte, total)
+	if err := c.lend(func(bytes *contextBytes) error { return contextAll(opens, bytes, data, sizes, out) }); err != nil {
+		return nil, err
+	}
+	for i, text := range texts {
+		size := len(text) + step
+		results[i], out = out[:size:size], out[size:]
+	}
+	return results, nil
 }
 
 // 255 times the size of SHA-512, which no export passes. The library knows the limit of each KDF.

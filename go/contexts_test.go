@@ -195,7 +195,17 @@ func bytesOf(held *heldContext) []byte {
 	return unsafe.Slice((*byte)(unsafe.Pointer(&held.bytes)), unsafe.Sizeof(held.bytes))
 }
 
-func isZero(data []byte) bool { return bytes.Equal(data, make([]byte, len(data))) }
+// isZero allocates nothing, since it may look at memory that was given back, and while a finalizer writes there.
+//
+//go:norace
+func isZero(data []byte) bool {
+	for _, b := range data {
+		if b != 0 {
+			return false
+		}
+	}
+	return true
+}
 
 func TestCloseWipesAContext(t *testing.T) {
 	s, r := newTestSender(t), newTestRecipient(t)
@@ -210,23 +220,35 @@ func TestCloseWipesAContext(t *testing.T) {
 	}
 }
 
+// addressOf makes something, and forgets all of it but where its secret bytes are.
+//
 //go:noinline
-func forgetSender(t *testing.T) uintptr {
-	return uintptr(unsafe.Pointer(&bytesOf(newTestSender(t).context.held())[0]))
+func addressOf(secret func() []byte) (address uintptr, size int) {
+	data := secret()
+	return uintptr(unsafe.Pointer(&data[0])), len(data)
 }
 
 // The memory isn't given to another object before the collection behind the one that runs the finalizer.
-func TestAForgottenContextIsWiped(t *testing.T) {
-	address := forgetSender(t)
-	left := func() []byte { return unsafe.Slice(*(**byte)(unsafe.Pointer(&address)), 136) }
-	if isZero(left()) {
-		t.Fatal("the test looks elsewhere")
-	}
-	runtime.GC()
-	for until := time.Now().Add(5 * time.Second); !isZero(left()); time.Sleep(time.Millisecond) {
-		if time.Now().After(until) {
-			t.Fatal("bytes of a context are left")
+func TestTheCollectorWipesWhatIsForgotten(t *testing.T) {
+	for what, secret := range map[string]func() []byte{
+		"context": func() []byte { return bytesOf(newTestSender(t).context.held()) },
+		"key":     func() []byte { return newTestKey(t, SNTRUP761()).held().bytes },
+	} {
+		before := secret() // with its neighbours, memory isn't given back to the system
+		address, size := addressOf(secret)
+		behind := secret()
+		left := func() []byte { return unsafe.Slice(*(**byte)(unsafe.Pointer(&address)), size) }
+		if isZero(left()) {
+			t.Fatal("the test looks elsewhere")
 		}
+		runtime.GC()
+		for until := time.Now().Add(5 * time.Second); !isZero(left()); time.Sleep(time.Millisecond) {
+			if time.Now().After(until) {
+				t.Fatalf("bytes of a %s are left", what)
+			}
+		}
+		runtime.KeepAlive(before)
+		runtime.KeepAlive(behind)
 	}
 }
 

@@ -3,8 +3,9 @@
 // Command bench prints how long calls take: what, the size of the text in bytes, and microseconds, the least of many
 // rounds, with tabs between them. What is compared is timed by turns.
 //
-// "seal in C" makes its calls in one loop of C, and writes each ciphertext over the last. What "seal" takes longer is
-// what the package adds: the call by cgo, a lock, and a new slice.
+// "Seal in C" makes its calls in one loop of C, and writes each ciphertext over the last. What "AppendSeal" takes longer is
+// what the package adds: the call by cgo and a lock. "Seal" makes a new slice too. "SealAll" is by message, in lists of 100.
+// "Seal" and "Open" with the name of a KEM are of a record: one message, with an encapsulation of its own.
 package main
 
 // #cgo CFLAGS: -I${SRCDIR}/..
@@ -114,20 +115,50 @@ func each(what string, call func() error) *work {
 	}}
 }
 
-func seal(size int) *work {
-	text := make([]byte, size)
+func newSender() *hpkebatch.Sender {
 	sender, err := hpkebatch.NewSenderFromShared(32, make([]byte, 32), kdf, aead, nil)
 	check(err)
-	return each("seal", func() error {
+	return sender
+}
+
+func seal(size int) *work {
+	sender, text := newSender(), make([]byte, size)
+	return each("Seal", func() error {
 		_, err := sender.Seal(nil, text)
 		return err
 	})
 }
 
+func appendSeal(size int) *work {
+	sender, text, room := newSender(), make([]byte, size), make([]byte, 0, size+hpkebatch.TagSize)
+	return each("AppendSeal", func() error {
+		_, err := sender.AppendSeal(room, nil, text)
+		return err
+	})
+}
+
+// sealAll counts messages, in lists of at most 100.
+func sealAll(size int) *work {
+	sender, texts := newSender(), make([][]byte, 100)
+	for i := range texts {
+		texts[i] = make([]byte, size)
+	}
+	return &work{what: "SealAll", calls: func(count int) {
+		for ; count > 0; count -= len(texts) {
+			list := texts
+			if count < len(list) {
+				list = list[:count]
+			}
+			_, err := sender.SealAll(nil, list)
+			check(err)
+		}
+	}}
+}
+
 func sealInC(size int) *work {
 	text, out := make([]byte, size), make([]byte, size+hpkebatch.TagSize)
 	done(C.set_up())
-	return &work{what: "seal in C", calls: func(count int) {
+	return &work{what: "Seal in C", calls: func(count int) {
 		done(C.seal_often(C.int64_t(count), (*C.uint8_t)(&text[0]), C.size_t(size), (*C.uint8_t)(&out[0])))
 	}}
 }
@@ -170,7 +201,7 @@ func records(kem hpkebatch.KEM, size int) {
 func main() {
 	fmt.Println("what\tbytes\tmicroseconds")
 	for _, size := range []int{64, 1024, 16384} {
-		tell(size, seal(size), sealInC(size), goGCM(size))
+		tell(size, seal(size), appendSeal(size), sealInC(size), sealAll(size), goGCM(size))
 	}
 	for _, kem := range []hpkebatch.KEM{hpkebatch.SNTRUP761(), hpkebatch.SNTRUP857()} {
 		records(kem, 1024)
