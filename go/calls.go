@@ -172,29 +172,32 @@ func contextOpen(c *contextBytes, aad, ciphertext, out []byte) error {
 	return errorOf(C.hpkebatch_context_open(c, at(aad), size(aad), at(ciphertext), size(ciphertext), at(out), size(out)))
 }
 
-// contextAll seals or opens a list: sizes has those of the additional data, and then those of the texts, as they stand in
-// data.
-func contextAll(opens bool, c *contextBytes, data []byte, sizes []C.size_t, out []byte) error {
+// contextAll seals or opens a list.
+func contextAll(opens bool, c *contextBytes, aads, texts [][]byte, out []byte) error {
 	opening := C.int(0)
 	if opens {
 		opening = 1
 	}
-	// One size more, so that there is a first one to point at.
-	sizes = append(sizes, 0)
-	return errorOf(C.all(opening, c, at(data), &sizes[0], C.size_t(len(sizes)/2), at(out), size(out)))
+	return withJoined(append(clone(aads), texts...), func(data []byte, sizes []sizeOfC) error {
+		return errorOf(C.all(opening, c, at(data), &sizes[0], C.size_t(len(texts)), at(out), size(out)))
+	})
 }
 
-// joined gives byte strings one behind another, and their sizes.
-func joined(strings ...[]byte) (data []byte, sizes []C.size_t) {
+type sizeOfC = C.size_t
+
+// withJoined lends a use the strings, one behind another, and their sizes, with one more behind them, so that there is a
+// first. The bytes are wiped then.
+func withJoined(strings [][]byte, use func(data []byte, sizes []sizeOfC) error) error {
 	total := 0
 	for _, s := range strings {
 		total += len(s)
 	}
-	data, sizes = make([]byte, 0, total), make([]C.size_t, 0, len(strings)+1)
+	data, sizes := make([]byte, 0, total), make([]sizeOfC, 0, len(strings)+1)
 	for _, s := range strings {
 		data, sizes = append(data, s...), append(sizes, size(s))
 	}
-	return data, sizes
+	defer wipe(data)
+	return use(data, append(sizes, 0))
 }
 
 func contextExport(c *contextBytes, exporterContext, out []byte) error {

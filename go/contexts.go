@@ -278,9 +278,7 @@ func (c *context) all(opens bool, aads, texts [][]byte) ([][]byte, error) {
 	if opens {
 		step = -TagSize
 	}
-	data, sizes := joined(append(append([][]byte(nil), aads...), texts...)...)
-	defer wipe(data)
-	results, total := make([][]byte, len(texts)), 0
+	total := 0
 	for _, text := range texts {
 		total += len(text) + step
 	}
@@ -288,9 +286,10 @@ func (c *context) all(opens bool, aads, texts [][]byte) ([][]byte, error) {
 		total = 0
 	}
 	out := make([]byte, total)
-	if err := c.lend(func(bytes *contextBytes) error { return contextAll(opens, bytes, data, sizes, out) }); err != nil {
+	if err := c.lend(func(bytes *contextBytes) error { return contextAll(opens, bytes, aads, texts, out) }); err != nil {
 		return nil, err
 	}
+	results := make([][]byte, len(texts))
 	for i, text := range texts {
 		size := len(text) + step
 		results[i], out = out[:size:size], out[size:]

@@ -20,8 +20,9 @@
 //	check(err)
 //	fmt.Printf("%s\n", plaintext)
 //
-// [Seal] and [Open] do the same for one message. [WithPSK] asks for mode psk, [WithLimit] for a limit.
-// [NewSenderFromShared] takes the shared secret of another KEM.
+// [Seal] and [Open] do the same for one message. [Sender.SealAll] seals a list in one call, and [Sender.AppendSeal] makes
+// no new slice. [WithPSK] asks for mode psk, [WithLimit] for a limit. [NewSenderFromShared] takes the shared secret of
+// another KEM.
 //
 // # What is proved
 //

@@ -4,6 +4,7 @@ package hpkebatch_test
 
 import (
 	"bytes"
+	"crypto/rand"
 	"encoding/hex"
 	"errors"
 	"fmt"
@@ -114,6 +115,46 @@ func ExampleKEM_NewPrivateKey() {
 	// Output:
 	// private key of sntrup761 true
 	// hpkebatch: the bytes encode no key of this KEM: a private key of sntrup761 has 1763 bytes, and this one has 1762
+}
+
+func ExampleSender_AppendSeal() {
+	sender, recipient := sharedEnds()
+	defer sender.Close()
+	defer recipient.Close()
+	buffer := append(make([]byte, 0, 100), "a text in its own room"...)
+	sealed, err := sender.AppendSeal(buffer[:0], nil, buffer)
+	check(err)
+	fmt.Println(len(sealed), &sealed[0] == &buffer[0])
+	text, err := recipient.AppendOpen(sealed[:0], nil, sealed)
+	check(err)
+	fmt.Printf("%s\n", text)
+	// Output:
+	// 38 true
+	// a text in its own room
+}
+
+func ExampleSender_SealAll() {
+	sender, recipient := sharedEnds()
+	defer sender.Close()
+	defer recipient.Close()
+	sealed, err := sender.SealAll(nil, [][]byte{[]byte("one"), []byte("two"), []byte("three")})
+	check(err)
+	texts, err := recipient.OpenAll(nil, sealed)
+	check(err)
+	fmt.Printf("%s\n", texts)
+	// Output: [one two three]
+}
+
+// sharedEnds makes both ends of a new shared secret, as another KEM gives one.
+func sharedEnds() (*hpkebatch.Sender, *hpkebatch.Recipient) {
+	kdf, aead, secret := hpkebatch.HKDFSHA256(), hpkebatch.AES128GCM(), make([]byte, 32)
+	_, err := rand.Read(secret)
+	check(err)
+	sender, err := hpkebatch.NewSenderFromShared(32, secret, kdf, aead, nil)
+	check(err)
+	recipient, err := hpkebatch.NewRecipientFromShared(32, secret, kdf, aead, nil)
+	check(err)
+	return sender, recipient
 }
 
 // RFC 9180, A.1.1.1: the shared secret of X25519, and its first message.

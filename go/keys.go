@@ -247,4 +247,4 @@ func wipe(b []byte) {
 	}
 }
 
-func clone(b []byte) []byte { return append([]byte(nil), b...) }
+func clone[T any](list []T) []T { return append([]T(nil), list...) }

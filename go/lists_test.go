@@ -90,6 +90,29 @@ func TestAListIsOpenedWholeOrNotAtAll(t *testing.T) {
 	}
 }
 
+func TestAListOfShortMessages(t *testing.T) {
+	r := newTestRecipient(t)
+	defer r.Close()
+	for _, ciphertexts := range [][][]byte{{nil}, {{1}, make([]byte, 15)}} {
+		_, err := r.OpenAll(nil, ciphertexts)
+		wants(t, "OpenAll", err, ErrOpen)
+	}
+}
+
+func TestCopiesOfTextsAreWiped(t *testing.T) {
+	var copied []byte
+	err := withJoined([][]byte{testText, nil, testText}, func(data []byte, sizes []sizeOfC) error {
+		copied = data
+		if string(data) != string(testText)+string(testText) || len(sizes) != 4 || int(sizes[0]) != len(testText) || sizes[1] != 0 {
+			t.Errorf("they are joined as %q, %v", data, sizes)
+		}
+		return ErrOpen
+	})
+	if err != ErrOpen || len(copied) == 0 || !isZero(copied) {
+		t.Errorf("%q is left, %v", copied, err)
+	}
+}
+
 func TestListsThatAreRefused(t *testing.T) {
 	aads, texts := testList()
 	s, r := newTestSender(t, WithLimit(50)), newTestRecipient(t)
