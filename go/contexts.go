@@ -121,29 +121,25 @@ func (r *Recipient) Open(aad, ciphertext []byte) ([]byte, error) {
 // ciphertext's own: AppendOpen(ciphertext[:0], aad, ciphertext). Where the message doesn't open, nothing is written.
 func (r *Recipient) AppendOpen(dst, aad, ciphertext []byte) ([]byte, error) {
 	plaintext, err := r.context.open(dst, aad, ciphertext)
-	if err == ErrUsage && len(ciphertext) < TagSize {
-		err = ErrOpen
-	}
-	return plaintext, err
+	return plaintext, tooShort(err, ciphertext)
 }
 
 // OpenAll opens a list of messages in one call, all or none: if one of them doesn't open, it answers [ErrOpen], and the
 // first is still the next. aads has additional data for each message, or is nil.
 func (r *Recipient) OpenAll(aads, ciphertexts [][]byte) ([][]byte, error) {
 	plaintexts, err := r.context.all(true, aads, ciphertexts)
-	if err == ErrUsage && hasShort(ciphertexts) {
-		err = ErrOpen
-	}
-	return plaintexts, err
+	return plaintexts, tooShort(err, ciphertexts...)
 }
 
-func hasShort(ciphertexts [][]byte) bool {
+// tooShort gives ErrOpen in place of the library's status of wrong usage, where a ciphertext has no room for a tag: who
+// sends such a one isn't the caller.
+func tooShort(err error, ciphertexts ...[]byte) error {
 	for _, ciphertext := range ciphertexts {
-		if len(ciphertext) < TagSize {
-			return true
+		if err == ErrUsage && len(ciphertext) < TagSize {
+			return ErrOpen
 		}
 	}
-	return false
+	return err
 }
 
 // Export gives a secret of length bytes, which the sender has too. Each exporterContext gives another one.
