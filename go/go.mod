@@ -1,0 +1,3 @@
+module hpkebatch
+
+go 1.19
