@@ -30,7 +30,7 @@ pub fn context_seal_in_place(context: &mut HpkeContext, aad: &[u8], buffer: &mut
         ⊎ (result ≡ refused_nocipher) ⊎ (result ≡ refused_limit) }
     ensures sealed { result ≡ done
         → buffer.new ≡ seal (key_held context.old) (nonce_due context.old) aad.now
-            (take (length buffer.old - 16) buffer.old) }
+        (take (length buffer.old - 16) buffer.old) }
     ensures due { result ≡ done
         → context.new ≡ record context.old { number = context.old.number + 1 } }
     ensures refused { result ≢ done
