@@ -10,8 +10,8 @@ ghost use Rattle.library_calls.specs.Messages.{FitsSealAll, sealed_all, FitsOpen
 ghost use Rattle.library_calls.specs.Statuses.{done, wrong_usage, refused_failed, refused_role, refused_nocipher, refused_limit, refused_exportsize};
 
 use library_calls::{
-    HpkeContext, context_export, context_open, context_open_all, context_open_in_place, context_seal,
-    context_seal_all, context_seal_in_place,
+    HpkeContext, context_export, context_open, context_open_all, context_open_in_place,
+    context_seal, context_seal_all, context_seal_in_place,
 };
 use std::rt::Memory;
 
@@ -109,7 +109,7 @@ pub extern "C" fn hpkebatch_context_seal_in_place(
         ⊎ (result ≡ refused_nocipher) ⊎ (result ≡ refused_limit) }
     ensures sealed { result ≡ done
         → buffer.new ≡ seal (key_held context.old) (nonce_due context.old) aad.now
-            (take (length buffer.old - 16) buffer.old) }
+        (take (length buffer.old - 16) buffer.old) }
     ensures due { result ≡ done
         → context.new ≡ record context.old { number = context.old.number + 1 } }
     ensures refused { result ≢ done

@@ -8,8 +8,8 @@ ghost use Rattle.library_calls.specs.Lengths.{FitsSealInPlace, FitsOpenInPlace};
 ghost use Rattle.library_calls.specs.Statuses.{done, wrong_usage, refused_role, refused_nocipher, refused_limit, refused_failed};
 
 use crate::ciphers::{fits_open_in_place, fits_seal_in_place};
-use crate::contexts::{HpkeContext, opening, sealing};
-use crate::statuses::WRONG_USAGE;
+use crate::contexts::{HpkeContext, RECIPIENT, SENDER, opening_status, serving};
+use crate::statuses::{REFUSED_LIMIT, WRONG_USAGE};
 use key_schedule::nonce_at;
 use std::rt::Memory;
 
@@ -40,10 +40,13 @@ pub fn context_seal_in_place(context: &mut HpkeContext, aad: &[u8], buffer: &mut
     if !fits_seal_in_place(aad, buffer) {
         return WRONG_USAGE;
     }
-    let key = match sealing(context) {
+    let key = match serving(context, SENDER) {
         Ok(key) => key,
         Err(status) => return status,
     };
+    if context.number >= context.limit {
+        return REFUSED_LIMIT;
+    }
     let nonce = nonce_at(&context.base_nonce, context.number);
     key.seal_in_place(&nonce, aad, buffer);
     context.number += 1;
@@ -90,10 +93,14 @@ pub fn context_open_in_place(
     if !fits_open_in_place(aad, buffer) {
         return WRONG_USAGE;
     }
-    let key = match opening(memory, context, aad, buffer) {
+    let key = match serving(context, RECIPIENT) {
         Ok(key) => key,
         Err(status) => return status,
     };
+    let status = opening_status(memory, context, &key, aad, buffer);
+    if status != 0 {
+        return status;
+    }
     let number = context.number;
     key.decrypt_in_place(&nonce_at(&context.base_nonce, number), aad, buffer);
     context.number = number + 1;

@@ -1,4 +1,4 @@
-use Rattle.std.proofs.Common.{◌≡◌, ◌<◌, ◌-◌, ◌+◌, length, take, arith}
+use Rattle.std.proofs.Common.{◌<◌, ◌-◌, length, take, arith}
 use Rattle.std.proofs.lemmas.List.{length-set}
 use Rattle.aes_gcm.proofs.XorBytes.{sum_more, left_more}
 use Rattle.aes_gcm.proofs.adding.add_rest.Goals as goal
