@@ -9,6 +9,7 @@
 //! Nothing is claimed of this program but that it is safe.
 #![tactic(auto)]
 
+mod chacha;
 mod ciphers;
 mod kem;
 mod schedules;
@@ -42,6 +43,8 @@ fn main(rt: HostRuntime) -> io::Result<()> {
         "seal256" => put(sink, ciphers::seal256(bytes)),
         "open128" => put(sink, ciphers::open128(&rt, bytes)),
         "open256" => put(sink, ciphers::open256(&rt, bytes)),
+        "sealchacha" => put(sink, chacha::seal(bytes)),
+        "openchacha" => put(sink, chacha::opened(&rt, bytes)),
         "hmac256" => put(sink, schedules::hmac256(bytes)),
         "hmac512" => put(sink, schedules::hmac512(bytes)),
         "schedule128" => put(sink, schedules::schedule128(bytes)),
