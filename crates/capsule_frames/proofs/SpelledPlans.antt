@@ -1,6 +1,6 @@
 -- A text that was read is the text of its plan, which is within its limits: each line adds its own text
 -- to that of the plan, and keeps the plan within them.
-use Rattle.std.proofs.Common.{◌≡◌, ℕ, ◌+◌, ◌≤◌, ◌==◌, ◌&&◌, ◌||◌, not, Bool, true, false, List, [], ◌∷◌, ◌++◌, length, get_or, codes, Option, Ok, Err, refl, sym, ap, subst, ◌∙◌, inr, cond, append_assoc, append-nil, arith}
+use Rattle.std.proofs.Common.{◌≡◌, ℕ, ◌+◌, ◌≤◌, ◌==◌, ◌&&◌, ◌||◌, not, Bool, true, false, List, [], ◌∷◌, ◌++◌, length, get_or, codes, Option, Ok, Err, refl, sym, ap, subst, ◌∙◌, lit<, cond, append_assoc, append-nil, arith}
 use Rattle.std.specs.Prelude.{IsSome, is_some}
 use Rattle.std.specs.List.{All, flat_map}
 use Rattle.std.proofs.lemmas.Bool.{cond-true, cond-false, eqb-true, and_parts}
@@ -243,7 +243,7 @@ header_ok line p e =
 
 empty_built : IsBuilt empty
 empty_built = record {
-  plan = growth.empty 2 (inr refl);
+  plan = growth.empty 2 (1, lit< tt, refl);
   no_context = refl;
   kinds = elim [
     | words.Ask ↦ omega arith

@@ -1,5 +1,5 @@
 -- A text of a batch whose lanes add contexts is the text of its plan, which is within its limits and names its contexts.
-use Rattle.std.proofs.Common.{◌≡◌, ℕ, ◌≤◌, true, List, [], ◌∷◌, length, codes, Ok, Err, refl, sym, ap, subst, ◌∙◌, append-nil, inr, lit<}
+use Rattle.std.proofs.Common.{◌≡◌, ℕ, ◌≤◌, true, List, [], ◌∷◌, length, codes, Ok, Err, refl, sym, ap, subst, ◌∙◌, append-nil, lit<}
 use Rattle.std.specs.List.{join_with_byte}
 use Rattle.field_text.specs.declared.reasons.Reason.TheVariants as reasons
 use Rattle.field_text.specs.Cuts.{line_feed, line_text}
@@ -26,7 +26,7 @@ use Rattle.request_frames.specs.Live.{header, batch_word, word, may_stand, with_
 header_ok : (line : List ℕ) (plan : Plan) → header line ≡ Ok plan → IsHeader line plan × (plan.version ≡ 2)
 header_ok line plan e =
     word_ok (codes "hpkebatch 2") line (empty_plan 2) plan (Err reasons.Header) _
-    (λ is same. (subst (IsHeader line) same (empty_header 2 line (inr refl) (lit< tt) is), ap (λ (plan : Plan). plan.version) (sym same)))
+    (λ is same. (subst (IsHeader line) same (empty_header 2 line (1, lit< tt, refl) (lit< tt) is), ap (λ (plan : Plan). plan.version) (sym same)))
     (λ err. absurd cc) e
 
 -- what a piece is that was read as a word

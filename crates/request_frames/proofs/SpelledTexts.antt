@@ -19,6 +19,7 @@ use Rattle.request_frames.specs.LivePlans.{added_contexts, IsLive}
 use Rattle.request_frames.specs.Batch.{ended, header, batch_lines, batch, empty_plan, Spells}
 use Rattle.batch_plans.specs.Limits.{most_input}
 use Rattle.batch_plans.specs.Within.{IsWithinLimits, IsPlain}
+use Rattle.batch_plans.specs.Versions.{IsVersion}
 use Rattle.request_frames.specs.PlanText.{context_text, lane_text, text_of}
 use Rattle.request_frames.proofs.Growth as growth
 use Rattle.request_frames.proofs.AddedContexts.{Begins-same, IsOrdered, line_contexts}
@@ -26,7 +27,7 @@ use Rattle.request_frames.proofs.SpelledPlans.{body, Adds, spelling}
 
 -- the first line of a version
 pub record IsHeader (line : List ℕ) (plan : Plan) : Type 0 where
-  pub version : (plan.version ≡ 1) ⊎ (plan.version ≡ 2)
+  pub version : IsVersion plan.version
   pub is : line ≡ codes "hpkebatch " ++ decimal plan.version
   pub empty : (pool : List ℕ) (items : List Item) (extra : List ContextLine) → body pool items extra plan ≡ []
   pub ordered : IsOrdered plan
@@ -37,7 +38,7 @@ pub record IsHeader (line : List ℕ) (plan : Plan) : Type 0 where
 one_digit : (n : ℕ) → n < 10 → codes "hpkebatch " ++ decimal n ≡ codes "hpkebatch " ++ (48 + n) ∷ []
 one_digit n small = ap (λ (digits : List ℕ). codes "hpkebatch " ++ digits) (decimal_digit n small)
 
-pub empty_header : (version : ℕ) (line : List ℕ) → (version ≡ 1) ⊎ (version ≡ 2) → version < 10 → line ≡ codes "hpkebatch " ++ (48 + version) ∷ [] → IsHeader line (empty_plan version)
+pub empty_header : (version : ℕ) (line : List ℕ) → IsVersion version → version < 10 → line ≡ codes "hpkebatch " ++ (48 + version) ∷ [] → IsHeader line (empty_plan version)
 empty_header version line is small spelled = record {
   version = is;
   is = spelled ∙ sym (one_digit version small);
@@ -51,10 +52,10 @@ empty_header version line is small spelled = record {
 header_ok : (line : List ℕ) (plan : Plan) → header line ≡ Ok plan → IsHeader line plan
 header_ok line plan e =
     word_ok (codes "hpkebatch 1") line (empty_plan 1) plan _ _
-    (λ is same. subst (λ (plan : Plan). IsHeader line plan) same (empty_header 1 line (inl refl) (lit< tt) is))
+    (λ is same. subst (λ (plan : Plan). IsHeader line plan) same (empty_header 1 line (0, lit< tt, refl) (lit< tt) is))
     (λ rest.
     word_ok (codes "hpkebatch 2") line (empty_plan 2) plan (Err reasons.Header) _
-    (λ is same. subst (λ (plan : Plan). IsHeader line plan) same (empty_header 2 line (inr refl) (lit< tt) is))
+    (λ is same. subst (λ (plan : Plan). IsHeader line plan) same (empty_header 2 line (1, lit< tt, refl) (lit< tt) is))
     (λ err. absurd cc) rest)
     e
 
