@@ -5,3 +5,4 @@ pub mod Numbering
 pub mod CallLines
 pub mod Pools
 pub mod Lanes
+pub mod VersionLines

@@ -1,4 +1,5 @@
 pub mod KeyLines
+pub mod Versions
 pub mod Limits
 pub mod Names
 pub mod Calls

@@ -8,7 +8,7 @@ abbrev pub plan_of : CapsuleDraft → CapsulePlan
 plan_of d =
     record {
       plan = record {
-        version = 2;
+        version = d.version;
         seed = d.seed;
         pool = d.pool.items;
         keys = d.keys.items;
