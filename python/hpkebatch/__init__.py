@@ -30,16 +30,19 @@ from .asked import Asked, Call, Context, Key
 from .batch import Batch, Lane
 from .capsules import CapsuleBatch, CapsuleReply
 from .command import Command, Finished, Runner, find_command
+from .contexts import Recipient, Sender
 from .errors import (
     AlreadyRun,
     BadBatch,
     BuildFailed,
     CallError,
     CommandNotFound,
+    ContextEnded,
     FileFault,
     HpkeBatchError,
     IllegalReply,
     KeyRefused,
+    LibraryNotFound,
     LimitReached,
     MessageNotOpened,
     OpenFailed,
@@ -84,7 +87,7 @@ from .suites import (
     Psk,
 )
 
-__version__ = "0.3.0"
+__version__ = "0.4.0"
 
 # All but `open`, which would take the place of Python's own: `unseal` is the same call.
 __all__ = [
