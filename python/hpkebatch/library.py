@@ -253,7 +253,7 @@ def packed() -> Optional[str]:
 
 def made() -> Tuple[Optional[str], str]:
     """The library of the clone that this package stands in, made of its dist where that has changed; or why not."""
-    script = os.path.join(REPOSITORY, "python", "provide_library")
+    script = os.path.join(os.path.dirname(os.path.realpath(HERE)), "provide_library")
     if not os.path.isfile(script):
         return None, f"this package has no {NAME}"
     done = subprocess.run(["sh", script], stdin=subprocess.DEVNULL, stdout=subprocess.PIPE, stderr=subprocess.PIPE, check=False)
