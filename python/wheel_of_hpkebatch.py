@@ -11,6 +11,7 @@ import os
 import platform
 import re
 import subprocess
+import sys
 import zipfile
 
 HERE = os.path.dirname(os.path.abspath(__file__))
@@ -76,8 +77,9 @@ def library():
         return None
     path, script = os.path.join(HERE, "../lib", SHARED), os.path.join(HERE, "provide_library")
     if os.path.isfile(script):
-        done = subprocess.run(["sh", script], stdin=subprocess.DEVNULL, stdout=subprocess.PIPE, check=False)
+        done = subprocess.run(["sh", script], stdin=subprocess.DEVNULL, capture_output=True, check=False)
         path = os.fsdecode(done.stdout.rstrip(b"\n"))
+        sys.stderr.write(done.stderr.decode("utf-8", "replace"))
     return read(path) if os.path.isfile(path) else None
 
 

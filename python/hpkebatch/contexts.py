@@ -63,7 +63,7 @@ def raised(status: int, what: str) -> Exception:
         return KeyRefused()
     if status == Status.WRONG_USAGE:
         return ValueError(f"{what} has more bytes than HPKE allows")
-    return Refused(Status(status).name.lower(), what)
+    return Refused(Status(status).name.lower() if status in list(Status) else f"status {status}", what)
 
 
 class End:
@@ -183,8 +183,9 @@ class Sender(End):
         aead: Aead = Aead.AES_256_GCM,
         limit: int = MOST_MESSAGES,
     ) -> None:
+        key, given = public_key(to, "to"), parameters(info, psk, kdf, aead, limit)
         with fresh_seed() as seed:
-            self._start(public_key(to, "to"), seed, 0, parameters(info, psk, kdf, aead, limit))
+            self._start(key, seed, 0, given)
 
     def _start(self, to: PublicKey, seed: Seed, stream: int, given: Parameters) -> None:
         library = need_library()

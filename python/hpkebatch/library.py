@@ -258,7 +258,7 @@ def made() -> Tuple[Optional[str], str]:
         return None, f"this package has no {NAME}"
     done = subprocess.run(["sh", script], stdin=subprocess.DEVNULL, stdout=subprocess.PIPE, stderr=subprocess.PIPE, check=False)
     if done.returncode:
-        return None, done.stderr.decode("utf-8", "replace").strip()
+        return None, done.stderr.decode("utf-8", "replace").strip() or f"{script} failed"
     return os.fsdecode(done.stdout.rstrip(b"\n")), ""
 
 
@@ -289,7 +289,7 @@ def _load(named: Optional[str]) -> Union[Library, str]:
 
 
 _known: Dict[Optional[str], Union[Library, str]] = {}
-_lock = threading.Lock()
+_lock = threading.RLock()
 os.register_at_fork(before=_lock.acquire, after_in_parent=_lock.release, after_in_child=_lock.release)
 
 

@@ -483,7 +483,7 @@ class Misuse(unittest.TestCase):
         self.assertEqual(bytes(wiped), bytes(136))
 
     def test_statuses_without_an_occasion(self):
-        for status, kind in ((Status.NO_MEMORY, OutOfMemory), (Status.WRONG_USAGE, ValueError), (Status.EXHAUSTED, Refused)):
+        for status, kind in ((Status.NO_MEMORY, OutOfMemory), (Status.WRONG_USAGE, ValueError), (Status.EXHAUSTED, Refused), (99, Refused)):
             self.assertIs(type(raised(status, "a text")), kind)
 
     def test_nothing_secret_is_printed(self):

@@ -1,11 +1,14 @@
 """How the library for C is found, and which way a call goes: by the library or by the command."""
 
+import contextlib
+import io
 import os
 import shutil
 import subprocess
 import sys
 import tempfile
 import unittest
+import zipfile
 from unittest import mock
 
 import hpkebatch
@@ -119,6 +122,41 @@ class Finding(unittest.TestCase):
             for _ in range(3):
                 self.assertIsNone(library.find_library())
             self.assertEqual(made.call_count, 1)
+
+
+class Wheel(unittest.TestCase):
+    """What `pip install ./python` installs."""
+
+    def wheel(self, folder):
+        sys.path.insert(0, PACKAGE)
+        self.addCleanup(sys.path.remove, PACKAGE)
+        import wheel_of_hpkebatch
+
+        name = wheel_of_hpkebatch.build_wheel(folder)
+        with zipfile.ZipFile(os.path.join(folder, name)) as file:
+            return name, {it: file.read(it) for it in file.namelist()}
+
+    def test_a_clones_wheel_has_the_library(self):
+        with mock.patch.dict(os.environ), tempfile.TemporaryDirectory() as folder:
+            os.environ.pop("HPKEBATCH_LIBRARY", None)
+            path, why = library.made()
+            name, files = self.wheel(folder)
+            if path is None:
+                self.skipTest(why)
+            with open(path, "rb") as file:
+                self.assertEqual(files[f"hpkebatch/library/{NAME}"], file.read())
+            self.assertIn("linux_x86_64", name)
+            self.assertIn(b"Tag: py3-none-linux_x86_64", files[f"hpkebatch-{hpkebatch.__version__}.dist-info/WHEEL"])
+
+    def test_where_none_can_be_made_it_has_the_modules(self):
+        told = io.StringIO()
+        with mock.patch.dict(os.environ, {"HPKEBATCH_PROVE": "1"}), tempfile.TemporaryDirectory() as folder:
+            with contextlib.redirect_stderr(told):
+                name, files = self.wheel(folder)
+            self.assertIn("no library is made here: HPKEBATCH_PROVE is set", told.getvalue())
+            self.assertIn("py3-none-any", name)
+            self.assertIn("hpkebatch/contexts.py", files)
+            self.assertNotIn(f"hpkebatch/library/{NAME}", files)
 
 
 class OfTheClone(unittest.TestCase):
