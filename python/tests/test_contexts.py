@@ -14,7 +14,7 @@ import warnings
 from collections import Counter
 
 import hpkebatch
-from common import HOME, PACKAGE, changed, command, needs_library
+from common import HOME, PACKAGE, InAFolder, changed, command, needs_library, write
 from hpkebatch import (
     SNTRUP857,
     Aead,
@@ -634,6 +634,37 @@ class Once(unittest.TestCase):
     def round_trip(self):
         sender, recipient = ends()
         return recipient.open(sender.seal(b"one"))
+
+
+class Pair(InAFolder):
+    """The small program that every language has."""
+
+    def pair(self, *words, given=b""):
+        done = subprocess.run([sys.executable, os.path.join(PACKAGE, "pair.py"), *words], input=given, capture_output=True, check=False)
+        return done.returncode, done.stdout, done.stderr
+
+    def test_it_seals_and_opens(self):
+        status, keys, _ = self.pair("keygen")
+        self.assertEqual((status, [len(line) for line in keys.split()]), (0, [2 * 1158, 2 * 1763]))
+        for name, line in zip(("public", "secret"), keys.split()):
+            write(name, line + b"\n")
+        for text in (b"a text\n\0\xff", b""):
+            status, sealed, _ = self.pair("seal", "public", given=text)
+            self.assertEqual((status, [len(line) for line in sealed.split()]), (0, [2 * 1039, 2 * (len(text) + 16)]))
+            self.assertEqual(self.pair("open", "secret", given=sealed), (0, text, b""))
+        for words, given in (
+            (("open", "secret"), sealed[:-2] + (b"0" if sealed[-2:-1] != b"0" else b"1") + b"\n"),
+            (("open", "secret"), b"00\n"),
+            (("open", "public"), sealed),
+            (("seal", "secret"), b""),
+            (("seal", "none"), b""),
+            (("seal",), b""),
+            ((), b""),
+        ):
+            with self.subTest(words=words):
+                status, out, errors = self.pair(*words, given=given)
+                self.assertEqual((status, out), (1, b""))
+                self.assertRegex(errors, rb"^pair: [^\n]+\n$")
 
 
 class Room(unittest.TestCase):
