@@ -204,7 +204,11 @@ class Printer:
         called, is_call, _ = edit.goal.partition("-requires")
         if is_call:
             return f", at what `{called}` requires"
-        return ", at its loop" if edit.goal and not edit.goal.startswith("returns") else ""
+        if not edit.goal or edit.goal.startswith("returns"):
+            return ""
+        # (the goal of a loop has its name: `loop-` and the variable, or what it goes over)
+        is_loop = edit.goal.startswith("loop-") or "-" not in edit.goal
+        return ", at its loop" if is_loop else f", at `{edit.goal}`"
 
     def print_text(self, path, first, last=None):
         """The text of a file from one definition to another, with what stands above the first; of code, a clause."""
