@@ -55,7 +55,7 @@ def parameters(info: bytes, psk: Optional[Psk], kdf: int, aead: int, limit: int)
     return Parameters(mode, arguments.kdf(kdf), aead, limit, info, secret, name)
 
 
-def raised(status: int, what: str) -> Exception:
+def fault_of(status: int, what: str) -> Exception:
     """The exception that a status is, but for those on the tags and limits of a context."""
     if status == Status.NO_MEMORY:
         return OutOfMemory(status, "out of memory")
@@ -95,7 +95,7 @@ class End:
         library = need_library()
         status, context = library.shared(role, kem, octets(shared_secret, "shared_secret"), given)
         if status != Status.DONE:
-            raise raised(status, "an argument")
+            raise fault_of(status, "an argument")
         end = cls.__new__(cls)
         end._begin(library, context, b"")
         return end
@@ -127,7 +127,7 @@ class End:
             arguments.test_export(size, context.kdf, context.aead)
             status, secret = self._library.export(context, exporter_context, size)
         if status != Status.DONE:
-            raise raised(status, "exporter_context")
+            raise fault_of(status, "exporter_context")
         return secret
 
     def close(self) -> None:
@@ -191,7 +191,7 @@ class Sender(End):
         library = need_library()
         status, context, enc = library.sender(to.kem, seed, stream, to.data, given)
         if status != Status.DONE:
-            raise raised(status, "an argument")
+            raise fault_of(status, "an argument")
         self._begin(library, context, enc)
 
     @classmethod
@@ -256,7 +256,7 @@ class Recipient(End):
         library = need_library()
         status, context = library.recipient(own.kem, enc, own.data, given)
         if status != Status.DONE:
-            raise raised(status, "an argument")
+            raise fault_of(status, "an argument")
         self._begin(library, context, enc)
 
     @classmethod
@@ -325,7 +325,7 @@ def _not_sealed(status: int, what: str) -> Exception:
         return LimitReached(what)
     if status == Status.NOCIPHER:
         return Refused("nocipher", f"{what}, on an export-only context,")
-    return raised(status, what)
+    return fault_of(status, what)
 
 
 def _not_opened(status: int, ct: bytes, what: str, number: int) -> Exception:
@@ -343,7 +343,7 @@ def key_pair(kem: Kem = SNTRUP761) -> KeyPair:
             status, pair = key_pair_of(kem, seed, 0)
         if pair is not None:
             return pair
-    raise raised(status, "a key")
+    raise fault_of(status, "a key")
 
 
 def key_pair_of(kem: Kem, seed: Seed, stream: int) -> Tuple[int, Optional[KeyPair]]:
@@ -353,7 +353,7 @@ def key_pair_of(kem: Kem, seed: Seed, stream: int) -> Tuple[int, Optional[KeyPai
         return status, KeyPair(PublicKey(public), SecretKey(secret))
     if status in (Status.EXHAUSTED, Status.NOINVERSE):
         return status, None
-    raise raised(status, "a key")
+    raise fault_of(status, "a key")
 
 
 # ---- for tests

@@ -31,7 +31,7 @@ from hpkebatch import (
     SecretKey,
     Sender,
 )
-from hpkebatch.contexts import key_pair, key_pair_of, parameters, raised, sender_of_seed
+from hpkebatch.contexts import fault_of, key_pair, key_pair_of, parameters, sender_of_seed
 from hpkebatch.library import Context, Parameters, Status, fresh_seed, room
 from hpkebatch.suites import KEMS, TAG_SIZE
 
@@ -484,7 +484,7 @@ class Misuse(unittest.TestCase):
 
     def test_statuses_without_an_occasion(self):
         for status, kind in ((Status.NO_MEMORY, OutOfMemory), (Status.WRONG_USAGE, ValueError), (Status.EXHAUSTED, Refused), (99, Refused)):
-            self.assertIs(type(raised(status, "a text")), kind)
+            self.assertIs(type(fault_of(status, "a text")), kind)
 
     def test_nothing_secret_is_printed(self):
         sender, recipient = ends(psk=Psk(b"very secret", b"name"))
