@@ -14,7 +14,7 @@ sys.dont_write_bytecode = True
 HOME = os.path.dirname(os.path.dirname(os.path.abspath(__file__)))
 sys.path.insert(0, os.path.join(HOME, "python"))
 import hpkebatch
-from hpkebatch.library import need_library, room
+from hpkebatch.shared_library import need_library, room
 
 RECORD = 1024
 SIZES = (64, 1024, 16_384)

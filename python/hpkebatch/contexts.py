@@ -19,7 +19,8 @@ from typing import TYPE_CHECKING, ContextManager, Iterable, List, NoReturn, Opti
 from . import arguments
 from .errors import ContextEnded, KeyRefused, LimitReached, OpenFailed, OutOfMemory, Refused
 from .keys import KeyPair, PublicKey, SecretKey, public_key, secret_key
-from .library import (
+from .once import Here
+from .shared_library import (
     BASE,
     PSK,
     RECIPIENT,
@@ -33,7 +34,6 @@ from .library import (
     need_library,
     wipe,
 )
-from .once import Here
 from .suites import MOST_MESSAGES, SEED_SIZE, SNTRUP761, TAG_SIZE, Aead, Kdf, Kem, Psk
 
 E = TypeVar("E", bound="End")

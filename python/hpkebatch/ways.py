@@ -16,8 +16,8 @@ from typing import List, Optional, Sequence
 from . import contexts, direct, parts
 from .command import Runner
 from .keys import KeyPair, PublicKey, SecretKey
-from .library import find_library, need_library
 from .parts import OpenedPart, PartTask, Root, RootAsked, SealedPart
+from .shared_library import find_library, need_library
 from .suites import LIMITS, Kem, Limits, Psk
 
 VARIABLE = "HPKEBATCH_WAY"

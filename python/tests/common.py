@@ -15,7 +15,7 @@ from collections import namedtuple
 
 from hpkebatch import Command, Finished
 from hpkebatch.__main__ import main
-from hpkebatch.library import find_library
+from hpkebatch.shared_library import find_library
 
 HERE = os.path.dirname(os.path.abspath(__file__))
 HOME = os.path.dirname(os.path.dirname(HERE))

@@ -32,7 +32,7 @@ from hpkebatch import (
     Sender,
 )
 from hpkebatch.contexts import fault_of, key_pair, key_pair_of, parameters, sender_of_seed
-from hpkebatch.library import Context, Parameters, Status, fresh_seed, room
+from hpkebatch.shared_library import Context, Parameters, Status, fresh_seed, room
 from hpkebatch.suites import KEMS, TAG_SIZE
 
 CASES = os.path.join(HOME, "tools/cases/in_process.cases")

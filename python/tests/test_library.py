@@ -13,7 +13,8 @@ from unittest import mock
 
 import hpkebatch
 from common import HOME, PACKAGE, PROGRAM, changed, command, needs_library
-from hpkebatch import SNTRUP857, Aead, Kdf, KeyRefused, LibraryNotFound, Psk, Recipient, Sender, direct, files, library, parts
+from hpkebatch import SNTRUP857, Aead, Kdf, KeyRefused, LibraryNotFound, Psk, Recipient, Sender, direct, files, parts
+from hpkebatch import shared_library as library
 from hpkebatch.contexts import key_pair
 from hpkebatch.parts import PartTask, RootAsked
 from hpkebatch.sealed import Suite
