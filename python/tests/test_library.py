@@ -239,6 +239,7 @@ class OfTheClone(unittest.TestCase):
     def test_without_a_compiler_the_reason_is_told(self):
         shutil.rmtree(os.path.join(self.clone, "crates/hpkebatch_c/out"), ignore_errors=True)
         self.refused("no C compiler is on the PATH", CC="none-such")
+        self.refused("false failed", CC="false")
         self.given()
 
 
@@ -296,11 +297,19 @@ class Ways(unittest.TestCase):
                 spoilt.append(task._replace(texts=[*cts[:place], wrong, *cts[place + 1 :]], end=made.end))
         for end in (changed(made.end, 0), made.end[:15], b"", made.end + b"x", cts[0]):
             spoilt.append(task._replace(texts=cts, end=end))
+        spoilt.append(task._replace(texts=cts, end=self.end_with_text(task)))
         spoilt.append(task._replace(texts=cts, end=made.end, secret=bytes(32)))
         spoilt.append(task._replace(texts=cts[:-1], aads=task.aads[:-1], end=made.end))
         opened = direct.open_parts(spoilt)
         self.assertFalse(any(it.is_whole for it in opened))
         self.assertEqual(opened, parts.open_parts(spoilt, command))
+
+    def end_with_text(self, task):
+        """What stands for the end mark, and opens, and isn't empty."""
+        kem, kdf, aead = task.suite
+        sender = Sender.from_shared_secret(task.secret, kem.id, info=task.info, kdf=kdf, aead=aead)
+        *_, end = sender.seal_many([*task.texts, b"text"], [*task.aads, parts.END_AAD])
+        return end
 
     def test_roots_are_the_same(self):
         psk = Psk(os.urandom(32), b"name")
