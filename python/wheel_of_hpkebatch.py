@@ -1,18 +1,22 @@
 """Makes wheels (PEP 427) with Python's own library alone.
 
-`pip install ./python` calls `build_wheel` (PEP 517): that wheel has the modules. `write_wheel` also packs files beside
-them, such as the program: tools/make_package calls it.
+`pip install ./python` calls `build_wheel` (PEP 517): that wheel has the modules, and the shared library where there is one.
+`write_wheel` also packs other files beside the modules, such as the program: tools/make_package calls it.
 """
 
 import base64
 import glob
 import hashlib
 import os
+import platform
 import re
+import subprocess
+import sys
 import zipfile
 
 HERE = os.path.dirname(os.path.abspath(__file__))
-PURE = "py3-none-any"
+PURE, NATIVE = "py3-none-any", "py3-none-linux_x86_64"
+SHARED = "libhpkebatch.so.0"
 COMMANDS = "[console_scripts]\nhpkebatch = hpkebatch.__main__:main\n"
 
 
@@ -66,8 +70,24 @@ def write_wheel(directory, tag, more=()):
     return name
 
 
+def library():
+    """The shared library to pack: that of the archive which this folder is of, or the clone's. None where there is none, or
+    where it doesn't run here."""
+    if platform.machine() != "x86_64" or platform.system() != "Linux":
+        return None
+    path, script = os.path.join(HERE, "../lib", SHARED), os.path.join(HERE, "provide_library")
+    if os.path.isfile(script):
+        done = subprocess.run(["sh", script], stdin=subprocess.DEVNULL, capture_output=True, check=False)
+        path = os.fsdecode(done.stdout.rstrip(b"\n"))
+        sys.stderr.write(done.stderr.decode("utf-8", "replace"))
+    return read(path) if os.path.isfile(path) else None
+
+
 def build_wheel(wheel_directory, config_settings=None, metadata_directory=None):
-    return write_wheel(wheel_directory, PURE)
+    shared = library()
+    if shared is None:
+        return write_wheel(wheel_directory, PURE)
+    return write_wheel(wheel_directory, NATIVE, [(f"hpkebatch/library/{SHARED}", shared, 0o644)])
 
 
 def build_sdist(sdist_directory, config_settings=None):

@@ -1,4 +1,4 @@
-"""Seals, opens and exports under HPKE (RFC 9180) over Streamlined NTRU Prime, by the command `hpkebatch`.
+"""Seals, opens and exports under HPKE (RFC 9180) over Streamlined NTRU Prime.
 
     import hpkebatch
     pair = hpkebatch.generate_key()
@@ -6,8 +6,9 @@
     hpkebatch.open(sealed, key=pair.secret)          # [b"one", b"two"]
 
 `seal`, `open`, `export` and `generate_key` are one call each, and `write_pair`, `read_public_key` and `read_secret_key`
-keep keys in files. `Batch` and `CapsuleBatch` have a method for each line of docs/FORMAT.md. `python -m hpkebatch` seals
-and opens files. The command does the work; `Command` says how it is found.
+keep keys in files. A `Sender` seals message by message, and a `Recipient` opens them: these go by the library for C, in
+this process. `Batch` and `CapsuleBatch` have a method for each line of docs/FORMAT.md, and go by the command; `Command` says
+how it is found. `python -m hpkebatch` seals and opens files.
 """
 
 from .answers import (
@@ -30,16 +31,19 @@ from .asked import Asked, Call, Context, Key
 from .batch import Batch, Lane
 from .capsules import CapsuleBatch, CapsuleReply
 from .command import Command, Finished, Runner, find_command
+from .contexts import Recipient, Sender
 from .errors import (
     AlreadyRun,
     BadBatch,
     BuildFailed,
     CallError,
     CommandNotFound,
+    ContextEnded,
     FileFault,
     HpkeBatchError,
     IllegalReply,
     KeyRefused,
+    LibraryNotFound,
     LimitReached,
     MessageNotOpened,
     OpenFailed,
@@ -90,11 +94,12 @@ __version__ = "0.4.0"
 __all__ = [
     "AddedAnswer", "Aead", "AlreadyRun", "AnsweredAnswer", "Asked", "AskedAnswer", "BadBatch", "Batch", "BuildFailed",
     "Call", "CallError", "CapsuleBatch", "CapsuleReply", "Command", "CommandNotFound", "Context", "ContextAnswer",
-    "Exported", "ExportedAnswer", "FailedAnswer", "FileFault", "Finished", "HpkeBatchError", "IllegalReply", "Journal",
-    "Kdf", "Kem", "Key", "KeyAnswer", "KeyPair", "KeyRefused", "LIMITS", "Lane", "LimitAnswer", "LimitReached",
-    "Limits", "MessageNotOpened", "Note", "OpenFailed", "OpenedAllAnswer", "OpenedAnswer", "OutOfMemory", "OverLimit",
-    "Part", "Place", "Psk", "PublicKey", "ReadFault", "Refusal", "Refused", "Reply", "ReplyError", "RetiredAnswer",
-    "RunFailed", "Runner", "SNTRUP761", "SNTRUP857", "Sealed", "SealedAnswer", "SecretKey", "TookAnswer", "UsageError",
-    "WriteFault", "WrongKey", "check", "export", "find_command", "fingerprint", "generate_key", "read_batch",
-    "read_capsules", "read_public_key", "read_secret_key", "seal", "unseal", "write_pair",
+    "ContextEnded", "Exported", "ExportedAnswer", "FailedAnswer", "FileFault", "Finished", "HpkeBatchError",
+    "IllegalReply", "Journal", "Kdf", "Kem", "Key", "KeyAnswer", "KeyPair", "KeyRefused", "LIMITS", "Lane",
+    "LibraryNotFound", "LimitAnswer", "LimitReached", "Limits", "MessageNotOpened", "Note", "OpenFailed",
+    "OpenedAllAnswer", "OpenedAnswer", "OutOfMemory", "OverLimit", "Part", "Place", "Psk", "PublicKey", "ReadFault",
+    "Recipient", "Refusal", "Refused", "Reply", "ReplyError", "RetiredAnswer", "RunFailed", "Runner", "SNTRUP761",
+    "SNTRUP857", "Sealed", "SealedAnswer", "SecretKey", "Sender", "TookAnswer", "UsageError", "WriteFault",
+    "WrongKey", "check", "export", "find_command", "fingerprint", "generate_key", "read_batch", "read_capsules",
+    "read_public_key", "read_secret_key", "seal", "unseal", "write_pair",
 ]

@@ -13,6 +13,24 @@ class CommandNotFound(HpkeBatchError):
     """The command `hpkebatch` isn't there, or can't be started."""
 
 
+class LibraryNotFound(HpkeBatchError):
+    """The library for C isn't there, or can't be loaded. `why` says what was wrong with the one that was found."""
+
+    def __init__(self, why: str) -> None:
+        super().__init__(why)
+        self.why = why
+
+    def __str__(self) -> str:
+        return (
+            f"no library for contexts in this process ({self.why}): install a package of hpkebatch that has one, or name a "
+            "libhpkebatch.so.0 in HPKEBATCH_LIBRARY"
+        )
+
+
+class ContextEnded(HpkeBatchError, ValueError):
+    """A call on a context that was closed, or that is the process's from which this one was forked."""
+
+
 class OverLimit(HpkeBatchError, ValueError):
     """The batch, or one of its fields, would hold more than docs/FORMAT.md allows."""
 

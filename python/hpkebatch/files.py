@@ -19,21 +19,11 @@ from .command import Runner
 from .errors import FileFault, RunFailed, WrongKey
 from .keys import HASH_SIZE, PublicKey, SecretKey
 from .new_file import IS_THERE, NewFile, write_all
-from .parts import (
-    OpenedPart,
-    PartTask,
-    Root,
-    RootAsked,
-    grouped,
-    measured,
-    open_parts,
-    recipient_roots,
-    seal_parts,
-    sender_roots,
-)
+from .parts import OpenedPart, PartTask, Root, RootAsked, grouped, measured
 from .sealed import Head, Reader, Suite, recipient_of
 from .sources import MOST_IN_MEMORY, STANDARD, Source, name_of, naming, opened
 from .suites import ID_SIZE, TAG_SIZE, Aead, Kdf, Limits, Psk
+from .ways import open_parts, recipient_roots, seal_parts, sender_roots
 
 MAGIC = b"hpkebatch sealed 2\n"
 OLD_MAGIC = b"hpkebatch sealed 1\n"

@@ -31,23 +31,10 @@ from .batch import Batch
 from .command import Runner
 from .errors import MessageNotOpened
 from .keys import KeyPair, PublicKey, SecretKey, public_key, secret_key
-from .parts import (
-    COST_OF_MESSAGE,
-    OpenedPart,
-    PartTask,
-    Root,
-    RootAsked,
-    SealedPart,
-    exported,
-    grouped,
-    measured,
-    open_parts,
-    recipient_roots,
-    seal_parts,
-    sender_roots,
-)
+from .parts import COST_OF_MESSAGE, OpenedPart, PartTask, Root, RootAsked, SealedPart, grouped, measured
 from .sealed import MESSAGES_MAGIC, Head, Part, Sealed, Suite, counts_of, recipient_of
 from .suites import ID_SIZE, LIMITS, SNTRUP761, TAG_SIZE, Aead, Kdf, Kem, Limits, Psk
+from .ways import key_pair, open_parts, recipient_roots, seal_parts, sender_roots
 
 if TYPE_CHECKING:
     from concurrent.futures import Executor
@@ -75,6 +62,9 @@ class Exported:
 
 def generate_key(kem: Kem = SNTRUP761, *, runner: Optional[Runner] = None) -> KeyPair:
     """A new key pair."""
+    pair = key_pair(kem, runner)
+    if pair is not None:
+        return pair
     batch = Batch()
     key = batch.keygen(kem)
     answer = batch.run(workers=1, runner=runner)[key]
@@ -253,18 +243,16 @@ def export(
     """
     label, psk, info = arguments.octets(label, "label", LIMITS.field), arguments.psk(psk), arguments.info(info)
     arguments.test_export(size, kdf, aead)
-    batch = Batch()
     if to is not None and key is None and enc is None:
-        public = public_key(to, "to")
-        context = batch.send(batch.peer(public.data, public.kem), info, kdf=kdf, aead=aead, psk=psk, limit=1)
+        asked = RootAsked(info, kdf, b"", aead, label, size)
+        (root,) = sender_roots(public_key(to, "to"), [asked], psk, runner)
     elif to is None and key is not None and enc is not None:
         own = secret_key(key, "key")
-        enc = arguments.encapsulation(enc, own.kem)
-        context = batch.recv(batch.secret(own.data, own.kem), enc, info, kdf=kdf, aead=aead, psk=psk, limit=1)
+        asked = RootAsked(info, kdf, arguments.encapsulation(enc, own.kem), aead, label, size)
+        (root,) = recipient_roots(own, [asked], psk, runner)
     else:
         raise TypeError("export wants `to`, or `key` and `enc`")
-    (root,) = exported(batch, [context], label, size, runner)
-    return Exported(root.enc or enc or b"", root.secret)
+    return Exported(root.enc, root.secret)
 
 
 # ---- lists and their parts

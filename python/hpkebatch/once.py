@@ -22,25 +22,30 @@ NOTHING_WRITTEN: Tuple[Type[BaseException], ...] = (
 FORKED = "of the process that this one was forked from"
 
 
-class _Here:
+class Here:
     """What is of this process alone: a fork makes both anew."""
 
     process = object()
     lock = threading.Lock()
 
     @classmethod
+    def mark(cls) -> Tuple[object, int]:
+        """What tells this process from others, also from one that was forked without Python's knowledge."""
+        return cls.process, os.getpid()
+
+    @classmethod
     def renew(cls) -> None:
         cls.process, cls.lock = object(), threading.Lock()
 
 
-os.register_at_fork(after_in_child=_Here.renew)
+os.register_at_fork(after_in_child=Here.renew)
 
 
 class Runs:
     """The runs of one batch, by whatever thread. In a forked process the batch is closed from the start."""
 
     def __init__(self) -> None:
-        self._process = _Here.process
+        self._process = Here.process
         self._closed_by: Optional[str] = None
         self._under_way = 0
         self._has_written = False
@@ -48,7 +53,7 @@ class Runs:
     @property
     def closed_by(self) -> Optional[str]:
         """The words of the run that closed the batch; None while it is open."""
-        return self._closed_by if self._process is _Here.process else FORKED
+        return self._closed_by if self._process is Here.process else FORKED
 
     def need_open(self) -> None:
         if self.closed_by is not None:
@@ -77,7 +82,7 @@ class Runs:
             self._end(may_have_written)
 
     def _begin(self, how: str, may_follow: Callable[[str], bool]) -> None:
-        with _Here.lock:
+        with Here.lock:
             closed_by = self.closed_by
             if closed_by is not None and not may_follow(closed_by):
                 raise AlreadyRun(
@@ -89,7 +94,7 @@ class Runs:
 
     def _end(self, may_have_written: bool) -> None:
         """Opens the batch again where none of its runs has written, or may still write."""
-        with _Here.lock:
+        with Here.lock:
             self._under_way -= 1
             self._has_written |= may_have_written
             if not self._under_way and not self._has_written:

@@ -61,11 +61,14 @@ class Root(NamedTuple):
 
 
 class RootAsked(NamedTuple):
-    """What a root's context is made of; `enc` is empty for a sender."""
+    """What a root's context is made of; `enc` is empty for a sender. And what is exported from it."""
 
     info: bytes
     kdf: Kdf
     enc: bytes = b""
+    aead: Aead = Aead.EXPORT_ONLY
+    label: bytes = ROOT_LABEL
+    size: int = ROOT_SIZE
 
 
 def sender_roots(
@@ -76,8 +79,8 @@ def sender_roots(
     for group in grouped(asked, _root_measure(psk), limits):
         batch = Batch(limits=limits)
         key = batch.peer(to.data, to.kem)
-        contexts = [batch.send(key, it.info, kdf=it.kdf, aead=Aead.EXPORT_ONLY, psk=psk, limit=1) for it in group]
-        roots += exported(batch, contexts, ROOT_LABEL, ROOT_SIZE, runner)
+        contexts = [batch.send(key, it.info, kdf=it.kdf, aead=it.aead, psk=psk, limit=1) for it in group]
+        roots += _exported(batch, contexts, group, runner)
     return roots
 
 
@@ -89,9 +92,8 @@ def recipient_roots(
     for group in grouped(asked, _root_measure(psk), limits):
         batch = Batch(limits=limits)
         own = batch.secret(key.data, key.kem)
-        contexts = [batch.recv(own, it.enc, it.info, kdf=it.kdf, aead=Aead.EXPORT_ONLY, psk=psk, limit=1) for it in group]
-        found = exported(batch, contexts, ROOT_LABEL, ROOT_SIZE, runner)
-        roots += [Root(it.enc, root.secret) for it, root in zip(group, found)]
+        contexts = [batch.recv(own, it.enc, it.info, kdf=it.kdf, aead=it.aead, psk=psk, limit=1) for it in group]
+        roots += _exported(batch, contexts, group, runner)
     return roots
 
 
@@ -100,18 +102,19 @@ def _root_measure(psk: Optional[Psk]) -> Callable[[RootAsked], Tuple[int, int]]:
     return lambda it: (2 * (COST_OF_LINE + len(it.info) + len(it.enc) + given), 1)
 
 
-def exported(
-    batch: Batch, contexts: Sequence[Context], label: bytes, size: int, runner: Optional[Runner]
+def _exported(
+    batch: Batch, contexts: Sequence[Context], asked: Sequence[RootAsked], runner: Optional[Runner]
 ) -> List[Root]:
-    """What contexts of this batch export; a recipient's encapsulation stands as an empty one."""
+    """What contexts of this batch export. A reply has the encapsulation of a sender alone."""
     lane = batch.lane()
-    calls = [lane.export(context, label, size) for context in contexts]
+    calls = [lane.export(context, it.label, it.size) for context, it in zip(contexts, asked)]
     reply = batch.run(workers=1, runner=runner)
     for key in batch.keys:
         answer = reply.answer(key)
         if isinstance(answer, Refusal) and answer.word == "form":
             raise KeyRefused()
-    return [Root(reply[context].enc or b"", reply[call].secret) for context, call in zip(contexts, calls)]
+    rows = zip(contexts, calls, asked)
+    return [Root(reply[context].enc or it.enc, reply[call].secret) for context, call, it in rows]
 
 
 # ---- parts

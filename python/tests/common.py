@@ -15,6 +15,7 @@ from collections import namedtuple
 
 from hpkebatch import Command, Finished
 from hpkebatch.__main__ import main
+from hpkebatch.shared_library import find_library
 
 HERE = os.path.dirname(os.path.abspath(__file__))
 HOME = os.path.dirname(os.path.dirname(HERE))
@@ -26,6 +27,8 @@ atexit.register(shutil.rmtree, CACHE)
 ENVIRONMENT = {**os.environ, "PYTHONPATH": PACKAGE, "HPKEBATCH": PROGRAM, "PYTHONPYCACHEPREFIX": CACHE}
 ENVIRONMENT.pop("PYTHONDONTWRITEBYTECODE", None)
 command = Command(PROGRAM)
+# What seal, open, export and generate_key go by in these tests: HPKEBATCH_WAY makes it the library.
+runner = None if os.environ.get("HPKEBATCH_WAY") == "library" else command
 
 Example = namedtuple("Example", "name words batch reply")
 
@@ -34,6 +37,14 @@ def needs_second_program():
     """Skips a test, or the rest of one, where tools/reference can't run: it needs a module that isn't Python's own."""
     if importlib.util.find_spec("cryptography") is None:
         raise unittest.SkipTest("the module cryptography is not installed")
+
+
+def needs_library():
+    """The library for C. Where there is none, and none was named, the test is skipped."""
+    library = find_library()
+    if library is None:
+        raise unittest.SkipTest("there is no library for C here")
+    return library
 
 
 def read(path):

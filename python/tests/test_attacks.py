@@ -9,7 +9,7 @@ import unittest
 from unittest import mock
 
 import hpkebatch
-from common import InAFolder, changed, command, read, write
+from common import InAFolder, changed, read, runner, write
 from hpkebatch import Limits, MessageNotOpened, Part, Psk, Sealed, files, sealed as forms
 from hpkebatch.files import Job, Opening, Sealing
 
@@ -21,12 +21,12 @@ BOTH_MODES = (None, PSK)
 
 def setUpModule():
     global PAIR
-    PAIR = hpkebatch.generate_key(runner=command)
+    PAIR = hpkebatch.generate_key(runner=runner)
 
 
 def seal(name, psk=None, count=5, **given):
     messages = [b"%s %d" % (name, number) for number in range(count)]
-    return hpkebatch.seal(messages, to=PAIR.public, info=b"order 7", psk=psk, runner=command, limits=FEW, **given)
+    return hpkebatch.seal(messages, to=PAIR.public, info=b"order 7", psk=psk, runner=runner, limits=FEW, **given)
 
 
 def replaced(sealed, **given):
@@ -39,10 +39,10 @@ class Lists(unittest.TestCase):
     def refused(self, sealed, psk=None):
         """It isn't opened, and what is given of it by name are messages of A in their places."""
         with self.assertRaises(MessageNotOpened) as fault:
-            hpkebatch.open(sealed, key=PAIR.secret, info=b"order 7", psk=psk, runner=command)
+            hpkebatch.open(sealed, key=PAIR.secret, info=b"order 7", psk=psk, runner=runner)
         self.assertEqual(fault.exception.opened, [b"A %d" % number for number in range(fault.exception.index)])
         if all(sealed.counts):
-            given = hpkebatch.open(sealed, key=PAIR.secret, info=b"order 7", psk=psk, on_failure="none", runner=command)
+            given = hpkebatch.open(sealed, key=PAIR.secret, info=b"order 7", psk=psk, on_failure="none", runner=runner)
             self.assertTrue(all(text in (None, b"A %d" % number) for number, text in enumerate(given)), given)
 
     def test_parts_of_two_lists_are_not_mixed(self):
@@ -54,7 +54,7 @@ class Lists(unittest.TestCase):
                     if parts != head.parts:
                         spliced = replaced(head, parts=parts)
                         with self.assertRaises(MessageNotOpened):
-                            hpkebatch.open(spliced, key=PAIR.secret, info=b"order 7", psk=psk, runner=command)
+                            hpkebatch.open(spliced, key=PAIR.secret, info=b"order 7", psk=psk, runner=runner)
 
     def test_an_encapsulation_and_an_id_of_another_list(self):
         for psk in BOTH_MODES:
@@ -103,9 +103,9 @@ class Lists(unittest.TestCase):
                 for psk in BOTH_MODES:
                     for on_failure in ("raise", "none"):
                         with self.assertRaises((ValueError, MessageNotOpened)):
-                            hpkebatch.open(Sealed.from_bytes(data), key=PAIR.secret, psk=psk, on_failure=on_failure, runner=command)
+                            hpkebatch.open(Sealed.from_bytes(data), key=PAIR.secret, psk=psk, on_failure=on_failure, runner=runner)
         with self.assertRaises(ValueError):
-            hpkebatch.open(replaced(seal(b"A"), parts=()), key=PAIR.secret, runner=command)
+            hpkebatch.open(replaced(seal(b"A"), parts=()), key=PAIR.secret, runner=runner)
 
     def test_an_attackers_part_before_a_secret_rest(self):
         """In mode base: his own encapsulation, head and parts, in every mixture."""
@@ -114,7 +114,7 @@ class Lists(unittest.TestCase):
             for enc, id in itertools.product((alice.enc, mallory.enc), (alice.id, mallory.id)):
                 if (parts, enc, id) not in ((alice.parts, alice.enc, alice.id), (mallory.parts, mallory.enc, mallory.id)):
                     with self.assertRaises(MessageNotOpened) as fault:
-                        hpkebatch.open(replaced(alice, parts=parts, enc=enc, id=id), key=PAIR.secret, info=b"order 7", runner=command)
+                        hpkebatch.open(replaced(alice, parts=parts, enc=enc, id=id), key=PAIR.secret, info=b"order 7", runner=runner)
                     owners = {text[:1] for text in fault.exception.opened}
                     self.assertLessEqual(len(owners), 1)
 
@@ -127,7 +127,7 @@ class Lists(unittest.TestCase):
         """Changed, left out, doubled or cut: no text comes but the right ones, and nothing opens as a whole."""
         for psk in BOTH_MODES:
             messages = [b"one", b"", b"three"]
-            whole = hpkebatch.seal(messages, to=PAIR.public, psk=psk, runner=command, limits=FEW)
+            whole = hpkebatch.seal(messages, to=PAIR.public, psk=psk, runner=runner, limits=FEW)
             read, marks = [], 0
             data = whole.to_bytes()
             for at in range(len(data)):
@@ -139,7 +139,7 @@ class Lists(unittest.TestCase):
             self.assertGreater(len(read), 1000)
             self.assertNotIn(whole, read)
             right = [it for it in read if len(it) == 3 and it.recipient == whole.recipient]
-            got = hpkebatch.open([whole, *right], key=PAIR.secret, psk=psk, on_failure="none", runner=command)
+            got = hpkebatch.open([whole, *right], key=PAIR.secret, psk=psk, on_failure="none", runner=runner)
             rows = [got[at : at + 3] for at in range(0, len(got), 3)]
             self.assertEqual(rows[0], messages)
             for row, sealed in zip(rows[1:], right):
@@ -147,12 +147,12 @@ class Lists(unittest.TestCase):
                 if row == messages:  # an end mark alone is changed
                     marks += 1
                     with self.assertRaises(MessageNotOpened) as fault:
-                        hpkebatch.open(sealed, key=PAIR.secret, psk=psk, runner=command)
+                        hpkebatch.open(sealed, key=PAIR.secret, psk=psk, runner=runner)
                     self.assertTrue(fault.exception.is_end)
             self.assertEqual(marks, 32)
             for sealed in (it for it in read if it not in right):
                 with self.assertRaises(hpkebatch.HpkeBatchError):
-                    hpkebatch.open(sealed, key=PAIR.secret, psk=psk, runner=command)
+                    hpkebatch.open(sealed, key=PAIR.secret, psk=psk, runner=runner)
 
 
 class Files(InAFolder):
@@ -168,7 +168,7 @@ class Files(InAFolder):
     def seal(self, psk, **contents):
         for name, data in contents.items():
             write(name, data)
-        faults = Sealing([Job(name, f"{name}.hpke") for name in contents], PAIR.public, lambda more: None, psk, runner=command).run()
+        faults = Sealing([Job(name, f"{name}.hpke") for name in contents], PAIR.public, lambda more: None, psk, runner=runner).run()
         self.assertEqual(faults, [])
         return [Pieces(read(f"{name}.hpke")) for name in contents]
 
@@ -178,7 +178,7 @@ class Files(InAFolder):
         for name, data in zip(names, variants):
             write(name, data)
         before = os.listdir()
-        faults = Opening([Job(name, f"{name}.opened") for name in names], PAIR.secret, lambda more: None, psk, runner=command).run()
+        faults = Opening([Job(name, f"{name}.opened") for name in names], PAIR.secret, lambda more: None, psk, runner=runner).run()
         self.assertEqual([fault.path for fault in faults], names)
         self.assertEqual(sorted(os.listdir()), sorted(before))
 
@@ -227,18 +227,18 @@ class Files(InAFolder):
     def test_a_list_of_messages_is_no_file(self):
         """Nor the other way, though both have one shape: the magic stands in what is sealed."""
         (it,) = self.seal(None, it=b"0123456789")
-        sealed = hpkebatch.seal([b"0123456789"], to=PAIR.public, runner=command)
+        sealed = hpkebatch.seal([b"0123456789"], to=PAIR.public, runner=runner)
         self.refused(None, [it.head[:19].replace(b"sealed", b"messages") + it.data[19:], sealed.to_bytes()])
         part = Part((it.parts[0][:26],), it.parts[0][26:])
         moved = replaced(sealed, enc=it.enc, id=it.head[33:65], parts=(part,))
         with self.assertRaises(MessageNotOpened):
-            hpkebatch.open(moved, key=PAIR.secret, runner=command)
+            hpkebatch.open(moved, key=PAIR.secret, runner=runner)
 
     def test_a_file_may_be_opened_again_and_its_name_is_not_bound(self):
         """What the game doesn't forbid: to give a whole file again, or under another name."""
         (it,) = self.seal(PSK, it=b"text")
         write("other.hpke", it.data)
-        self.assertEqual(Opening([Job("other.hpke", "other")], PAIR.secret, lambda more: None, PSK, runner=command).run(), [])
+        self.assertEqual(Opening([Job("other.hpke", "other")], PAIR.secret, lambda more: None, PSK, runner=runner).run(), [])
         self.assertEqual(read("other"), b"text")
 
 

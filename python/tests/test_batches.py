@@ -394,9 +394,9 @@ class Once(unittest.TestCase):
 
     def test_a_fork_while_another_thread_begins_a_run(self):
         """The lock that it holds is another one in the forked process."""
-        from hpkebatch.once import _Here
+        from hpkebatch.once import Here
 
-        with _Here.lock:
+        with Here.lock:
             child = os.fork()
             if child == 0:
                 signal.alarm(20)

@@ -10,7 +10,7 @@ import stat
 import subprocess
 
 import hpkebatch
-from common import InAFolder, changed, command, read, spoilt, write
+from common import InAFolder, changed, read, runner, spoilt, write
 from hpkebatch import SNTRUP761, SNTRUP857, FileFault, KeyPair, PublicKey, SecretKey, fingerprint
 from hpkebatch.keys import key_text, parse_key, read_key_file
 
@@ -19,7 +19,7 @@ PAIRS = {}
 
 def setUpModule():
     for kem in (SNTRUP761, SNTRUP857):
-        PAIRS[kem.name] = hpkebatch.generate_key(kem, runner=command)
+        PAIRS[kem.name] = hpkebatch.generate_key(kem, runner=runner)
 
 
 class Objects(InAFolder):
@@ -178,7 +178,7 @@ class KeyFiles(InAFolder):
 class Given(InAFolder):
     def test_a_wrong_one_is_told_in_the_callers_words(self):
         pair = PAIRS["sntrup761"]
-        sealed = hpkebatch.seal([b"text"], to=pair.public, runner=command)
+        sealed = hpkebatch.seal([b"text"], to=pair.public, runner=runner)
         for key, kind, why in (
             (pair, TypeError, "give its public half, pair.public"),
             (pair.secret, TypeError, "is a secret key"),
@@ -189,7 +189,7 @@ class Given(InAFolder):
             (b"short", ValueError, "a public key has 1,158"),
         ):
             with self.subTest(why), self.assertRaisesRegex(kind, why.replace("(", r"\(")):
-                hpkebatch.seal([b"text"], to=key, runner=command)
+                hpkebatch.seal([b"text"], to=key, runner=runner)
         for key, kind, why in (
             (pair, TypeError, "give its secret half, pair.secret"),
             (pair.public, TypeError, "is a public key"),
@@ -197,10 +197,10 @@ class Given(InAFolder):
             ("bob.key", TypeError, "hpkebatch.read_secret_key"),
         ):
             with self.subTest(why), self.assertRaisesRegex(kind, why):
-                hpkebatch.open(sealed, key=key, runner=command)
+                hpkebatch.open(sealed, key=key, runner=runner)
         self.assertIsInstance(pair, KeyPair)
         for key in (pair.secret, bytes(pair.secret), bytearray(pair.secret.data)):
-            self.assertEqual(hpkebatch.open(sealed, key=key, runner=command), [b"text"])
+            self.assertEqual(hpkebatch.open(sealed, key=key, runner=runner), [b"text"])
 
 
 if __name__ == "__main__":

@@ -6,7 +6,7 @@ import unittest
 from concurrent.futures import ProcessPoolExecutor, ThreadPoolExecutor
 
 import hpkebatch
-from common import Told, command
+from common import Told, command, runner
 from hpkebatch import SNTRUP857, Aead, Kdf, KeyRefused, Limits, MessageNotOpened, Psk, Sealed, WrongKey
 from hpkebatch.parts import MOST_WORKERS
 
@@ -16,15 +16,15 @@ FEW = Limits(items=12)  # two messages and an end mark are a part
 
 def setUpModule():
     global PAIR
-    PAIR = hpkebatch.generate_key(runner=command)
+    PAIR = hpkebatch.generate_key(runner=runner)
 
 
 def seal(messages, **given):
-    return hpkebatch.seal(messages, to=PAIR.public, runner=command, **given)
+    return hpkebatch.seal(messages, to=PAIR.public, runner=runner, **given)
 
 
 def opened(sealed, **given):
-    return hpkebatch.open(sealed, key=PAIR.secret, runner=command, **given)
+    return hpkebatch.open(sealed, key=PAIR.secret, runner=runner, **given)
 
 
 class Counting:
@@ -51,12 +51,12 @@ class OneCall(unittest.TestCase):
 
     def test_what_they_cost(self):
         """As python/README.md and docs/FORMAT.md have it."""
-        other = hpkebatch.generate_key(SNTRUP857, runner=command)
+        other = hpkebatch.generate_key(SNTRUP857, runner=runner)
         for pair, more in ((PAIR, 0), (other, 145)):
             for messages in ([], [b"one"], [b"three", b""]):
-                sealed = hpkebatch.seal(messages, to=pair.public, runner=command)
+                sealed = hpkebatch.seal(messages, to=pair.public, runner=runner)
                 self.assertEqual(len(sealed.to_bytes()), 1130 + more + sum(20 + len(text) for text in messages))
-            alone = hpkebatch.seal([b"one"], to=pair.public, alone=True, runner=command)
+            alone = hpkebatch.seal([b"one"], to=pair.public, alone=True, runner=runner)
             self.assertEqual(len(alone[0].to_bytes()), 1150 + more + 3)
 
     def test_bytes_like_messages(self):
@@ -64,16 +64,16 @@ class OneCall(unittest.TestCase):
         self.assertEqual(opened(seal([text, memoryview(text)[:3]])), [b"changes", b"cha"])
 
     def test_every_suite(self):
-        for kem, pair in ((SNTRUP857, hpkebatch.generate_key(SNTRUP857, runner=command)), (PAIR.public.kem, PAIR)):
+        for kem, pair in ((SNTRUP857, hpkebatch.generate_key(SNTRUP857, runner=runner)), (PAIR.public.kem, PAIR)):
             for kdf in Kdf:
                 for aead in (Aead.AES_128_GCM, Aead.AES_256_GCM):
-                    sealed = hpkebatch.seal([b"one"], to=pair.public, kdf=kdf, aead=aead, runner=command)
+                    sealed = hpkebatch.seal([b"one"], to=pair.public, kdf=kdf, aead=aead, runner=runner)
                     self.assertEqual((sealed.kem, sealed.kdf, sealed.aead), (kem, kdf, aead))
-                    self.assertEqual(hpkebatch.open(sealed, key=pair.secret, runner=command), [b"one"])
+                    self.assertEqual(hpkebatch.open(sealed, key=pair.secret, runner=runner), [b"one"])
 
     def test_each_call_draws_a_fresh_seed(self):
         self.assertEqual(len({seal([b"same"]).enc for _ in range(5)}), 5)
-        self.assertEqual(len({hpkebatch.generate_key(runner=command).secret for _ in range(3)}), 3)
+        self.assertEqual(len({hpkebatch.generate_key(runner=runner).secret for _ in range(3)}), 3)
 
     def test_what_the_ends_have_to_agree_in(self):
         psk = Psk(os.urandom(32), b"name")
@@ -86,12 +86,12 @@ class OneCall(unittest.TestCase):
             self.assertEqual((failed.exception.index, failed.exception.part), (index, 0))
 
     def test_a_wrong_key_is_told_apart(self):
-        eve, other = hpkebatch.generate_key(runner=command), hpkebatch.generate_key(SNTRUP857, runner=command)
+        eve, other = hpkebatch.generate_key(runner=runner), hpkebatch.generate_key(SNTRUP857, runner=runner)
         sealed = seal([b"text"])
         for key in (eve.secret, other.secret):
             for given in ({}, {"on_failure": "none"}):
                 with self.assertRaises(WrongKey) as wrong:
-                    hpkebatch.open(sealed, key=key, runner=command, **given)
+                    hpkebatch.open(sealed, key=key, runner=runner, **given)
                 self.assertTrue(hpkebatch.fingerprint(PAIR).startswith(wrong.exception.recipient))
                 self.assertEqual(str(pickle.loads(pickle.dumps(wrong.exception))), str(wrong.exception))
 
@@ -99,9 +99,9 @@ class OneCall(unittest.TestCase):
         """Its public key is that of the head, and its polynomials are none."""
         spoilt = b"\xff" * 382 + bytes(PAIR.secret)[382:]
         with self.assertRaises(KeyRefused):
-            hpkebatch.open(seal([b""]), key=spoilt, runner=command)
+            hpkebatch.open(seal([b""]), key=spoilt, runner=runner)
         with self.assertRaises(KeyRefused):
-            hpkebatch.export(b"", 1, key=spoilt, enc=bytes(1039), runner=command)
+            hpkebatch.export(b"", 1, key=spoilt, enc=bytes(1039), runner=runner)
 
     def test_wrong_arguments(self):
         for why, call in (
@@ -117,9 +117,9 @@ class OneCall(unittest.TestCase):
             ("aead is 3", lambda: seal([b""], aead=3)),
             ("kdf is 9", lambda: seal([b""], kdf=9)),
             ("on_failure is", lambda: opened(seal([b""]), on_failure="skip")),
-            ("size is 8161", lambda: hpkebatch.export(b"", 8161, to=PAIR.public, runner=command)),
-            ("size is -1", lambda: hpkebatch.export(b"", -1, to=PAIR.public, runner=command)),
-            ("enc has 1 bytes, and an encapsulation of sntrup761 has 1,039", lambda: hpkebatch.export(b"", 1, key=PAIR.secret, enc=b"x", runner=command)),
+            ("size is 8161", lambda: hpkebatch.export(b"", 8161, to=PAIR.public, runner=runner)),
+            ("size is -1", lambda: hpkebatch.export(b"", -1, to=PAIR.public, runner=runner)),
+            ("enc has 1 bytes, and an encapsulation of sntrup761 has 1,039", lambda: hpkebatch.export(b"", 1, key=PAIR.secret, enc=b"x", runner=runner)),
         ):
             with self.subTest(why), self.assertRaises(ValueError) as told:
                 call()
@@ -135,7 +135,7 @@ class OneCall(unittest.TestCase):
             ("a psk is bytes, not str", lambda: Psk("secret", b"name")),
             ("Sealed.from_bytes reads it", lambda: opened(seal([b""]).to_bytes())),
             ("isn't Sealed", lambda: opened([b"text"])),
-            ("label is text", lambda: hpkebatch.export("label", 1, to=PAIR.public, runner=command)),
+            ("label is text", lambda: hpkebatch.export("label", 1, to=PAIR.public, runner=runner)),
         ):
             with self.subTest(why), self.assertRaises(TypeError) as told:
                 call()
@@ -143,18 +143,18 @@ class OneCall(unittest.TestCase):
 
     def test_exports(self):
         for given in ({}, {"info": b"i", "psk": Psk(os.urandom(32), b"n"), "kdf": Kdf.HKDF_SHA384}):
-            sent = hpkebatch.export(b"label", 48, to=PAIR.public, runner=command, **given)
-            taken = hpkebatch.export(b"label", 48, key=PAIR.secret, enc=sent.enc, runner=command, **given)
-            other = hpkebatch.export(b"other", 48, key=PAIR.secret, enc=sent.enc, runner=command, **given)
+            sent = hpkebatch.export(b"label", 48, to=PAIR.public, runner=runner, **given)
+            taken = hpkebatch.export(b"label", 48, key=PAIR.secret, enc=sent.enc, runner=runner, **given)
+            other = hpkebatch.export(b"other", 48, key=PAIR.secret, enc=sent.enc, runner=runner, **given)
             self.assertEqual(sent, taken)
             self.assertNotEqual(sent.secret, other.secret)
         for wrong in ({}, {"to": PAIR.public, "key": PAIR.secret}, {"key": PAIR.secret}):
             with self.assertRaises(TypeError):
-                hpkebatch.export(b"", 1, runner=command, **wrong)
+                hpkebatch.export(b"", 1, runner=runner, **wrong)
 
     def test_nothing_secret_is_printed(self):
         sealed = seal([b"plain"])
-        exported = hpkebatch.export(b"", 32, to=PAIR.public, runner=command)
+        exported = hpkebatch.export(b"", 32, to=PAIR.public, runner=runner)
         for it in (PAIR, sealed, sealed.parts, exported):
             self.assertLess(len(repr(it)), 90)
         self.assertNotIn(bytes(PAIR.secret)[:4].hex(), repr(PAIR))
@@ -223,8 +223,8 @@ class OnFailure(unittest.TestCase):
         sealed[7], sealed[9] = with_part(sealed[7], 0, ciphertexts=(bytes(17),)), sealed[8]
         got = opened(sealed[:12], aads=aads[:12], on_failure="none")
         self.assertEqual([place for place, text in enumerate(got) if text is None], [7, 9])
-        eve = hpkebatch.generate_key(runner=command)
-        sealed[3] = hpkebatch.seal([b"3"], to=eve.public, runner=command)
+        eve = hpkebatch.generate_key(runner=runner)
+        sealed[3] = hpkebatch.seal([b"3"], to=eve.public, runner=runner)
         self.assertEqual(opened(sealed[:5], aads=aads[:5], on_failure="none"), [b"0", b"1", b"2", None, b"4"])
         with self.assertRaises(WrongKey):
             opened(sealed[:5], aads=aads[:5])

@@ -5,7 +5,7 @@ import subprocess
 import sys
 
 import hpkebatch
-from common import HOME, InAFolder, changed, command, needs_second_program, read, write
+from common import HOME, InAFolder, changed, command, needs_second_program, read, runner, write
 from hpkebatch import SNTRUP761, SNTRUP857, Aead, Kdf, Limits, Psk, Sealed, fingerprint
 
 READER = os.path.join(HOME, "tools/reference/sealed.py")
@@ -37,7 +37,7 @@ class TheExample(InAFolder):
     def test_the_messages(self):
         sealed = Sealed.from_bytes(read(f"{EXAMPLE}/letters.messages"))
         key = hpkebatch.read_secret_key(f"{EXAMPLE}/example.key")
-        messages = hpkebatch.open(sealed, key=key, info=b"order 7", runner=command)
+        messages = hpkebatch.open(sealed, key=key, info=b"order 7", runner=runner)
         self.assertEqual((messages, sealed.counts), ([b"Meet me at noon.", b"Bring the map."], [1, 1]))
         told = reader("open", f"{EXAMPLE}/example.key", f"{EXAMPLE}/letters.messages", "order 7").stdout
         self.assertEqual(told, b"".join(text.hex().encode() + b"\n" for text in messages))
@@ -48,7 +48,7 @@ class WhatIsSealedNow(InAFolder):
         psk = Psk(os.urandom(32), b"ours")
         write("psk", psk.secret)
         for kem, kdf, aead in ((SNTRUP761, Kdf.HKDF_SHA512, Aead.AES_128_GCM), (SNTRUP857, Kdf.HKDF_SHA384, Aead.AES_256_GCM)):
-            pair = hpkebatch.generate_key(kem, runner=command)
+            pair = hpkebatch.generate_key(kem, runner=runner)
             hpkebatch.write_pair(pair, kem.name)
             messages = [b"%d" % n * n for n in range(5)]
             suite = {"kdf": kdf, "aead": aead, "limits": Limits(items=12), "psk": psk, "info": b"i", "runner": command}
