@@ -3,14 +3,15 @@
 //!
 //! `tools/secrets` runs it under valgrind with the secrets marked as undefined, and compares the
 //! places where a branch or an address depends on them with those that `tools/secrets.allowed`
-//! names. The first word is the call; a call of the KEM has a parameter set and a multiplier behind
-//! it. Where the words or the number of bytes are no call's, nothing is written.
+//! names. The first word is the call; a call of sntrup's KEM has a parameter set and a multiplier
+//! behind it. Where the words or the number of bytes are no call's, nothing is written.
 //!
 //! Nothing is claimed of this program but that it is safe.
 #![tactic(auto)]
 
 mod chacha;
 mod ciphers;
+mod curve;
 mod kem;
 mod schedules;
 
@@ -49,6 +50,10 @@ fn main(rt: HostRuntime) -> io::Result<()> {
         "hmac512" => put(sink, schedules::hmac512(bytes)),
         "schedule128" => put(sink, schedules::schedule128(bytes)),
         "schedule256" => put(sink, schedules::schedule256(bytes)),
+        "x25519" => put(sink, curve::multiplied(bytes)),
+        "x25519_keygen" => put(sink, curve::generated(bytes)),
+        "x25519_encap" => put(sink, curve::encapsulated(bytes)),
+        "x25519_decap" => put(sink, curve::decapsulated(bytes)),
         call => match kem::answer(alloc, call, &words, bytes) {
             Some(made) => sink.write_all(made.as_slice()),
             None => Ok(()),
