@@ -36,6 +36,6 @@ is_live_reply plan keys contexts standing seen answers same set_up run given = r
   guesses = run.guesses;
   notes = answers.notes;
   allowed = run.allowed;
-  text_is = (λ i. concat (live_lines plan.version (line_count plan) answers.keys answers.contexts (run.lines i)
+  text_is = (λ i. concat (live_lines (line_count plan) answers.keys answers.contexts (run.lines i)
       answers.journals answers.notes));
 }

@@ -5,4 +5,3 @@ pub mod Numbering
 pub mod CallLines
 pub mod Pools
 pub mod Lanes
-pub mod VersionLines

@@ -1,6 +1,6 @@
 -- The reply that answers to a plan make up: the lines of the replies and guesses that its lanes were
 -- given, in the text that ReplyText and LiveText make of such lines.
-use Rattle.std.specs.Prelude.{ℕ, List, [], codes, ◌≡◌, ◌<◌, Bool, true, false, if◌then◌else◌, ◌∷◌, ◌++◌, length, take, drop, map, slice_get, Option, Some, filter}
+use Rattle.std.specs.Prelude.{ℕ, List, [], codes, ◌≡◌, ◌+◌, ◌<◌, Bool, true, false, if◌then◌else◌, ◌∷◌, ◌++◌, length, take, drop, map, slice_get, Option, Some, filter}
 use Rattle.call_places.specs.Spans.{span_bytes}
 use Rattle.batch_plans.specs.declared.replies.Reply.{Reply}
 use Rattle.batch_plans.specs.declared.replies.Reply.TheVariants.{Blank, Sealed, Opened, Failed, Limit, Exported, Refused, Added, Retired}
@@ -100,7 +100,7 @@ answers_text plan answers =
 -- the reply that these answers to a plan make up, whose notes are the table
 abbrev pub live_text : Plan → Answers → List ℕ
 live_text plan answers =
-    concat (live_lines plan.version (line_count plan) answers.keys answers.contexts
+    concat (live_lines (line_count plan) answers.keys answers.contexts
     (lanes_given plan.lanes answers.lanes) answers.journals answers.notes)
 
 -- ---- what can be printed

@@ -1,5 +1,4 @@
 pub mod KeyLines
-pub mod Versions
 pub mod Limits
 pub mod Names
 pub mod Calls

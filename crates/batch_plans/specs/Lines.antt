@@ -8,6 +8,7 @@ use Rattle.batch_plans.specs.declared.replies.KeyReply.TheVariants as keys
 use Rattle.batch_plans.specs.declared.replies.ContextReply.{ContextReply}
 use Rattle.batch_plans.specs.declared.replies.ContextReply.TheVariants as contexts
 use Rattle.batch_plans.specs.declared.replies.CallRefusal.{CallRefusal}
+use Rattle.batch_plans.specs.declared.replies.Reply.TheVariants.{Refused}
 use Rattle.batch_plans.specs.Words.{key_refusal_word, context_refusal_word, call_refusal_word}
 
 -- ---- keys and contexts

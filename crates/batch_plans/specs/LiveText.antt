@@ -39,13 +39,13 @@ table_lines notes = codes "table\n" ∷ map note_line notes
 
 -- ---- the whole text
 
--- The lines of a reply to a batch of this version whose first contexts, so many, are those of context
--- lines: its keys, these contexts, the lines of each lane's calls, the journals of these contexts and
--- of those that were added, and the table. An added context has no line of its own.
-unfoldable pub live_lines : ℕ → ℕ → List KeyReply → List ContextReply → List (List (List ℕ))
+-- The lines of a reply whose first contexts, so many, are those of context lines: its keys, these
+-- contexts, the lines of each lane's calls, the journals of these contexts and of those that were
+-- added, and the table. An added context has no line of its own.
+unfoldable pub live_lines : ℕ → List KeyReply → List ContextReply → List (List (List ℕ))
     → List (List Mark) → List Entry → List (List ℕ)
-live_lines version lines keys contexts lanes journals notes =
-    version_line version
+live_lines lines keys contexts lanes journals notes =
+    version_line 2
     ∷ setup_lines keys (take lines contexts)
     ++ all_lines (numbered lane_lines 0 lanes)
     ++ all_lines (numbered (journal_lines true) 0 (take lines journals))

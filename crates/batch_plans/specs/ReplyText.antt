@@ -1,6 +1,6 @@
 -- The text that a batch is answered with, a format of this program's own. It is its lines, one
 -- behind the other. Numbers are decimal without leading zeros.
-use Rattle.std.specs.Prelude.{ℕ, ◌+◌, Bool, true, false, List, [], ◌∷◌, ◌++◌, map, codes, decimal}
+use Rattle.std.specs.Prelude.{ℕ, ◌+◌, ◌==◌, Bool, true, false, List, [], ◌∷◌, ◌++◌, map, codes, decimal}
 use Rattle.std.specs.List.{concat, flat_map}
 use Rattle.call_places.specs.declared.entries.Mark.{Mark}
 use Rattle.field_text.specs.declared.faults.BadBatch.{BadBatch}
@@ -8,7 +8,6 @@ use Rattle.batch_plans.specs.declared.replies.KeyReply.{KeyReply}
 use Rattle.batch_plans.specs.declared.replies.ContextReply.{ContextReply}
 use Rattle.batch_plans.specs.Words.{reason_word}
 use Rattle.batch_plans.specs.Lines.{key_line, context_line}
-use Rattle.batch_plans.specs.Versions.{version_of}
 
 -- ---- lanes
 
@@ -18,12 +17,12 @@ lane_lines number calls = (codes "lane " ++ decimal number ++ codes "\n") ∷ ca
 
 -- ---- journals
 
--- ` STAMP`, where the version has stamps
+-- ` STAMP`, which version 1 doesn't print
 abbrev pub stamp_words : Bool → ℕ → List ℕ
 stamp_words true stamp = codes " " ++ decimal stamp
 stamp_words false stamp = []
 
--- `LANE CALL ITEM`, or `LANE CALL ITEM STAMP`
+-- `LANE CALL ITEM`, and in version 2 `LANE CALL ITEM STAMP`
 abbrev pub mark_line : Bool → Mark → List ℕ
 mark_line stamps m =
     decimal m.place.lane ++ codes " " ++ decimal m.place.call ++ codes " "
@@ -57,9 +56,8 @@ setup_text keys contexts = concat (setup_lines keys contexts)
 abbrev pub version_line : ℕ → List ℕ
 version_line version = codes "hpkebatch " ++ decimal version ++ codes "\n"
 
--- the journals of this version tell stamps
 abbrev pub has_stamps : ℕ → Bool
-has_stamps version = (version_of version).has_stamps
+has_stamps version = version == 2
 
 -- the lines of a reply to a batch of this version: its keys, its contexts, the lines of each lane's
 -- calls, and its journals

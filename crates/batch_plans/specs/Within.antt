@@ -1,6 +1,6 @@
 -- What every plan that is read keeps: its counts, and the numbers and spans of its lines. Sizes are in
 -- bytes.
-use Rattle.std.specs.Prelude.{ℕ, ◌≡◌, ◌+◌, ◌*◌, ◌<◌, ◌≤◌, ◌^◌, List, length, sum_by, All, Option, IsSome}
+use Rattle.std.specs.Prelude.{ℕ, ◌≡◌, ◌⊎◌, ◌+◌, ◌*◌, ◌<◌, ◌≤◌, ◌^◌, List, length, sum_by, All, Option, IsSome}
 use Rattle.call_places.specs.declared.spans.Span.{Span}
 use Rattle.call_places.specs.declared.spans.Item.{Item}
 use Rattle.call_places.specs.Spans.{IsInPool}
@@ -9,7 +9,6 @@ use Rattle.batch_plans.specs.declared.plan.KeyLine.{KeyLine}
 use Rattle.batch_plans.specs.declared.plan.KeySource.{KeySource}
 use Rattle.batch_plans.specs.declared.plan.KeySource.TheVariants as sources
 use Rattle.batch_plans.specs.KeyLines.{source_of}
-use Rattle.batch_plans.specs.Versions.{IsVersion}
 use Rattle.batch_plans.specs.declared.plan.EncField.{EncField}
 use Rattle.batch_plans.specs.declared.plan.EncField.TheVariants as encs
 use Rattle.batch_plans.specs.declared.plan.ContextKind.{ContextKind}
@@ -96,7 +95,7 @@ IsCallWithin items pool call = context_of call < first_name
 
 -- the counts of a plan, and each of its lines. The texts of its calls share no byte of the pool
 pub record IsWithinLimits (plan : Plan) : Type 0 where
-  pub version : IsVersion plan.version
+  pub version : (plan.version ≡ 1) ⊎ (plan.version ≡ 2)
   pub pool : length plan.pool ≤ most_input
   pub keys : length plan.keys ≤ most_keys
   pub contexts : length plan.contexts ≤ most_contexts

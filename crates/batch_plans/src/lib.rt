@@ -4,9 +4,6 @@
 //! lanes of calls (RFC 9180, 5.2 and 5.3). The bytes of its fields, except the seed's, are spans of
 //! one pool. `IsWithinLimits` of `specs/Within.antt` holds for every plan that a text spells.
 //!
-//! What parts one version of the batch text from another is asked in one place: [`versions`], over the
-//! records of `specs/Versions.antt`.
-//!
 //! A [`CallLine`] is taken apart in one place: [`kind_of`], [`context_of`], [`items_of`], [`size_of`]
 //! and [`keeps_guess`] say what a call is and has, whatever its form.
 //!
@@ -18,7 +15,8 @@
 //! The text that a batch is answered with is defined here as a list of its lines, a format of this
 //! program's own (docs/FORMAT.md). `specs/Words.antt` has the words of refusals and reasons,
 //! `specs/Lines.antt` the lines of keys, contexts, replies and guesses, `specs/ReplyText.antt` the
-//! whole text, and `specs/LiveText.antt` that of a plan whose lanes add and retire contexts. `specs/AnswersText.antt` has the text of given answers, and which of a lane's
+//! whole text, for version 1 and version 2, and `specs/LiveText.antt` that of a plan whose lanes add
+//! and retire contexts. `specs/AnswersText.antt` has the text of given answers, and which of a lane's
 //! replies belong to which call.
 //!
 //! A contract sees each list as the list of its items. Not here: which text spells a plan, which
@@ -40,7 +38,6 @@ mod plan;
 mod progress;
 mod replies;
 mod room;
-pub mod versions;
 
 pub use byte_strings::{ByteList, PlainList};
 pub use calls::{call_refusal, context_of, items_of, keeps_guess, kind_of, refusal_by, size_of};

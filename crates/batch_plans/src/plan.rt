@@ -25,7 +25,7 @@ pub type LaneLines = PlainList<PlainList<CallLine>>;
 /// A whole batch, as its text spells it.
 #[derive(Drop)]
 pub struct Plan {
-    /// The number of the batch text's version. [`versions`](crate::versions) says what it has.
+    /// The version of the batch text, 1 or 2.
     pub version: u8,
     /// The seed of all random bytes, where the batch gives one.
     pub seed: Option<[u8; 32]>,

@@ -58,6 +58,6 @@ is_live_reply plan keys contexts standing answers t = record {
   guesses = t.run.guesses;
   notes = answers.notes;
   allowed = t.run.allowed;
-  text_is = (λ i. concat (live_lines plan.version (line_count plan) (t.keys_are i) (t.contexts_are i)
+  text_is = (λ i. concat (live_lines (line_count plan) (t.keys_are i) (t.contexts_are i)
       (t.run.lines i) answers.journals answers.notes));
 }

@@ -70,7 +70,7 @@ pub fn tell_exchange<K: Sink>(
 {
     match answered {
         Ok(answers) => {
-            let outcome = tell_capsules(plan.plan.version, &answers, sink);
+            let outcome = tell_capsules(&answers, sink);
             drop(answers);
             outcome
         }

@@ -92,14 +92,14 @@ pub(crate) fn tell_live<K: Sink>(plan: &Plan, answers: &Answers, sink: &mut K) -
     end_of(print_live(plan, answers, sink), Outcome::Done)
 }
 
-/// Writes the replies to capsules of a batch of this version.
+/// Writes the replies to capsules.
 #[inline(never)]
-pub(crate) fn tell_capsules<K: Sink>(version: u8, answers: &CapsuleAnswers, sink: &mut K) -> Outcome
+pub(crate) fn tell_capsules<K: Sink>(answers: &CapsuleAnswers, sink: &mut K) -> Outcome
     ensures { Writes K.written K.faults sink.old sink.new
-        (Says Outcome.Done (capsules_text version answers.now.keys answers.now.replies)) result }
+        (Says Outcome.Done (capsules_text answers.now.keys answers.now.replies)) result }
 {
     end_of(
-        print_capsules(version, &answers.keys, answers.replies.as_slice(), sink),
+        print_capsules(&answers.keys, answers.replies.as_slice(), sink),
         Outcome::Done,
     )
 }

@@ -16,6 +16,6 @@ pub one_text_lem : OneKeySetUp → OneText
 one_text_lem one p text text' a b =
     let same = one_reply_lem one p a.keys b.keys a.replies b.replies a.are b.are in
     a.text_is
-    ∙ ap (λ (ks : List KeyReply). capsules_text p.plan.version ks a.replies) same.0
-    ∙ ap (λ (rs : List CapsuleReply). capsules_text p.plan.version b.keys rs) same.1
+    ∙ ap (λ (ks : List KeyReply). capsules_text ks a.replies) same.0
+    ∙ ap (λ (rs : List CapsuleReply). capsules_text b.keys rs) same.1
     ∙ sym b.text_is

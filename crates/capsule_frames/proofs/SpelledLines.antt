@@ -1,47 +1,59 @@
 -- The pieces of a capsule line are those of what it spells.
-use Rattle.std.proofs.Common.{◌≡◌, ◌≢◌, ℕ, ◌≤◌, true, false, List, [], ◌∷◌, length, codes, decimal, Ok, Err, refl, sym, ap, subst, ◌∙◌, lit<, arith}
+use Rattle.std.proofs.Common.{◌≡◌, ◌≢◌, ℕ, ◌≤◌, true, List, [], ◌∷◌, length, codes, decimal, Option, None, Some, ok_or, Ok, refl, sym, ap, subst, ◌∙◌, lit<, arith}
 use Rattle.std.specs.Prelude.{IsSome}
-use Rattle.hkdf_labelled.specs.Suites.{aead_id}
-use Rattle.hpke_context.specs.Calls.{encrypts}
+use Rattle.hkdf_labelled.specs.Suites.{aead_id, aead_named}
+use Rattle.hkdf_labelled.proofs.Numbers.{named_back}
 use Rattle.hkdf_labelled.specs.declared.suites.Aead.{Aead}
 use Rattle.hkdf_labelled.specs.declared.suites.Aead.TheVariants.{ExportOnly}
 use Rattle.field_text.specs.declared.reasons.Reason.TheVariants.{Range}
 use Rattle.field_text.specs.Fields.{number, bytes}
-use Rattle.field_text.proofs.Spellings.{ok_same, step_ok, choice_ok, next_ok, exactly_ok, number_ok, bytes_ok, IsFront, IsFront-then}
+use Rattle.field_text.proofs.Spellings.{ok_same, step_ok, word_ok, next_ok, exactly_ok, number_ok, bytes_ok, IsFront, IsFront-then}
 use Rattle.field_text.proofs.SpelledLines.{no_piece}
 use Rattle.batch_plans.specs.Limits.{most_field}
 use Rattle.request_frames.specs.KeyWords.{kdf}
 use Rattle.request_frames.specs.KeyForms.{message}
-use Rattle.request_frames.specs.Words.{aead}
-use Rattle.request_frames.proofs.SpelledFields.{aead_ok}
 use Rattle.request_frames.proofs.SpelledKeyFields.{kdf_ok, message_ok, piece_is, front_length, field_within}
+use Rattle.capsule_frames.specs.declared.words.LineWord.{LineWord}
 use Rattle.capsule_frames.specs.declared.words.LineWord.TheVariants.{Capsule}
 use Rattle.capsule_frames.specs.declared.words.CapsuleWord.{CapsuleWord}
 use Rattle.capsule_frames.specs.declared.words.CapsuleWord.TheVariants as words
 use Rattle.capsule_frames.specs.declared.lines.CapsuleLine.{CapsuleLine}
-use Rattle.capsule_frames.specs.Words.{word_text, draws}
+use Rattle.capsule_frames.specs.Words.{word_text, word_among, draws}
 use Rattle.capsule_frames.specs.Forms.{most_text, most_request, most_response, cipher, ask, answer, take_line, capsule}
 use Rattle.capsule_frames.specs.Capsules.{is_of}
 use Rattle.capsule_frames.specs.PlanText.{capsule_pieces}
 use Rattle.capsule_frames.specs.Within.{IsLineWithin}
 
+pub among_ok : (words : List LineWord) (piece : List ℕ) (word : LineWord)
+    → word_among words piece ≡ Ok word → word_text word ≡ piece
+among_ok [] piece word e = absurd cc
+among_ok (first ∷ more) piece word e =
+    word_ok (word_text first) piece first word (word_among more piece) _
+    (λ is same. ap word_text (sym same) ∙ sym is) (λ rest. among_ok more piece word rest) e
+
+-- ---- capsules
+
+some_named : (found : Option Aead) (value : Aead) → ok_or found Range ≡ Ok value → found ≡ Some value
+some_named None value e = absurd cc
+some_named (Some x) value e = cc
+
+-- the number of an export-only suite is none of 1 and 2
+encrypts : (id : ℕ) → 65535 ≡ id → id ≤ 2 → ⊥
+encrypts id e most = absurd (omega arith)
+
 record IsCipher (piece : List ℕ) (value : Aead) : Type 0 where
   spelled : decimal (aead_id value) ≡ piece
   can : value ≢ ExportOnly
 
-cipher_ok : (version : ℕ) (piece : List ℕ) (value : Aead) → cipher version piece ≡ Ok value → IsCipher piece value
-cipher_ok version piece value e =
-    let found = step_ok (aead version piece) _ value e in
-    choice_ok (encrypts found.0) (Ok found.0) (Err Range) value _
-    (λ can ok.
-    let same = ok_same found.0 value ok in
+cipher_ok : (piece : List ℕ) (value : Aead) → cipher piece ≡ Ok value → IsCipher piece value
+cipher_ok piece value e =
+    let found = step_ok (number 1 2 piece) _ value e in
+    let id = number_ok 1 2 piece found.0 (lit< tt) found.1 in
+    let back : aead_id value ≡ found.0 = named_back found.0 value (some_named (aead_named found.0) value found.2) in
     record {
-      spelled = ap (λ (aead : Aead). decimal (aead_id aead)) (sym same) ∙ aead_ok version piece found.0 found.1;
-      can = λ e.
-          let no : true ≡ false = sym can ∙ ap encrypts (same ∙ e) in
-          absurd cc;
-    })
-    (λ _ err. absurd cc) found.2
+      spelled = ap decimal back ∙ id.spelled;
+      can = λ e. encrypts found.0 (sym (ap aead_id e) ∙ back) id.most;
+    }
 
 -- a capsule line that was read: its kind, its pieces, and its limits
 pub record IsCapsule (old new : List ℕ) (word : CapsuleWord) (line : CapsuleLine)
@@ -52,10 +64,10 @@ pub record IsCapsule (old new : List ℕ) (word : CapsuleWord) (line : CapsuleLi
   pub within : (seed : Option (List ℕ)) (size : ℕ) → length new ≤ size
       → (draws (Capsule word) ≡ true → IsSome seed) → IsLineWithin seed size line
 
-ask_ok : (version : ℕ) (pool : List ℕ) (pieces : List (List ℕ)) (line : CapsuleLine) (new : List ℕ)
-    → ask version pool pieces ≡ Ok (line, new) → IsCapsule pool new words.Ask line (codes "ask" ∷ pieces)
+ask_ok : (pool : List ℕ) (pieces : List (List ℕ)) (line : CapsuleLine) (new : List ℕ)
+    → ask pool pieces ≡ Ok (line, new) → IsCapsule pool new words.Ask line (codes "ask" ∷ pieces)
 unfolding ask
-ask_ok version pool pieces line new e =
+ask_ok pool pieces line new e =
     let counted = exactly_ok 5 pieces _ (line, new) e in
     next_ok (number 0 65535) pieces _ (line, new) _
     (λ p1 key r1 cut1 read1 e.
@@ -63,13 +75,13 @@ ask_ok version pool pieces line new e =
     (λ p2 id r2 cut2 read2 e.
     next_ok kdf r2 _ (line, new) _
     (λ p3 kdf r3 cut3 read3 e.
-    next_ok (cipher version) r3 _ (line, new) _
+    next_ok cipher r3 _ (line, new) _
     (λ p4 aead r4 cut4 read4 e.
     next_ok (bytes most_text pool) r4 _ (line, new) _
     (λ p5 text r5 cut5 read5 e.
     let field1 = number_ok 0 65535 p1 key (lit< tt) read1 in
     let field2 = number_ok 0 255 p2 id (lit< tt) read2 in
-    let field4 = cipher_ok version p4 aead read4 in
+    let field4 = cipher_ok p4 aead read4 in
     let field5 = bytes_ok most_text pool p5 text read5 in
     let last : r5 ≡ [] = no_piece r5 (omega (
       arith,
@@ -193,9 +205,9 @@ take_ok pool pieces line new e =
     e)
     counted.1
 
-pub capsule_ok : (version : ℕ) (word : CapsuleWord) (pool : List ℕ) (pieces : List (List ℕ)) (line : CapsuleLine)
-    (new : List ℕ) → capsule version word pool pieces ≡ Ok (line, new)
+pub capsule_ok : (word : CapsuleWord) (pool : List ℕ) (pieces : List (List ℕ)) (line : CapsuleLine)
+    (new : List ℕ) → capsule word pool pieces ≡ Ok (line, new)
     → IsCapsule pool new word line (word_text (Capsule word) ∷ pieces)
-capsule_ok version words.Ask pool pieces line new e = ask_ok version pool pieces line new e
-capsule_ok version words.Answer pool pieces line new e = answer_ok pool pieces line new e
-capsule_ok version words.Take pool pieces line new e = take_ok pool pieces line new e
+capsule_ok words.Ask pool pieces line new e = ask_ok pool pieces line new e
+capsule_ok words.Answer pool pieces line new e = answer_ok pool pieces line new e
+capsule_ok words.Take pool pieces line new e = take_ok pool pieces line new e

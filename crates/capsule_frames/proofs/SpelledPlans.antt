@@ -1,23 +1,20 @@
 -- A text that was read is the text of its plan, which is within its limits: each line adds its own text
 -- to that of the plan, and keeps the plan within them.
-use Rattle.std.proofs.Common.{◌≡◌, ℕ, ◌+◌, ◌≤◌, ◌==◌, ◌&&◌, ◌||◌, not, Bool, true, false, List, [], ◌∷◌, ◌++◌, length, get_or, codes, Option, Ok, refl, sym, ap, subst, ◌∙◌, cond, append_assoc, append-nil, arith}
+use Rattle.std.proofs.Common.{◌≡◌, ℕ, ◌+◌, ◌≤◌, ◌==◌, ◌&&◌, ◌||◌, not, Bool, true, false, List, [], ◌∷◌, ◌++◌, length, get_or, codes, Option, Ok, Err, refl, sym, ap, subst, ◌∙◌, inr, cond, append_assoc, append-nil, arith}
 use Rattle.std.specs.Prelude.{IsSome, is_some}
 use Rattle.std.specs.List.{All, flat_map}
 use Rattle.std.proofs.lemmas.Bool.{cond-true, cond-false, eqb-true, and_parts}
 use Rattle.std.proofs.lemmas.List.Sums.{sum_by_push}
 use Rattle.std.proofs.lemmas.List.Elements.{All-nil, All-push}
+use Rattle.field_text.specs.declared.reasons.Reason.TheVariants as reasons
 use Rattle.field_text.specs.Cuts.{line_text}
 use Rattle.field_text.specs.Lines.{front, whole}
-use Rattle.field_text.proofs.Spellings.{ok_same, step_ok, IsFront, IsFront-same, IsFront-then}
+use Rattle.field_text.proofs.Spellings.{ok_same, step_ok, word_ok, IsFront, IsFront-same, IsFront-then}
 use Rattle.field_text.proofs.SpelledLines.{IsSpelling, text_read}
 use Rattle.batch_plans.specs.Limits.{most_input, most_keys}
-use Rattle.batch_plans.specs.ReplyText.{version_line}
-use Rattle.batch_plans.specs.Versions.{IsVersion, stamped_versions, first_line, number_among}
-use Rattle.batch_plans.proofs.VersionLines.{stamped_ok}
 use Rattle.request_frames.specs.declared.key_words.KeyWord.{KeyWord}
 use Rattle.request_frames.specs.KeyForms.{rand, key}
 use Rattle.request_frames.specs.KeyText.{seed_text, key_text}
-use Rattle.request_frames.proofs.SpelledFields.{among_ok}
 use Rattle.request_frames.proofs.SpelledKeyFields.{front_length}
 use Rattle.request_frames.proofs.SpelledKeys.{rand_ok, key_ok}
 use Rattle.request_frames.proofs.MoreLines.{field_grown, message_grown, last_more, before_none, texts_none, counted_ok, seed_given, no_seed}
@@ -29,12 +26,12 @@ use Rattle.capsule_frames.specs.declared.words.CapsuleWord.TheVariants as words
 use Rattle.capsule_frames.specs.declared.lines.CapsuleLine.{CapsuleLine}
 use Rattle.capsule_frames.specs.declared.lines.CapsuleLine.TheVariants.{Ask, Answer, Take}
 use Rattle.capsule_frames.specs.declared.lines.CapsulePlan.{CapsulePlan}
-use Rattle.capsule_frames.specs.Words.{word_text, words_of, draws}
+use Rattle.capsule_frames.specs.Words.{word_text, line_words, draws}
 use Rattle.capsule_frames.specs.Forms.{capsule, most_text, most_request, most_response}
 use Rattle.capsule_frames.specs.Capsules.{is_bare, may_stand, most_lines, is_of, count_of, with_rand, with_key, with_capsule, with_line, empty, header, capsule_lines, capsules, Spells}
 use Rattle.capsule_frames.specs.PlanText.{capsule_text, text_of}
 use Rattle.capsule_frames.specs.Within.{IsLineWithin, IsWithin}
-use Rattle.capsule_frames.proofs.SpelledLines.{capsule_ok}
+use Rattle.capsule_frames.proofs.SpelledLines.{among_ok, capsule_ok}
 
 -- ---- limits, over a pool that is as long
 
@@ -102,7 +99,6 @@ body pool p =
 -- a line adds its text at the end of the plan's lines, whatever the pool grows to, and keeps the plan
 -- within its limits
 record Adds (p new : CapsulePlan) (text : List ℕ) : Type 0 where
-  version : new.plan.version ≡ p.plan.version
   grown : IsFront p.plan.pool new.plan.pool
   added : (whole : List ℕ) → IsFront new.plan.pool whole → body whole new ≡ body whole p ++ text
   built : length new.plan.pool ≤ most_input → IsBuilt p → IsBuilt new
@@ -117,7 +113,6 @@ rand_adds p new pieces bare e =
     let front = and_parts (not (is_some p.plan.seed)) (length p.plan.keys == 0) parts.0 in
     let line = line_text (codes "rand" ∷ pieces) in
     subst (λ (new : CapsulePlan). Adds p new line) (ok_same _ _ found.2) record {
-      version = refl;
       grown = IsFront-same p.plan.pool;
       added = λ whole h.
           before_none _ _ _ (flat_map (capsule_text whole) p.lines)
@@ -147,7 +142,6 @@ key_adds word p new pieces place given e =
     let long = front_length p.plan.pool found.0.1 line.grown in
     subst (λ (new : CapsulePlan). Adds p new (line_text (word_text (Key word) ∷ pieces)))
     (ok_same _ _ count.1) record {
-      version = refl;
       grown = line.grown;
       added = λ whole h.
           let same : key_text whole found.0.0 ≡ line_text (word_text (Key word) ∷ pieces) =
@@ -172,13 +166,12 @@ capsule_adds : (word : CapsuleWord) (p new : CapsulePlan) (pieces : List (List �
     → Adds p new (line_text (word_text (Capsule word) ∷ pieces))
 unfolding with_capsule
 capsule_adds word p new pieces given e =
-    let found = step_ok (capsule p.plan.version word p.plan.pool pieces) _ new e in
+    let found = step_ok (capsule word p.plan.pool pieces) _ new e in
     let count = counted_ok most_lines (count_of word p.lines + 1) _ new found.2 in
-    let line = capsule_ok p.plan.version word p.plan.pool pieces found.0.0 found.0.1 found.1 in
+    let line = capsule_ok word p.plan.pool pieces found.0.0 found.0.1 found.1 in
     let long = front_length p.plan.pool found.0.1 line.grown in
     subst (λ (new : CapsulePlan). Adds p new (line_text (word_text (Capsule word) ∷ pieces)))
     (ok_same _ _ count.1) record {
-      version = refl;
       grown = line.grown;
       added = λ whole h.
           last_more (seed_text p.plan.seed ++ flat_map (key_text whole) p.plan.keys)
@@ -213,7 +206,6 @@ line_adds (Capsule word) p new pieces stands e =
 adds_then : (p new final : CapsulePlan) (line text : List ℕ) → Adds p new line → Adds new final text
     → Adds p final (line ++ text)
 adds_then p new final line text first more = record {
-  version = more.version ∙ first.version;
   grown = IsFront-then p.plan.pool new.plan.pool final.plan.pool first.grown more.grown;
   added = λ whole h.
       more.added whole h
@@ -228,7 +220,6 @@ adds_then p new final line text first more = record {
 spelling : IsSpelling capsule_lines Adds
 spelling = record {
   none = λ p. record {
-    version = refl;
     grown = IsFront-same p.plan.pool;
     added = λ whole h. sym (append-nil (body whole p));
     built = λ small h. h;
@@ -236,14 +227,23 @@ spelling = record {
   line = λ word p new final piece pieces text named stands read more.
       adds_then p new final (line_text (piece ∷ pieces)) text
       (subst (λ (piece : List ℕ). Adds p new (line_text (piece ∷ pieces)))
-      (among_ok word_text (words_of p.plan.version) piece word named) (line_adds word p new pieces stands read)) more;
+      (among_ok line_words piece word named) (line_adds word p new pieces stands read)) more;
 }
 
 -- ---- the whole text
 
-empty_built : (version : ℕ) → IsVersion version → IsBuilt (empty version)
-empty_built version is = record {
-  plan = growth.empty version is;
+record IsHeader (line : List ℕ) (p : CapsulePlan) : Type 0 where
+  is : line ≡ codes "hpkebatch 2"
+  same : empty ≡ p
+
+header_ok : (line : List ℕ) (p : CapsulePlan) → header line ≡ Ok p → IsHeader line p
+header_ok line p e =
+    word_ok (codes "hpkebatch 2") line empty p (Err reasons.Header) _
+    (λ is same. record { is = is; same = same }) (λ err. absurd cc) e
+
+empty_built : IsBuilt empty
+empty_built = record {
+  plan = growth.empty 2 (inr refl);
   no_context = refl;
   kinds = elim [
     | words.Ask ↦ omega arith
@@ -252,22 +252,6 @@ empty_built version is = record {
   ];
   lines = All-nil _;
 }
-
--- the first line of a version: the plan has no line yet
-record IsHeader (line : List ℕ) (p : CapsulePlan) : Type 0 where
-  is : line ≡ first_line p.plan.version
-  nothing : (pool : List ℕ) → body pool p ≡ []
-  built : IsBuilt p
-
-header_ok : (line : List ℕ) (p : CapsulePlan) → header line ≡ Ok p → IsHeader line p
-header_ok line p e =
-    let found = step_ok (number_among stamped_versions line) _ p e in
-    let read = stamped_ok line found.0 found.1 in
-    subst (IsHeader line) (ok_same _ _ found.2) record {
-      is = read.0;
-      nothing = λ pool. refl;
-      built = empty_built found.0 read.1.one;
-    }
 
 -- the parts of a text
 text_parts : (a b c d e : List ℕ) → ((a ++ ((b ++ c) ++ d)) ++ e) ++ [] ≡ (((a ++ b) ++ c) ++ d) ++ e
@@ -283,20 +267,19 @@ whole_read : (text : List ℕ) (p : CapsulePlan) → whole (front capsule_lines 
 whole_read text p e =
     let read = text_read capsule_lines Adds spelling most_input text p e in
     let first = header_ok read.header read.start read.first in
+    let adds : Adds empty p read.body =
+    subst (λ (start : CapsulePlan). Adds start p read.body) (sym first.same) read.adds in
     let pool = p.plan.pool in
-    let line : read.header ≡ first_line p.plan.version = first.is ∙ ap first_line (sym read.adds.version) in
-    let added : body pool p ≡ read.body =
-    read.adds.added pool (IsFront-same pool)
-    ∙ ap (λ (front : List ℕ). front ++ read.body) (first.nothing pool) in
+    let added : body pool p ≡ read.body = adds.added pool (IsFront-same pool) in
     record {
       text_is =
           read.parts
           ∙ ap (λ (line : List ℕ). (((line ++ codes "\n") ++ read.body) ++ codes "end\n") ++ [])
-          line
-          ∙ ap (λ (body : List ℕ). ((version_line p.plan.version ++ body) ++ codes "end\n") ++ []) (sym added)
-          ∙ text_parts (version_line p.plan.version) (seed_text p.plan.seed)
+          first.is
+          ∙ ap (λ (body : List ℕ). ((codes "hpkebatch 2\n" ++ body) ++ codes "end\n") ++ []) (sym added)
+          ∙ text_parts (codes "hpkebatch 2\n") (seed_text p.plan.seed)
           (flat_map (key_text pool) p.plan.keys) (flat_map (capsule_text pool) p.lines) (codes "end\n");
-      limits = λ small. is_within p (read.adds.built small first.built);
+      limits = λ small. is_within p (adds.built small empty_built);
     }
 
 pub text_back : (text : List ℕ) (p : CapsulePlan) → Spells text p → text ≡ text_of p

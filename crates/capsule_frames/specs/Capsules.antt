@@ -1,13 +1,14 @@
 -- A batch of capsules: which bytes spell which plan, and which line of all other bytes is the first
 -- bad one, with its first reason. How a text of lines is judged says `Lines.antt` of field_text;
 -- here stands which lines there are, and what each adds to the plan of the lines before it.
-use Rattle.std.specs.Prelude.{◌≡◌, ℕ, ◌+◌, ◌==◌, ◌&&◌, ◌||◌, not, Bool, true, false, List, [], ◌∷◌, ◌++◌, length, count_by, Some, is_some, Result, Ok}
+use Rattle.std.specs.Prelude.{◌≡◌, ℕ, ◌+◌, ◌==◌, ◌&&◌, ◌||◌, not, Bool, true, false, List, [], ◌∷◌, ◌++◌, length, count_by, Some, is_some, codes, Result, Ok, Err, if◌then◌else◌}
+use Rattle.std.specs.Str.{bytes_eq}
 use Rattle.field_text.specs.declared.reasons.Reason.{Reason}
+use Rattle.field_text.specs.declared.reasons.Reason.TheVariants as reasons
 use Rattle.field_text.specs.Fields.{◌>>=◌}
 use Rattle.field_text.specs.Lines.{Grammar, bad, front, whole}
 use Rattle.field_text.specs.declared.faults.BadBatch.{BadBatch}
 use Rattle.batch_plans.specs.Limits.{most_input, most_keys}
-use Rattle.batch_plans.specs.Versions.{stamped_versions, number_among}
 use Rattle.request_frames.specs.declared.key_words.KeyWord.{KeyWord}
 use Rattle.request_frames.specs.KeyForms.{rand, key, at_most}
 use Rattle.request_frames.specs.Batch.{empty_plan}
@@ -70,7 +71,7 @@ with_key p word pieces = do
 -- a capsule line. Each kind is counted by itself
 unfoldable pub with_capsule : CapsulePlan → CapsuleWord → List (List ℕ) → Result CapsulePlan Reason
 with_capsule p word pieces = do
-  (line, pool) ← capsule p.plan.version word p.plan.pool pieces
+  (line, pool) ← capsule word p.plan.pool pieces
   count ← at_most most_lines (count_of word p.lines + 1)
   Ok (record { plan = record p.plan { pool = pool }; lines = p.lines ++ line ∷ [] })
 
@@ -83,21 +84,19 @@ with_line p (Capsule word) pieces = with_capsule p word pieces
 -- ---- the whole text
 
 -- the plan of the first line alone: without contexts, items and lanes
-abbrev pub empty : ℕ → CapsulePlan
-empty version = record { plan = empty_plan version; lines = [] }
+abbrev pub empty : CapsulePlan
+empty = record { plan = empty_plan 2; lines = [] }
 
--- the first line: that of a version with stamps
+-- the first line
 abbrev pub header : List ℕ → Result CapsulePlan Reason
-header line = do
-  version ← number_among stamped_versions line
-  Ok (empty version)
+header line = if bytes_eq line (codes "hpkebatch 2") then Ok empty else Err reasons.Header
 
 -- the lines of a batch of capsules
 abbrev pub capsule_lines : Grammar CapsulePlan LineWord
 capsule_lines =
     record {
       header = header;
-      word = λ p piece. line_word p.plan.version piece;
+      word = λ p piece. line_word piece;
       may_stand = may_stand;
       with_line = with_line;
     }

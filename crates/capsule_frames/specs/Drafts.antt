@@ -8,7 +8,7 @@ abbrev pub plan_of : CapsuleDraft → CapsulePlan
 plan_of d =
     record {
       plan = record {
-        version = d.version;
+        version = 2;
         seed = d.seed;
         pool = d.pool.items;
         keys = d.keys.items;

@@ -1,15 +1,14 @@
 -- The capsule lines of a batch without their first word: what each one spells. The bytes of each
 -- bytes field go to the end of the pool in turn.
-use Rattle.std.specs.Prelude.{ℕ, List, Result, Ok, Err, if◌then◌else◌}
+use Rattle.std.specs.Prelude.{ℕ, List, Result, Ok, ok_or}
 use Rattle.hkdf_labelled.specs.declared.suites.Aead.{Aead}
-use Rattle.hpke_context.specs.Calls.{encrypts}
+use Rattle.hkdf_labelled.specs.Suites.{aead_named}
 use Rattle.field_text.specs.declared.reasons.Reason.{Reason}
 use Rattle.field_text.specs.declared.reasons.Reason.TheVariants.{Range}
 use Rattle.field_text.specs.Fields.{◌>>=◌, next, exactly, number, bytes}
 use Rattle.batch_plans.specs.Limits.{most_field}
 use Rattle.request_frames.specs.KeyWords.{kdf}
 use Rattle.request_frames.specs.KeyForms.{message}
-use Rattle.request_frames.specs.Words.{aead}
 use Rattle.capsule_frames.specs.declared.words.CapsuleWord.{CapsuleWord}
 use Rattle.capsule_frames.specs.declared.words.CapsuleWord.TheVariants as words
 use Rattle.capsule_frames.specs.declared.lines.CapsuleLine.{CapsuleLine}
@@ -27,20 +26,20 @@ most_request = 1049783
 abbrev pub most_response : ℕ
 most_response = 1048624
 
--- AEAD: aead_id (RFC 9180, 7.3) of those of the version that encrypt
-abbrev pub cipher : ℕ → List ℕ → Result Aead Reason
-cipher version piece = do
-  aead ← aead version piece
-  if encrypts aead then Ok aead else Err Range
+-- AEAD: aead_id (RFC 9180, 7.3) of those that encrypt
+abbrev pub cipher : List ℕ → Result Aead Reason
+cipher piece = do
+  id ← number 1 2 piece
+  ok_or (aead_named id) Range
 
 -- `ask KEY ID KDF AEAD TEXT`
-unfoldable pub ask : ℕ → List ℕ → List (List ℕ) → Result (CapsuleLine × List ℕ) Reason
-ask version pool pieces = do
+unfoldable pub ask : List ℕ → List (List ℕ) → Result (CapsuleLine × List ℕ) Reason
+ask pool pieces = do
   pieces ← exactly 5 pieces
   (key, pieces) ← next (number 0 65535) pieces
   (id, pieces) ← next (number 0 255) pieces
   (kdf, pieces) ← next kdf pieces
-  (aead, pieces) ← next (cipher version) pieces
+  (aead, pieces) ← next cipher pieces
   (text, pieces) ← next (bytes most_text pool) pieces
   Ok (Ask key id kdf aead text.span, text.pool)
 
@@ -63,9 +62,8 @@ take_line pool pieces = do
   ((response, pool), pieces) ← next (message most_response pool) pieces
   Ok (Take ask response, pool)
 
--- a capsule line of each word, in a text of this version
-abbrev pub capsule : ℕ → CapsuleWord
-    → List ℕ → List (List ℕ) → Result (CapsuleLine × List ℕ) Reason
-capsule version words.Ask pool pieces = ask version pool pieces
-capsule version words.Answer pool pieces = answer pool pieces
-capsule version words.Take pool pieces = take_line pool pieces
+-- a capsule line of each word
+abbrev pub capsule : CapsuleWord → List ℕ → List (List ℕ) → Result (CapsuleLine × List ℕ) Reason
+capsule words.Ask pool pieces = ask pool pieces
+capsule words.Answer pool pieces = answer pool pieces
+capsule words.Take pool pieces = take_line pool pieces

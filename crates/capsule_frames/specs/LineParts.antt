@@ -16,8 +16,8 @@ key_parts pieces = do
   Ok ((key, id), pieces)
 
 -- `KDF AEAD`
-abbrev pub suite_parts : ℕ → List (List ℕ) → Result ((Kdf × Aead) × List (List ℕ)) Reason
-suite_parts version pieces = do
+abbrev pub suite_parts : List (List ℕ) → Result ((Kdf × Aead) × List (List ℕ)) Reason
+suite_parts pieces = do
   (kdf, pieces) ← next kdf pieces
-  (aead, pieces) ← next (cipher version) pieces
+  (aead, pieces) ← next cipher pieces
   Ok ((kdf, aead), pieces)

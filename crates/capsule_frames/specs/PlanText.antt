@@ -5,7 +5,6 @@ use Rattle.std.specs.Prelude.{ℕ, List, [], ◌∷◌, ◌++◌, codes, decimal
 use Rattle.std.specs.List.{flat_map}
 use Rattle.hkdf_labelled.specs.Suites.{kdf_id, aead_id}
 use Rattle.field_text.specs.Cuts.{line_text}
-use Rattle.batch_plans.specs.ReplyText.{version_line}
 use Rattle.request_frames.specs.KeyText.{span_text, enc_text, seed_text, key_text}
 use Rattle.capsule_frames.specs.declared.lines.CapsuleLine.{CapsuleLine}
 use Rattle.capsule_frames.specs.declared.lines.CapsuleLine.TheVariants.{Ask, Answer, Take}
@@ -40,7 +39,7 @@ capsule_text pool line = line_text (capsule_pieces pool line)
 -- the whole text
 abbrev pub text_of : CapsulePlan → List ℕ
 text_of p =
-    version_line p.plan.version
+    codes "hpkebatch 2\n"
     ++ seed_text p.plan.seed
     ++ flat_map (key_text p.plan.pool) p.plan.keys
     ++ flat_map (capsule_text p.plan.pool) p.lines

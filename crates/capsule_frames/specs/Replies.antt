@@ -80,4 +80,4 @@ pub record IsCapsuleReply (p : CapsulePlan) (text : List ℕ) : Type 0 where
   pub keys : List KeyReply
   pub replies : List CapsuleReply
   pub are : AreReplies p keys replies
-  pub text_is : text ≡ capsules_text p.plan.version keys replies
+  pub text_is : text ≡ capsules_text keys replies

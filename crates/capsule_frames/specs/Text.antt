@@ -4,7 +4,7 @@ use Rattle.std.specs.Prelude.{ℕ, List, [], ◌++◌, map, codes}
 use Rattle.std.specs.List.{concat}
 use Rattle.field_text.specs.Printing.{hex_text}
 use Rattle.batch_plans.specs.declared.replies.KeyReply.{KeyReply}
-use Rattle.batch_plans.specs.ReplyText.{setup_text, version_line}
+use Rattle.batch_plans.specs.ReplyText.{setup_text}
 use Rattle.capsule_frames.specs.declared.replies.CapsuleRefusal.{CapsuleRefusal}
 use Rattle.capsule_frames.specs.declared.replies.CapsuleRefusal.TheVariants as refusals
 use Rattle.capsule_frames.specs.declared.replies.CapsuleReply.{CapsuleReply}
@@ -37,8 +37,7 @@ capsule_line reply = capsule_words reply ++ codes "\n"
 abbrev pub replies_text : List CapsuleReply → List ℕ
 replies_text replies = concat (map capsule_line replies) ++ codes "end\n"
 
--- the whole reply to a batch of this version: the replies to keys, each numbered, and those to
--- capsule lines
-abbrev pub capsules_text : ℕ → List KeyReply → List CapsuleReply → List ℕ
-capsules_text version keys replies =
-    version_line version ++ (setup_text keys [] ++ replies_text replies)
+-- the whole reply: the replies to keys, each numbered, and those to capsule lines
+abbrev pub capsules_text : List KeyReply → List CapsuleReply → List ℕ
+capsules_text keys replies =
+    codes "hpkebatch 2\n" ++ (setup_text keys [] ++ replies_text replies)

@@ -13,7 +13,7 @@ use crate::lines::{CapsuleLine, CapsulePlan};
 use crate::words::{CapsuleWord, LineWord};
 use crate::{forms, words};
 use batch_plans::limits::{MOST_INPUT, MOST_KEYS};
-use batch_plans::{KeyLine, PlainList, Plan, versions};
+use batch_plans::{KeyLine, PlainList, Plan};
 use field_text::{Draft, Pieces, Reason, Stop};
 use request_frames::{KeyWord, read_key, read_rand};
 use std::alloc::Global;
@@ -25,7 +25,6 @@ const MOST_LINES: usize = 256;
 #[derive(Drop)]
 pub struct CapsuleDraft {
     alloc: Global,
-    version: u8,
     seed: Option<[u8; 32]>,
     pool: Vec<u8>,
     keys: Vec<KeyLine>,
@@ -61,13 +60,12 @@ fn push_within<T: Drop>(list: &mut Vec<T>, last: T, count: usize, most: usize) -
 }
 
 impl CapsuleDraft {
-    fn empty(alloc: Global, version: u8) -> CapsuleDraft
-        ensures plan { plan_of result ≡ empty version }
+    fn empty(alloc: Global) -> CapsuleDraft
+        ensures plan { plan_of result ≡ empty }
         ensures kept { IsKept result }
     {
         CapsuleDraft {
             alloc,
-            version,
             seed: None,
             pool: Vec::new(alloc),
             keys: Vec::new(alloc),
@@ -131,7 +129,7 @@ impl CapsuleDraft {
         ensures size { OnOk result
             (vec_len self.new.pool ≤ vec_len self.old.pool + sum_by length fields.old) }
     {
-        let line = forms::capsule(self.version, word, &mut self.pool, fields)?;
+        let line = forms::capsule(word, &mut self.pool, fields)?;
         let count = count_of(word, &self.lines);
         push_within(&mut self.lines, line, count, MOST_LINES)
     }
@@ -143,7 +141,7 @@ impl CapsuleDraft {
         let alloc = self.alloc;
         CapsulePlan {
             plan: Plan {
-                version: self.version,
+                version: 2,
                 seed: self.seed,
                 pool: PlainList::from_vec(self.pool),
                 keys: PlainList::from_vec(self.keys),
@@ -180,12 +178,15 @@ impl Draft for CapsuleDraft {
     ghost kept = { IsKept };
 
     fn begin(alloc: Global, header: &[u8]) -> Result<CapsuleDraft, Reason> {
-        let version = versions::read_stamped_version(header)?;
-        Ok(CapsuleDraft::empty(alloc, version))
+        if header == b"hpkebatch 2".as_slice() {
+            Ok(CapsuleDraft::empty(alloc))
+        } else {
+            Err(Reason::Header)
+        }
     }
 
     fn word(&self, piece: &[u8]) -> Result<LineWord, Reason> {
-        words::line_word(self.version, piece)
+        words::line_word(piece)
     }
 
     fn may_stand(&self, word: LineWord) -> bool {

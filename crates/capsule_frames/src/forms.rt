@@ -35,26 +35,25 @@ fn key_parts(fields: &mut Pieces) -> Result<(u32, u8), Reason>
 }
 
 // `KDF AEAD`
-fn suite_parts(version: u8, fields: &mut Pieces) -> Result<(Kdf, Aead), Reason>
-    ensures read { Reads (λ parts. (parts, fields.new)) result
-        (suite_parts_of version fields.old) }
+fn suite_parts(fields: &mut Pieces) -> Result<(Kdf, Aead), Reason>
+    ensures read { Reads (λ parts. (parts, fields.new)) result (suite_parts_of fields.old) }
     ensures size { OnOk result (sum_by length fields.new ≤ sum_by length fields.old) }
 {
     let kdf = read_kdf(fields)?;
-    let aead = words::cipher(version, fields)?;
+    let aead = words::cipher(fields)?;
     Ok((kdf, aead))
 }
 
 // `ask KEY ID KDF AEAD TEXT`
 #[tactic(auto, unfolding(crate::specs::Forms::ask))]
-fn ask(version: u8, pool: &mut Vec<u8>, fields: &mut Pieces) -> Result<CapsuleLine, Stop>
+fn ask(pool: &mut Vec<u8>, fields: &mut Pieces) -> Result<CapsuleLine, Stop>
     requires room { vec_len pool.old + sum_by length fields.old < 2 ^ 32 }
     ensures read { Gives (λ line. (line, pool.new.items)) result
-        (ask_of version pool.old.items fields.old) }
+        (ask_of pool.old.items fields.old) }
     ensures size { OnOk result (vec_len pool.new ≤ vec_len pool.old + sum_by length fields.old) }
 {
     let (key, id) = key_parts(fields)?;
-    let (kdf, aead) = suite_parts(version, fields)?;
+    let (kdf, aead) = suite_parts(fields)?;
     let text = fields.bytes(pool, MOST_TEXT)?;
     Ok(CapsuleLine::Ask {
         key,
@@ -100,20 +99,19 @@ fn take(pool: &mut Vec<u8>, fields: &mut Pieces) -> Result<CapsuleLine, Stop>
     Ok(CapsuleLine::Take { ask, response })
 }
 
-/// A capsule line of this word, in a text of this version.
+/// A capsule line of this word.
 pub fn capsule(
-    version: u8,
     word: CapsuleWord,
     pool: &mut Vec<u8>,
     fields: &mut Pieces,
 ) -> Result<CapsuleLine, Stop>
     requires room { vec_len pool.old + sum_by length fields.old < 2 ^ 32 }
     ensures read { Gives (λ line. (line, pool.new.items)) result
-        (capsule_of version word pool.old.items fields.old) }
+        (capsule_of word pool.old.items fields.old) }
     ensures size { OnOk result (vec_len pool.new ≤ vec_len pool.old + sum_by length fields.old) }
 {
     match word {
-        CapsuleWord::Ask => ask(version, pool, fields),
+        CapsuleWord::Ask => ask(pool, fields),
         CapsuleWord::Answer => answer(pool, fields),
         CapsuleWord::Take => take(pool, fields),
     }

@@ -2,7 +2,7 @@
 //!
 //! The batch text says what to ask, answer and take; the reply text has the results. Both are formats
 //! of this program's own, beside those of request_frames. A batch of capsules has the seed and key
-//! lines of a batch of its version, and then lines `ask`, `answer` and `take`. [`read_capsules`] answers
+//! lines of a batch of version 2, and then lines `ask`, `answer` and `take`. [`read_capsules`] answers
 //! the [`CapsulePlan`] that a text spells by `capsules` of `specs/Capsules.antt`, or its first bad line
 //! and that line's first reason. [`one_reading`] says that each text has just one of these, and
 //! [`one_spelling`] that a plan's text is `text_of` of `specs/PlanText.antt` and no other.

@@ -13,7 +13,7 @@ use crate::replies::{CapsuleRefusal, CapsuleReply};
 use batch_io::Sink;
 use batch_plans::KeyReplies;
 use field_text::{Buffer, Printed};
-use reply_frames::{put_keys, put_numbered};
+use reply_frames::put_keys;
 
 fn word_of_refusal(refusal: CapsuleRefusal) -> &'static [u8]
     ensures { result.now ≡ refusal_word refusal }
@@ -75,39 +75,33 @@ fn put_lines<K: Sink>(out: &mut Buffer, sink: &mut K, replies: &[CapsuleReply])
 fn put_capsules<K: Sink>(
     out: &mut Buffer,
     sink: &mut K,
-    version: u8,
     keys: &KeyReplies,
     replies: &[CapsuleReply],
 )
     ensures { Puts K.written K.faults sink.old sink.new out.old out.new
-        (capsules_text version keys.now replies.now) }
+        (capsules_text keys.now replies.now) }
 {
-    put_numbered(out, sink, b"hpkebatch ", version as u64);
+    out.put_text(sink, b"hpkebatch 2\n");
     put_keys(out, sink, keys.as_slice());
     put_lines(out, sink, replies);
     out.put_text(sink, b"end\n")
 }
 
-/// Writes the reply to a batch of capsules of this version: its keys, and its capsule lines in the
-/// order of the batch.
+/// Writes the reply to a batch of capsules: its keys, and its capsule lines in the order of the
+/// batch.
 ///
 /// Takes no memory. Once a write failed nothing more is written.
-pub fn print_capsules<K: Sink>(
-    version: u8,
-    keys: &KeyReplies,
-    replies: &[CapsuleReply],
-    sink: &mut K,
-) -> Printed
+pub fn print_capsules<K: Sink>(keys: &KeyReplies, replies: &[CapsuleReply], sink: &mut K) -> Printed
     ensures whole { result ≡ Printed.Whole
-        → Appends (K.written sink.old) (K.written sink.new) (capsules_text version keys.now replies.now) }
+        → Appends (K.written sink.old) (K.written sink.new) (capsules_text keys.now replies.now) }
     ensures no_fault { result ≡ Printed.Whole → K.faults sink.new ≡ K.faults sink.old }
     ensures cut { result ≡ Printed.Failed
         → AppendsPrefix (K.written sink.old) (K.written sink.new)
-        (capsules_text version keys.now replies.now) }
+        (capsules_text keys.now replies.now) }
     ensures failed { result ≡ Printed.Failed → Rose (K.faults sink.old) (K.faults sink.new) }
     ensures later { K.faults sink.old ≤ K.faults sink.new }
 {
     let mut out = Buffer::new();
-    put_capsules(&mut out, sink, version, keys, replies);
+    put_capsules(&mut out, sink, keys, replies);
     out.finish(sink)
 }

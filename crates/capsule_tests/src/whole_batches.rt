@@ -118,12 +118,7 @@ fn hash_of_reply<R: Threads + Abort + Sync>(
     // The largest reply here has about 9 MB.
     let room = vec![in alloc; 0u8; 12_000_000].expect(rt, "memory");
     let mut sink = MemorySink::new(room, 65_536, Vec::new(alloc));
-    let printed = print_capsules(
-        plan.plan.version,
-        &answers.keys,
-        answers.replies.as_slice(),
-        &mut sink,
-    );
+    let printed = print_capsules(&answers.keys, answers.replies.as_slice(), &mut sink);
     assert_same(rt, printed, Printed::Whole, "printed");
     Sha256::digest(sink.bytes())
 }

@@ -167,7 +167,7 @@ live_lane_lines live lane calls = all_lines (numbered (live_call_lines live lane
 
 abbrev pub live_run_text : List KeyReply → LiveRun → List ℕ
 live_run_text keys live =
-    concat (live_lines live.plan.version (line_count live.plan) keys live.replies
+    concat (live_lines (line_count live.plan) keys live.replies
     (numbered (live_lane_lines live) 0 live.plan.lanes) live.journals live.notes)
 
 -- ---- which tables, journals and guesses there may be

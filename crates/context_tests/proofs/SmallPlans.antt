@@ -1,5 +1,5 @@
 -- The small batches of the tests are within the limits.
-use Rattle.std.proofs.Common.{◌≡◌, ◌<◌, ◌≤◌, ◌^◌, ℕ, ◌+◌, ◌&&◌, Bool, true, List, [], ◌∷◌, length, sym, refl, ap, ◌∙◌, ◌*◌, subst, arith, None, lit<, eqb-true}
+use Rattle.std.proofs.Common.{◌≡◌, ◌<◌, ◌≤◌, ◌^◌, ℕ, ◌+◌, ◌&&◌, Bool, true, List, [], ◌∷◌, length, sym, refl, ap, ◌∙◌, ◌*◌, subst, arith, None, inr, eqb-true}
 use Rattle.std.specs.Prelude.{nat_le, nat_eq}
 use Rattle.std.specs.List.{All, list_all}
 use Rattle.std.proofs.lemmas.List.Elements.{All-nil, All-cons}
@@ -153,7 +153,7 @@ module _ (pool : List ℕ) (limit : ℕ) (items : List Item) (lanes : List (List
       (line_within Sender limit least most)
       (All-cons Q (line_of Recipient limit) [] (line_within Recipient limit least most) (All-nil Q)) in
       record {
-        version = (1, lit< tt, refl);
+        version = inr refl;
         pool = omega arith;
         keys = omega arith;
         contexts = omega arith;

@@ -1,5 +1,5 @@
 -- Lines that a plan goes on with.
-use Rattle.std.proofs.Common.{◌≡◌, ℕ, ◌+◌, ◌≤◌, true, false, List, [], ◌∷◌, ◌++◌, length, codes, Ok, refl, ap, ◌∙◌, append_assoc, lit<}
+use Rattle.std.proofs.Common.{◌≡◌, ℕ, ◌+◌, ◌≤◌, true, false, List, [], ◌∷◌, ◌++◌, length, codes, Ok, refl, ap, ◌∙◌, append_assoc}
 use Rattle.std.specs.Str.{bytes_eq}
 use Rattle.field_text.specs.declared.lines.Next.TheVariants.{More, Last}
 use Rattle.field_text.specs.Cuts.{lines_of, pieces_of}
@@ -8,10 +8,9 @@ use Rattle.field_text.specs.Lines.{line_after, judged, front}
 use Rattle.field_text.proofs.Judging.{more_lines, last_line, first_line, whole_text}
 use Rattle.batch_plans.specs.declared.plan.Plan.{Plan}
 use Rattle.batch_plans.specs.Limits.{most_input}
-use Rattle.batch_plans.proofs.VersionLines.{line_test}
 use Rattle.request_frames.specs.declared.words.LineWord.{LineWord}
 use Rattle.request_frames.specs.Words.{line_word}
-use Rattle.request_frames.specs.Batch.{may_stand, with_line, empty_plan, header, batch_lines, batch, Spells}
+use Rattle.request_frames.specs.Batch.{may_stand, with_line, empty_plan, batch_lines, batch, Spells}
 
 -- after a plan, the lines of a text lead to another one, whatever follows
 pub record Reads (plan : Plan) (text : List ℕ) (new : Plan) : Type 0 where
@@ -51,10 +50,6 @@ ended : (plan : Plan) → line_after batch_lines plan (codes "end") ≡ Ok (Last
 unfolding line_after next
 ended plan = refl
 
--- the first line is that of version 1
-header_read : header (codes "hpkebatch 1") ≡ Ok (empty_plan 1)
-header_read = rw (line_test (codes "hpkebatch 1") 1 (lit< tt)) refl
-
 pub spelled : (body : List ℕ) (plan : Plan) → Reads (empty_plan 1) body plan
     → length (codes "hpkebatch 1\n" ++ (body ++ codes "end\n")) ≤ most_input
     → Spells (codes "hpkebatch 1\n" ++ (body ++ codes "end\n")) plan
@@ -64,6 +59,6 @@ spelled body plan lines few =
     let rest : List ℕ = body ++ codes "end\n" in
     let read = lines.reads 2 (codes "end\n") in
     let first : front batch_lines most_input text ≡ judged batch_lines 2 (empty_plan 1) (lines_of rest) =
-    first_line batch_lines most_input text (codes "hpkebatch 1") rest (Ok (empty_plan 1)) few refl header_read in
+    first_line batch_lines most_input text (codes "hpkebatch 1") rest (Ok (empty_plan 1)) few refl refl in
     let last = last_line batch_lines read.0 plan plan (codes "end\n") (codes "end") [] refl (ended plan) in
     whole_text (front batch_lines most_input text) plan read.0 [] (first ∙ read.1 ∙ last) refl

@@ -41,7 +41,7 @@ over_notes plan keys replies contexts notes text verdict same is =
 
 -- the verdict where a line of the set-up is wrong: no table changes it
 pub over_setup : (plan : Plan) (keys : List KeyReply) (replies : List ContextReply) (contexts : List (Option ContextView)) (text : List ℕ) (line : ℕ)
-    → with_setup plan.version keys (take (line_count plan) replies) (nothing_yet text) ≡ Err line → Form line ≡ live_verdict_over plan keys replies contexts text
+    → with_setup 2 keys (take (line_count plan) replies) (nothing_yet text) ≡ Err line → Form line ≡ live_verdict_over plan keys replies contexts text
 unfolding told_live_by
 over_setup plan keys replies contexts text line is = rw is refl
 

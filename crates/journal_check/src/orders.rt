@@ -16,7 +16,7 @@ ghost use Rattle.result_lines.specs.Computed.{by_stamps, or_later, is_table as i
 use crate::histories::is_one_history;
 use crate::journals::broken_journal;
 use crate::tables::{Table, is_live_history, is_table};
-use batch_plans::{FIRST_NAME, PlainList, Plan, versions};
+use batch_plans::{FIRST_NAME, PlainList, Plan};
 use call_places::Mark;
 use hpke_context::Context;
 use result_lines::Verdict;
@@ -88,7 +88,7 @@ fn has_stamps(plan: &Plan, table: Option<Table>) -> bool
 {
     match table {
         Some(_) => true,
-        None => versions::has_stamps(plan.version),
+        None => plan.version == 2,
     }
 }
 

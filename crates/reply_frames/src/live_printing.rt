@@ -57,7 +57,7 @@ fn put_live<K: Sink>(out: &mut Buffer, sink: &mut K, plan: &Plan, answers: &Answ
     let lines = line_count(plan);
     let contexts = answers.contexts.as_slice();
     let journals = answers.journals.as_slice();
-    put_version(out, sink, plan.version);
+    put_version(out, sink, 2);
     put_setup(out, sink, answers.keys.as_slice(), &contexts[..lines]);
     put_lanes(
         out,

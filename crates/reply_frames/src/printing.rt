@@ -10,7 +10,7 @@ ghost use Rattle.field_text.specs.Buffers.{Puts};
 ghost use Rattle.batch_plans.specs.Lines.{context_line};
 ghost use Rattle.batch_plans.specs.AnswersText.{reply_line, answers_text, IsAnswered};
 ghost use Rattle.batch_plans.specs.ReplyText.{numbered, all_lines, setup_text, version_line};
-ghost use Rattle.batch_plans.specs.ReplyText.{lane_lines, mark_line, journal_lines};
+ghost use Rattle.batch_plans.specs.ReplyText.{lane_lines, has_stamps, mark_line, journal_lines};
 ghost use Rattle.batch_plans.specs.ReplyText.{bad_text};
 ghost use Rattle.reply_frames.specs.LineParts.{lines_by, lanes_by, marks_behind};
 
@@ -19,7 +19,6 @@ use crate::lane_replies::put_calls;
 use crate::replies::put_keys;
 use crate::reply_lines::{put_bad, put_context_line, put_mark, put_numbered, put_reply};
 use batch_io::Sink;
-use batch_plans::versions::has_stamps;
 use batch_plans::{Answers, CallLine, ContextReply, KeyReply, LaneAnswers, PlainList, Plan, Reply};
 use call_places::Mark;
 use field_text::{BadBatch, Buffer, Printed};
@@ -132,6 +131,13 @@ pub(crate) fn put_version<K: Sink>(out: &mut Buffer, sink: &mut K, version: u8)
     ensures { Puts K.written K.faults sink.old sink.new out.old out.new (version_line version) }
 {
     put_numbered(out, sink, b"hpkebatch ", version as u64)
+}
+
+// Whether journals tell their stamps.
+fn has_stamps(version: u8) -> bool
+    ensures { result ≡ has_stamps version }
+{
+    version == 2
 }
 
 // Puts the replies to the key lines and to the context lines behind what is in the buffer.

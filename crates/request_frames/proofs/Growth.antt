@@ -1,5 +1,5 @@
 -- A plan stays within its limits as lines are added to it.
-use Rattle.std.proofs.Common.{◌≡◌, ℕ, ◌+◌, ◌<◌, ◌≤◌, List, [], ◌∷◌, ◌++◌, length, get_or, take, drop, sum_by, Option, Some, refl, ap, ◌∙◌, arith}
+use Rattle.std.proofs.Common.{◌≡◌, ℕ, ◌⊎◌, ◌+◌, ◌<◌, ◌≤◌, List, [], ◌∷◌, ◌++◌, length, get_or, take, drop, sum_by, Option, Some, refl, ap, ◌∙◌, arith}
 use Rattle.std.specs.List.{All}
 use Rattle.std.proofs.lemmas.List.{length-append, take-append-le, drop-append-le, length-drop, drop_at, take_all}
 use Rattle.std.proofs.lemmas.List.Elements.{All-nil, All-cons, All-head, All-tail, All-push, All-append}
@@ -16,7 +16,6 @@ use Rattle.batch_plans.specs.declared.plan.ContextLine.{ContextLine}
 use Rattle.batch_plans.specs.declared.plan.CallLine.{CallLine}
 use Rattle.batch_plans.specs.declared.plan.CallLine.TheVariants as calls
 use Rattle.batch_plans.specs.Limits.{most_input, most_keys, most_contexts, most_lanes, most_items, most_exported, most_field, most_ciphertext, items_of, size_of, items_from, all_items, all_sizes}
-use Rattle.batch_plans.specs.Versions.{IsVersion}
 use Rattle.batch_plans.specs.Within.{text_size, all_texts, IsItemWithin, IsSourceWithin, IsKeyWithin, IsKindWithin, IsContextWithin, IsCallWithin, IsWithinLimits, IsPlainCall, IsPlain}
 use Rattle.request_frames.proofs.MoreLines.{field_grown, message_grown}
 use Rattle.request_frames.specs.Batch.{add_call, empty_plan}
@@ -119,7 +118,7 @@ pub record IsBuilt (plan : Plan) : Type 0 where
   pub opened : length plan.items ≤ all_items plan.lanes
 
 -- the plan of the first line alone
-pub empty : (version : ℕ) → IsVersion version → IsBuilt (empty_plan version)
+pub empty : (version : ℕ) → (version ≡ 1) ⊎ (version ≡ 2) → IsBuilt (empty_plan version)
 empty version is = record {
   limits = record {
     version = is;

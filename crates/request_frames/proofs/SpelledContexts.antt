@@ -96,9 +96,9 @@ record IsShared (old new : List ℕ) (line : ContextLine) (pieces : List (List �
   within : (seed : Option (List ℕ)) (size : ℕ) → length new ≤ size → IsContextWithin seed size line
   shared : IsShare line.kind
 
-share_ok : (version : ℕ) (pool : List ℕ) (pieces : List (List ℕ)) (line : ContextLine) (new : List ℕ) → share version pool pieces ≡ Ok (line, new) → IsShared pool new line pieces
+share_ok : (pool : List ℕ) (pieces : List (List ℕ)) (line : ContextLine) (new : List ℕ) → share pool pieces ≡ Ok (line, new) → IsShared pool new line pieces
 unfolding share
-share_ok version pool pieces line new e =
+share_ok pool pieces line new e =
     let counted = exactly_ok 10 pieces _ (line, new) e in
     next_ok role pieces _ (line, new) _
     (λ p1 role r1 cut1 read1 e.
@@ -106,7 +106,7 @@ share_ok version pool pieces line new e =
     (λ p2 kem r2 cut2 read2 e.
     next_ok kdf r2 _ (line, new) _
     (λ p3 kdf r3 cut3 read3 e.
-    next_ok (aead version) r3 _ (line, new) _
+    next_ok aead r3 _ (line, new) _
     (λ p4 aead r4 cut4 read4 e.
     next_ok (bytes most_field pool) r4 _ (line, new) _
     (λ p5 secret r5 cut5 read5 e.
@@ -119,7 +119,7 @@ share_ok version pool pieces line new e =
       grown = IsFront-then pool secret.pool new field5.grown rest.grown;
       spelled = λ whole h.
           let is3 = ap (λ (kdf : Kdf). decimal (kdf_id kdf)) rest.kdf_is ∙ kdf_ok p3 kdf read3 in
-          let is4 = ap (λ (aead : Aead). decimal (aead_id aead)) rest.aead_is ∙ aead_ok version p4 aead read4 in
+          let is4 = ap (λ (aead : Aead). decimal (aead_id aead)) rest.aead_is ∙ aead_ok p4 aead read4 in
           let is5 = field5.spelled whole (IsFront-then secret.pool new whole rest.grown h) in
           let from3 = piece_is cut3 is3 (piece_is cut4 is4 (piece_is cut5 is5 (rest.spelled whole h))) in
           ap (context_pieces whole line) rest.kind_is
@@ -141,9 +141,9 @@ pub record IsAdded (old new : List ℕ) (line : ContextLine) (pieces : List (Lis
 fields_same : (one other : List ℕ) (xs ys : List (List ℕ)) → ◌≡◌ {A = List (List ℕ)} (one ∷ xs) (other ∷ ys) → xs ≡ ys
 fields_same one other xs ys e = ap (λ (pieces : List (List ℕ)). drop 1 pieces) e
 
-pub added_ok : (version : ℕ) (pool : List ℕ) (pieces : List (List ℕ)) (line : ContextLine) (new : List ℕ) → share version pool pieces ≡ Ok (line, new) → IsAdded pool new line pieces
-added_ok version pool pieces line new e =
-    let read = share_ok version pool pieces line new e in
+pub added_ok : (pool : List ℕ) (pieces : List (List ℕ)) (line : ContextLine) (new : List ℕ) → share pool pieces ≡ Ok (line, new) → IsAdded pool new line pieces
+added_ok pool pieces line new e =
+    let read = share_ok pool pieces line new e in
     record {
       grown = read.grown;
       spelled = λ whole h.
@@ -153,14 +153,14 @@ added_ok version pool pieces line new e =
       shared = read.shared;
     }
 
-send_ok : (version : ℕ) (pool : List ℕ) (pieces : List (List ℕ)) (line : ContextLine) (new : List ℕ) → send version pool pieces ≡ Ok (line, new)
+send_ok : (pool : List ℕ) (pieces : List (List ℕ)) (line : ContextLine) (new : List ℕ) → send pool pieces ≡ Ok (line, new)
     → IsContext pool new true line (codes "send" ∷ pieces)
 unfolding send
-send_ok version pool pieces line new e =
+send_ok pool pieces line new e =
     let counted = exactly_ok 8 pieces _ (line, new) e in
     next_ok kdf pieces _ (line, new) _
     (λ p1 kdf r1 cut1 read1 e.
-    next_ok (aead version) r1 _ (line, new) _
+    next_ok aead r1 _ (line, new) _
     (λ p2 aead r2 cut2 read2 e.
     next_ok (number 0 65535) r2 _ (line, new) _
     (λ p3 key r3 cut3 read3 e.
@@ -171,7 +171,7 @@ send_ok version pool pieces line new e =
       grown = rest.grown;
       spelled = λ whole h.
           let is1 = ap (λ (kdf : Kdf). decimal (kdf_id kdf)) rest.kdf_is ∙ kdf_ok p1 kdf read1 in
-          let is2 = ap (λ (aead : Aead). decimal (aead_id aead)) rest.aead_is ∙ aead_ok version p2 aead read2 in
+          let is2 = ap (λ (aead : Aead). decimal (aead_id aead)) rest.aead_is ∙ aead_ok p2 aead read2 in
           ap (context_pieces whole line) rest.kind_is
           ∙ ap (λ (pieces : List (List ℕ)). codes "send" ∷ pieces)
           (piece_is cut1 is1 (piece_is cut2 is2 (piece_is cut3 field3.spelled (rest.spelled whole h))));
@@ -180,14 +180,14 @@ send_ok version pool pieces line new e =
     e) e)
     counted.1
 
-recv_ok : (version : ℕ) (pool : List ℕ) (pieces : List (List ℕ)) (line : ContextLine) (new : List ℕ) (draws : Bool) → recv version pool pieces ≡ Ok (line, new)
+recv_ok : (pool : List ℕ) (pieces : List (List ℕ)) (line : ContextLine) (new : List ℕ) (draws : Bool) → recv pool pieces ≡ Ok (line, new)
     → IsContext pool new draws line (codes "recv" ∷ pieces)
 unfolding recv
-recv_ok version pool pieces line new draws e =
+recv_ok pool pieces line new draws e =
     let counted = exactly_ok 9 pieces _ (line, new) e in
     next_ok kdf pieces _ (line, new) _
     (λ p1 kdf r1 cut1 read1 e.
-    next_ok (aead version) r1 _ (line, new) _
+    next_ok aead r1 _ (line, new) _
     (λ p2 aead r2 cut2 read2 e.
     next_ok (number 0 65535) r2 _ (line, new) _
     (λ p3 key r3 cut3 read3 e.
@@ -202,7 +202,7 @@ recv_ok version pool pieces line new draws e =
       grown = IsFront-then pool enc.1 new field4.grown rest.grown;
       spelled = λ whole h.
           let is1 = ap (λ (kdf : Kdf). decimal (kdf_id kdf)) rest.kdf_is ∙ kdf_ok p1 kdf read1 in
-          let is2 = ap (λ (aead : Aead). decimal (aead_id aead)) rest.aead_is ∙ aead_ok version p2 aead read2 in
+          let is2 = ap (λ (aead : Aead). decimal (aead_id aead)) rest.aead_is ∙ aead_ok p2 aead read2 in
           let is4 = field4.spelled whole (IsFront-then enc.1 new whole rest.grown h) in
           let from3 = piece_is cut3 field3.spelled (piece_is cut4 is4 (rest.spelled whole h)) in
           ap (context_pieces whole line) rest.kind_is
@@ -212,10 +212,10 @@ recv_ok version pool pieces line new draws e =
     e) e) e)
     counted.1
 
-pub context_ok : (version : ℕ) (word : ContextWord) (pool : List ℕ) (pieces : List (List ℕ)) (line : ContextLine) (new : List ℕ) → context version word pool pieces ≡ Ok (line, new)
+pub context_ok : (word : ContextWord) (pool : List ℕ) (pieces : List (List ℕ)) (line : ContextLine) (new : List ℕ) → context word pool pieces ≡ Ok (line, new)
     → IsContext pool new (draws (Context word)) line (word_text (Context word) ∷ pieces)
-context_ok version Share pool pieces line new e =
-    let read = share_ok version pool pieces line new e in
+context_ok Share pool pieces line new e =
+    let read = share_ok pool pieces line new e in
     record { grown = read.grown; spelled = read.spelled; within = λ seed size long given. read.within seed size long }
-context_ok version Send pool pieces line new e = send_ok version pool pieces line new e
-context_ok version Recv pool pieces line new e = recv_ok version pool pieces line new _ e
+context_ok Send pool pieces line new e = send_ok pool pieces line new e
+context_ok Recv pool pieces line new e = recv_ok pool pieces line new _ e

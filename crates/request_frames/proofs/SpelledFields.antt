@@ -1,11 +1,9 @@
 -- The piece that was read as a word or a number is that of its value.
-use Rattle.std.proofs.Common.{◌≡◌, ℕ, ◌+◌, ◌-◌, ◌<◌, ◌==◌, ◌&&◌, nat_lt, Bool, false, true, cond, List, [], ◌∷◌, ◌++◌, drop, codes, decimal, Option, None, Some, ok_or, Ok, Err, refl, sym, ap, subst, ◌∙◌, lit<, arith}
-use Rattle.std.specs.List.{find}
-use Rattle.std.specs.Str.{bytes_eq}
-use Rattle.std.proofs.lemmas.Slice.Eq.{bytes_eq-Decides}
+use Rattle.std.proofs.Common.{◌≡◌, ℕ, ◌+◌, ◌-◌, ◌<◌, ◌&&◌, nat_lt, Bool, false, true, List, [], ◌∷◌, ◌++◌, drop, codes, decimal, Option, None, Some, ok_or, Ok, Err, refl, sym, ap, subst, ◌∙◌, lit<, arith}
 use Rattle.std.proofs.lemmas.Bool.{eqb-true, and_parts, lt-ltb}
 use Rattle.std.proofs.lemmas.Bool.Decides.{nat_tests}
-use Rattle.hkdf_labelled.specs.Suites.{aead_id}
+use Rattle.hkdf_labelled.specs.Suites.{aead_id, aead_named}
+use Rattle.hkdf_labelled.proofs.Numbers.{named_back}
 use Rattle.hkdf_labelled.specs.declared.suites.Aead.{Aead}
 use Rattle.key_schedule.specs.declared.modes.Role.{Role}
 use Rattle.key_schedule.specs.declared.modes.Role.TheVariants.{Sender, Recipient}
@@ -16,22 +14,17 @@ use Rattle.field_text.specs.Fields.{number}
 use Rattle.field_text.proofs.Spellings.{ok_same, step_ok, choice_ok, word_ok, number_ok}
 use Rattle.batch_plans.specs.Limits.{first_name}
 use Rattle.batch_plans.specs.Within.{IsNumber}
-use Rattle.batch_plans.specs.Versions.{version_of, aead_in}
-use Rattle.request_frames.specs.KeyWords.{word_among}
-use Rattle.request_frames.specs.Words.{role, mode, aead}
+use Rattle.request_frames.specs.declared.words.LineWord.{LineWord}
+use Rattle.request_frames.specs.Words.{word_text, word_among, role, mode, aead}
 use Rattle.request_frames.specs.Forms.{is_name, name, named, ctx}
 use Rattle.request_frames.specs.PlanText.{role_word, mode_word, ctx_text}
 
 -- ---- words
 
-pub among_ok : {W : Type 0} (spelled : W → List ℕ) (words : List W) (piece : List ℕ) (word : W) → word_among spelled words piece ≡ Ok word → spelled word ≡ piece
-among_ok spelled [] piece word e = absurd cc
-among_ok spelled (first ∷ more) piece word e = by (bytes_eq piece (spelled first)) refl (λ rest. among_ok spelled more piece word rest) e
-  where
-    by : (same : Bool) → bytes_eq piece (spelled first) ≡ same → (word_among spelled more piece ≡ Ok word → spelled word ≡ piece)
-        → ok_or (cond same (Some first) (find (λ word. bytes_eq piece (spelled word)) more)) Word ≡ Ok word → spelled word ≡ piece
-    by true is later e = ap spelled (sym (ok_same first word e)) ∙ sym ((bytes_eq-Decides piece (spelled first)).0 is)
-    by false is later e = later e
+pub among_ok : (words : List LineWord) (piece : List ℕ) (word : LineWord) → word_among words piece ≡ Ok word → word_text word ≡ piece
+among_ok [] piece word e = absurd cc
+among_ok (first ∷ more) piece word e =
+    word_ok (word_text first) piece first word (word_among more piece) _ (λ is same. ap word_text (sym same) ∙ sym is) (λ rest. among_ok more piece word rest) e
 
 pub role_ok : (piece : List ℕ) (value : Role) → role piece ≡ Ok value → role_word value ≡ piece
 role_ok piece value e =
@@ -51,22 +44,10 @@ some_named : (found : Option Aead) (value : Aead) → ok_or found Range ≡ Ok v
 some_named None value e = absurd cc
 some_named (Some x) value e = cc
 
--- what is found by its number has the number
-pub found_id : (id : ℕ) (aeads : List Aead) (value : Aead) → find (λ aead. aead_id aead == id) aeads ≡ Some value → aead_id value ≡ id
-found_id id [] value e = absurd cc
-found_id id (first ∷ more) value e =
-    by (aead_id first == id) refl (λ rest. found_id id more value rest) e
-  where
-    by : (test : Bool) → (aead_id first == id) ≡ test → (find (λ aead. aead_id aead == id) more ≡ Some value → aead_id value ≡ id)
-        → cond test (Some first) (find (λ aead. aead_id aead == id) more) ≡ Some value → aead_id value ≡ id
-    by true is later e = let same : first ≡ value = cc in ap aead_id (sym same) ∙ eqb-true (aead_id first) id is
-    by false is later e = later e
-
-pub aead_ok : (version : ℕ) (piece : List ℕ) (value : Aead) → aead version piece ≡ Ok value → decimal (aead_id value) ≡ piece
-aead_ok version piece value e =
+pub aead_ok : (piece : List ℕ) (value : Aead) → aead piece ≡ Ok value → decimal (aead_id value) ≡ piece
+aead_ok piece value e =
     let found = step_ok (number 1 65535 piece) _ value e in
-    let some = some_named (aead_in (version_of version) found.0) value found.2 in
-    ap decimal (found_id found.0 (version_of version).aeads value some) ∙ (number_ok 1 65535 piece found.0 (lit< tt) found.1).spelled
+    ap decimal (named_back found.0 value (some_named (aead_named found.0) value found.2)) ∙ (number_ok 1 65535 piece found.0 (lit< tt) found.1).spelled
 
 -- ---- the context of a call
 

@@ -138,9 +138,9 @@ context_adds : (names : Bool) (word : ContextWord) (plan new : Plan) (pieces : L
     → with_context plan word pieces ≡ Ok new → Adds names plan new (line_text (word_text (Context word) ∷ pieces))
 unfolding with_context
 context_adds names word plan new pieces place given e =
-    let found = step_ok (context plan.version word plan.pool pieces) _ new e in
+    let found = step_ok (context word plan.pool pieces) _ new e in
     let count = counted_ok most_contexts (length plan.contexts + 1) _ new found.2 in
-    let line = context_ok plan.version word plan.pool pieces found.0.0 found.0.1 found.1 in
+    let line = context_ok word plan.pool pieces found.0.0 found.0.1 found.1 in
     let long = front_length plan.pool found.0.1 line.grown in
     let bare : length plan.lanes ≡ 0 = eqb-true (length plan.lanes) 0 place in
     let more_lines : Plan = record plan { pool = found.0.1; contexts = plan.contexts ++ found.0.0 ∷ [] } in
@@ -304,11 +304,11 @@ pub added_adds : (plan new : Plan) (pieces : List (List ℕ)) → nat_lt 0 (leng
     → Adds true plan new (line_text (codes "add" ∷ pieces))
 unfolding with_added
 added_adds plan new pieces place e =
-    let found = step_ok (share plan.version plan.pool pieces) _ new e in
+    let found = step_ok (share plan.pool pieces) _ new e in
     let context = found.0.0 in
     let pool = found.0.1 in
     let counts = counted_ok most_contexts (length plan.contexts + 1) _ new found.2 in
-    let line = added_ok plan.version plan.pool pieces context pool found.1 in
+    let line = added_ok plan.pool pieces context pool found.1 in
     let call : CallLine = calls.Add plan.added in
     let more = longer plan pool context in
     let count = is_counted more new call counts.1 in
@@ -411,5 +411,5 @@ spelling = record {
   none = adds_nothing false;
   line = λ word plan new final piece pieces text named stands read more.
       adds_then false plan new final (line_text (piece ∷ pieces)) text
-      (subst (λ (piece : List ℕ). Adds false plan new (line_text (piece ∷ pieces))) (among_ok word_text (words_of plan.version) piece word named) (line_adds false word plan new pieces stands read)) more;
+      (subst (λ (piece : List ℕ). Adds false plan new (line_text (piece ∷ pieces))) (among_ok (words_of plan.version) piece word named) (line_adds false word plan new pieces stands read)) more;
 }

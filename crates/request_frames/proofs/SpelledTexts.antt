@@ -1,14 +1,16 @@
 -- A text that was read begins with the text of its plan, which is within its limits.
-use Rattle.std.proofs.Common.{◌≡◌, ℕ, ◌⊎◌, ◌-◌, ◌≤◌, Bool, false, true, List, [], ◌++◌, length, codes, decimal, Result, Ok, Err, refl, sym, ap, subst, ◌∙◌, append_assoc, append-nil, inl, inr, arith}
+use Rattle.std.proofs.Common.{◌≡◌, ℕ, ◌⊎◌, ◌+◌, ◌-◌, ◌<◌, ◌≤◌, Bool, false, List, [], ◌∷◌, ◌++◌, length, codes, decimal, Result, Ok, Err, refl, sym, ap, subst, ◌∙◌, append_assoc, append-nil, inl, inr, lit<, arith}
 use Rattle.std.specs.List.{flat_map, join_with_byte}
+use Rattle.std.proofs.lemmas.Fmt.{decimal_digit}
 use Rattle.std.proofs.lemmas.List.{length-append}
 use Rattle.std.proofs.lemmas.List.Elements.{All-nil}
 use Rattle.call_places.specs.declared.spans.Item.{Item}
 use Rattle.field_text.specs.declared.reasons.Reason.{Reason}
+use Rattle.field_text.specs.declared.reasons.Reason.TheVariants as reasons
 use Rattle.field_text.specs.Cuts.{line_feed, lines_of}
 use Rattle.field_text.specs.declared.faults.BadBatch.{BadBatch}
 use Rattle.field_text.specs.Lines.{Grammar, FrontText, bad, front, whole}
-use Rattle.field_text.proofs.Spellings.{joined, ok_same, step_ok, IsFront-same}
+use Rattle.field_text.proofs.Spellings.{joined, word_ok, IsFront-same}
 use Rattle.field_text.proofs.SpelledLines.{IsText, text_read, front_read}
 use Rattle.batch_plans.specs.declared.plan.Plan.{Plan}
 use Rattle.batch_plans.specs.declared.plan.ContextLine.{ContextLine}
@@ -17,9 +19,6 @@ use Rattle.request_frames.specs.LivePlans.{added_contexts, IsLive}
 use Rattle.request_frames.specs.Batch.{ended, header, batch_lines, batch, empty_plan, Spells}
 use Rattle.batch_plans.specs.Limits.{most_input}
 use Rattle.batch_plans.specs.Within.{IsWithinLimits, IsPlain}
-use Rattle.batch_plans.specs.ReplyText.{has_stamps}
-use Rattle.batch_plans.specs.Versions.{IsVersion, versions, first_line, number_among}
-use Rattle.batch_plans.proofs.VersionLines.{version_ok}
 use Rattle.request_frames.specs.PlanText.{context_text, lane_text, text_of}
 use Rattle.request_frames.proofs.Growth as growth
 use Rattle.request_frames.proofs.AddedContexts.{Begins-same, IsOrdered, line_contexts}
@@ -27,30 +26,37 @@ use Rattle.request_frames.proofs.SpelledPlans.{body, Adds, spelling}
 
 -- the first line of a version
 pub record IsHeader (line : List ℕ) (plan : Plan) : Type 0 where
-  pub version : IsVersion plan.version
-  pub is : line ≡ first_line plan.version
+  pub version : (plan.version ≡ 1) ⊎ (plan.version ≡ 2)
+  pub is : line ≡ codes "hpkebatch " ++ decimal plan.version
   pub empty : (pool : List ℕ) (items : List Item) (extra : List ContextLine) → body pool items extra plan ≡ []
   pub ordered : IsOrdered plan
   pub built : growth.IsBuilt plan
   pub plain : IsPlain plan
-  pub live : has_stamps plan.version ≡ true → IsLive plan
+  pub live : plan.version ≡ 2 → IsLive plan
 
-pub empty_header : (version : ℕ) (line : List ℕ) → line ≡ first_line version → IsVersion version → IsHeader line (empty_plan version)
-empty_header version line spelled is = record {
+one_digit : (n : ℕ) → n < 10 → codes "hpkebatch " ++ decimal n ≡ codes "hpkebatch " ++ (48 + n) ∷ []
+one_digit n small = ap (λ (digits : List ℕ). codes "hpkebatch " ++ digits) (decimal_digit n small)
+
+pub empty_header : (version : ℕ) (line : List ℕ) → (version ≡ 1) ⊎ (version ≡ 2) → version < 10 → line ≡ codes "hpkebatch " ++ (48 + version) ∷ [] → IsHeader line (empty_plan version)
+empty_header version line is small spelled = record {
   version = is;
-  is = spelled;
+  is = spelled ∙ sym (one_digit version small);
   empty = λ pool items extra. refl;
   ordered = record { none = λ none. refl; few = omega arith };
   built = growth.empty version is;
   plain = growth.plain_empty version;
-  live = λ stamped. record { version = stamped; shared = All-nil _; named = refl };
+  live = λ two. record { version = two; shared = All-nil _; named = refl };
 }
 
 header_ok : (line : List ℕ) (plan : Plan) → header line ≡ Ok plan → IsHeader line plan
 header_ok line plan e =
-    let found = step_ok (number_among versions line) _ plan e in
-    let read = version_ok line found.0 found.1 in
-    subst (λ (plan : Plan). IsHeader line plan) (ok_same _ _ found.2) (empty_header found.0 line read.0 read.1)
+    word_ok (codes "hpkebatch 1") line (empty_plan 1) plan _ _
+    (λ is same. subst (λ (plan : Plan). IsHeader line plan) same (empty_header 1 line (inl refl) (lit< tt) is))
+    (λ rest.
+    word_ok (codes "hpkebatch 2") line (empty_plan 2) plan (Err reasons.Header) _
+    (λ is same. subst (λ (plan : Plan). IsHeader line plan) same (empty_header 2 line (inr refl) (lit< tt) is))
+    (λ err. absurd cc) rest)
+    e
 
 -- the parts of a text
 text_parts : (a b c d e f g h : List ℕ)
@@ -62,7 +68,7 @@ pub record IsRead (names : Bool) (plan : Plan) (text rest : List ℕ) : Type 0 w
   pub parts : text ≡ text_of plan ++ rest
   pub limits : length plan.pool ≤ most_input → IsWithinLimits plan
   pub plain : names ≡ false → IsPlain plan
-  pub live : has_stamps plan.version ≡ true → IsLive plan
+  pub live : plan.version ≡ 2 → IsLive plan
 
 pub is_read : {W : Type 0} (names : Bool) (g : Grammar Plan W) (plan : Plan) (text rest : List ℕ)
     → ((line : List ℕ) (start : Plan) → g.header line ≡ Ok start → IsHeader line start)
@@ -73,7 +79,7 @@ is_read names g plan text rest headed read =
     let added : body plan.pool plan.items extra plan ≡ read.body =
     read.adds.added first.ordered plan.pool plan.items extra (IsFront-same plan.pool) (Begins-same plan.items) (Begins-same extra)
     ∙ ap (λ (front : List ℕ). front ++ read.body) (first.empty plan.pool plan.items extra) in
-    let line : read.header ≡ first_line plan.version = first.is ∙ ap first_line (sym read.adds.version) in
+    let line : read.header ≡ codes "hpkebatch " ++ decimal plan.version = first.is ∙ ap (λ (n : ℕ). codes "hpkebatch " ++ decimal n) (sym read.adds.version) in
     record {
       parts =
           read.parts
@@ -84,7 +90,7 @@ is_read names g plan text rest headed read =
           (flat_map (context_text plan.pool) (line_contexts plan)) (flat_map (lane_text plan.pool plan.items extra) plan.lanes) (codes "end\n"));
       limits = λ small. (read.adds.built small first.built).limits;
       plain = λ stay. read.adds.plain stay first.plain;
-      live = λ stamped. read.adds.live first.ordered (first.live (ap has_stamps (sym read.adds.version) ∙ stamped));
+      live = λ two. read.adds.live first.ordered (first.live (sym read.adds.version ∙ two));
     }
 
 -- a text that spells a plan

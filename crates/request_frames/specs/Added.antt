@@ -13,7 +13,7 @@ use Rattle.request_frames.specs.Batch.{counted}
 -- `add` and the fields of `share`: a context behind all others. Its name is the next number
 unfoldable pub with_added : Plan → List (List ℕ) → Result Plan Reason
 with_added plan pieces = do
-  (context, pool) ← share plan.version plan.pool pieces
+  (context, pool) ← share plan.pool pieces
   count ← at_most most_contexts (length plan.contexts + 1)
   counted
       (record plan {

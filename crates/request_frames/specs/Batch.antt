@@ -1,16 +1,17 @@
 -- The batch text: which bytes spell which plan, and which line of all other bytes is the first bad
 -- one, with its first reason. How a text of lines is judged says `Lines.antt` of field_text; here
 -- stands which lines there are, and what each adds to the plan of the lines before it.
-use Rattle.std.specs.Prelude.{◌≡◌, ℕ, ◌+◌, ◌-◌, ◌==◌, ◌&&◌, ◌||◌, not, nat_lt, Bool, false, true, List, [], ◌∷◌, ◌++◌, length, Some, None, is_some, Result, Ok, Err}
+use Rattle.std.specs.Prelude.{◌≡◌, ℕ, ◌+◌, ◌-◌, ◌==◌, ◌&&◌, ◌||◌, not, nat_lt, Bool, false, true, List, [], ◌∷◌, ◌++◌, length, Some, None, is_some, codes, Result, Ok, Err, if◌then◌else◌}
 use Rattle.std.specs.List.{join_with_byte}
+use Rattle.std.specs.Str.{bytes_eq}
 use Rattle.field_text.specs.declared.reasons.Reason.{Reason}
+use Rattle.field_text.specs.declared.reasons.Reason.TheVariants as reasons
 use Rattle.field_text.specs.Cuts.{line_feed}
 use Rattle.field_text.specs.Fields.{◌>>=◌, exactly}
 use Rattle.field_text.specs.Lines.{Grammar, FrontText, bad, front, whole}
 use Rattle.field_text.specs.declared.faults.BadBatch.{BadBatch}
 use Rattle.field_text.specs.declared.faults.ReadBatchFault.{ReadBatchFault}
 use Rattle.field_text.specs.declared.faults.ReadBatchFault.TheVariants as faults
-use Rattle.batch_plans.specs.Versions.{versions, number_among}
 use Rattle.batch_plans.specs.declared.plan.Plan.{Plan}
 use Rattle.batch_plans.specs.declared.plan.CallLine.{CallLine}
 use Rattle.batch_plans.specs.declared.plan.CallLine.TheVariants as calls
@@ -80,7 +81,7 @@ with_key plan word pieces = do
 -- a context line
 unfoldable pub with_context : Plan → ContextWord → List (List ℕ) → Result Plan Reason
 with_context plan word pieces = do
-  (context, pool) ← context plan.version word plan.pool pieces
+  (context, pool) ← context word plan.pool pieces
   count ← at_most most_contexts (length plan.contexts + 1)
   Ok (record plan { pool = pool; contexts = plan.contexts ++ context ∷ [] })
 
@@ -135,11 +136,12 @@ empty_plan version =
       added = 0;
     }
 
--- the first line: that of any version
+-- the first line
 abbrev pub header : List ℕ → Result Plan Reason
-header line = do
-  version ← number_among versions line
-  Ok (empty_plan version)
+header line =
+    if bytes_eq line (codes "hpkebatch 1") then Ok (empty_plan 1)
+    else if bytes_eq line (codes "hpkebatch 2") then Ok (empty_plan 2)
+    else Err reasons.Header
 
 -- the lines of a batch, whose contexts stay
 abbrev pub batch_lines : Grammar Plan LineWord

@@ -19,7 +19,7 @@ use Rattle.request_frames.specs.declared.words.ContextWord.TheVariants.{Share, S
 use Rattle.request_frames.specs.Words.{role, mode, aead}
 use Rattle.batch_plans.specs.Limits.{most_field, most_plaintext, most_ciphertext, first_name}
 
--- ---- context lines, in a text of a version
+-- ---- context lines
 
 -- `MODE INFO PSK PSKID LIMIT`, which ends each context line, behind what it says before
 unfoldable pub schedule : ContextKind → Kdf → Aead
@@ -45,41 +45,41 @@ schedule kind kdf aead pool pieces = do
   )
 
 -- `share ROLE KEM KDF AEAD SECRET MODE INFO PSK PSKID LIMIT`
-unfoldable pub share : ℕ → List ℕ → List (List ℕ) → Result (ContextLine × List ℕ) Reason
-share version pool pieces = do
+unfoldable pub share : List ℕ → List (List ℕ) → Result (ContextLine × List ℕ) Reason
+share pool pieces = do
   pieces ← exactly 10 pieces
   (role, pieces) ← next role pieces
   (kem, pieces) ← next (number 0 65535) pieces
   (kdf, pieces) ← next kdf pieces
-  (aead, pieces) ← next (aead version) pieces
+  (aead, pieces) ← next aead pieces
   (secret, pieces) ← next (bytes most_field pool) pieces
   schedule (kinds.Share role kem secret.span) kdf aead secret.pool pieces
 
 -- `send KDF AEAD KEY MODE INFO PSK PSKID LIMIT`
-unfoldable pub send : ℕ → List ℕ → List (List ℕ) → Result (ContextLine × List ℕ) Reason
-send version pool pieces = do
+unfoldable pub send : List ℕ → List (List ℕ) → Result (ContextLine × List ℕ) Reason
+send pool pieces = do
   pieces ← exactly 8 pieces
   (kdf, pieces) ← next kdf pieces
-  (aead, pieces) ← next (aead version) pieces
+  (aead, pieces) ← next aead pieces
   (key, pieces) ← next (number 0 65535) pieces
   schedule (kinds.Send key) kdf aead pool pieces
 
 -- `recv KDF AEAD KEY ENC MODE INFO PSK PSKID LIMIT`
-unfoldable pub recv : ℕ → List ℕ → List (List ℕ) → Result (ContextLine × List ℕ) Reason
-recv version pool pieces = do
+unfoldable pub recv : List ℕ → List (List ℕ) → Result (ContextLine × List ℕ) Reason
+recv pool pieces = do
   pieces ← exactly 9 pieces
   (kdf, pieces) ← next kdf pieces
-  (aead, pieces) ← next (aead version) pieces
+  (aead, pieces) ← next aead pieces
   (key, pieces) ← next (number 0 65535) pieces
   ((enc, pool), pieces) ← next (message most_field pool) pieces
   schedule (kinds.Recv key enc) kdf aead pool pieces
 
 -- a context line of each word
-abbrev pub context : ℕ → ContextWord
+abbrev pub context : ContextWord
     → List ℕ → List (List ℕ) → Result (ContextLine × List ℕ) Reason
-context version Share pool pieces = share version pool pieces
-context version Send pool pieces = send version pool pieces
-context version Recv pool pieces = recv version pool pieces
+context Share pool pieces = share pool pieces
+context Send pool pieces = send pool pieces
+context Recv pool pieces = recv pool pieces
 
 -- ---- the context of a call
 

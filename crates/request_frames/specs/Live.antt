@@ -1,13 +1,13 @@
 -- The text of a batch whose lanes add, retire and call contexts while they are served. It has the
--- lines of a batch of its version, whose calls may name contexts that lines add, and lines `add` and
+-- lines of a batch of version 2, whose calls may name contexts that lines add, and lines `add` and
 -- `retire` besides. What each line adds to a plan is said in `Batch.antt` and `Added.antt`.
-use Rattle.std.specs.Prelude.{◌≡◌, ℕ, nat_lt, Bool, true, List, length, codes, Result, Ok, if◌then◌else◌}
+use Rattle.std.specs.Prelude.{◌≡◌, ℕ, nat_lt, Bool, true, List, length, codes, Result, Ok, Err, if◌then◌else◌}
 use Rattle.std.specs.Str.{bytes_eq}
 use Rattle.field_text.specs.declared.reasons.Reason.{Reason}
+use Rattle.field_text.specs.declared.reasons.Reason.TheVariants as reasons
 use Rattle.field_text.specs.declared.faults.BadBatch.{BadBatch}
 use Rattle.field_text.specs.Fields.{◌>>=◌}
 use Rattle.field_text.specs.Lines.{Grammar, bad, front, whole}
-use Rattle.batch_plans.specs.Versions.{stamped_versions, number_among}
 use Rattle.batch_plans.specs.declared.plan.Plan.{Plan}
 use Rattle.batch_plans.specs.Limits.{most_input}
 use Rattle.request_frames.specs.Words.{line_word}
@@ -17,24 +17,23 @@ use Rattle.request_frames.specs.Batch.{empty_plan, ended}
 use Rattle.request_frames.specs.declared.live_words.LiveWord.{LiveWord}
 use Rattle.request_frames.specs.declared.live_words.LiveWord.TheVariants.{Batch, Add, Retire}
 
--- the first line: that of a version with stamps
+-- the first line
 abbrev pub header : List ℕ → Result Plan Reason
-header line = do
-  version ← number_among stamped_versions line
-  Ok (empty_plan version)
+header line =
+    if bytes_eq line (codes "hpkebatch 2") then Ok (empty_plan 2) else Err reasons.Header
 
 -- a word of a batch
-abbrev pub batch_word : ℕ → List ℕ → Result LiveWord Reason
-batch_word version piece = do
-  word ← line_word version piece
+abbrev pub batch_word : List ℕ → Result LiveWord Reason
+batch_word piece = do
+  word ← line_word 2 piece
   Ok (Batch word)
 
--- the word of a line, in a text of this version
-abbrev pub word : ℕ → List ℕ → Result LiveWord Reason
-word version piece =
+-- the word of a line
+abbrev pub word : List ℕ → Result LiveWord Reason
+word piece =
     if bytes_eq piece (codes "add") then Ok Add
     else if bytes_eq piece (codes "retire") then Ok Retire
-    else batch_word version piece
+    else batch_word piece
 
 -- a line that adds or retires a context stands in a lane
 abbrev pub may_stand : LiveWord → Plan → Bool
@@ -52,7 +51,7 @@ abbrev pub live_lines : Grammar Plan LiveWord
 live_lines =
     record {
       header = header;
-      word = λ plan piece. word plan.version piece;
+      word = λ plan piece. word piece;
       may_stand = may_stand;
       with_line = with_line;
     }

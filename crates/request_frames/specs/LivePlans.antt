@@ -1,5 +1,5 @@
 -- What a plan keeps whose lanes add and retire contexts.
-use Rattle.std.specs.Prelude.{◌≡◌, ℕ, true, List, [], ◌∷◌, drop, All}
+use Rattle.std.specs.Prelude.{◌≡◌, ℕ, List, [], ◌∷◌, drop, All}
 use Rattle.std.specs.List.{flat_map, range_with_len}
 use Rattle.batch_plans.specs.declared.plan.Plan.{Plan}
 use Rattle.batch_plans.specs.declared.plan.ContextKind.{ContextKind}
@@ -8,7 +8,6 @@ use Rattle.batch_plans.specs.declared.plan.ContextLine.{ContextLine}
 use Rattle.batch_plans.specs.declared.plan.CallLine.{CallLine}
 use Rattle.batch_plans.specs.declared.plan.CallLine.TheVariants.{Add}
 use Rattle.batch_plans.specs.Names.{line_count}
-use Rattle.batch_plans.specs.ReplyText.{has_stamps}
 
 -- the contexts that are added
 abbrev pub added_contexts : Plan → List ContextLine
@@ -28,9 +27,9 @@ name_added call = []
 abbrev pub names_added : List (List CallLine) → List ℕ
 names_added lanes = flat_map (flat_map name_added) lanes
 
--- its version has stamps. Each context that is added has its secret in its line, and one line adds it: the names are the
+-- each context that is added has its secret in its line, and one line adds it: the names are the
 -- numbers from 0 on, in the order of the text
 pub record IsLive (plan : Plan) : Type 0 where
-  pub version : has_stamps plan.version ≡ true
+  pub version : plan.version ≡ 2
   pub shared : All (λ context. IsShare context.kind) (added_contexts plan)
   pub named : names_added plan.lanes ≡ range_with_len 0 plan.added

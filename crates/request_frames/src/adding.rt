@@ -89,7 +89,7 @@ impl BatchDraft {
         ensures size { OnOk result
             (vec_len self.new.pool ≤ vec_len self.old.pool + sum_by length fields.old) }
     {
-        let context = contexts::context(self.version, word, &mut self.pool, fields)?;
+        let context = contexts::context(word, &mut self.pool, fields)?;
         push_within(&mut self.contexts, context, MOST_CONTEXTS)
     }
 
@@ -193,7 +193,7 @@ impl BatchDraft {
             (pool_size self.new ≤ pool_size self.old + sum_by length fields.old) }
         ensures kept { OnOk result (IsKept self.new) }
     {
-        let context = contexts::context(self.version, ContextWord::Share, &mut self.pool, fields)?;
+        let context = contexts::context(ContextWord::Share, &mut self.pool, fields)?;
         push_within(&mut self.contexts, context, MOST_CONTEXTS)?;
         let name = self.added;
         self.added += 1;

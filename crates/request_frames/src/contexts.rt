@@ -49,87 +49,84 @@ fn schedule(
 }
 
 // `ROLE KEM KDF AEAD`
-fn shared_parts(version: u8, fields: &mut Pieces) -> Result<(Role, u16, Kdf, Aead), Reason>
-    ensures read { Reads (λ parts. (parts, fields.new)) result
-        (shared_parts_of version fields.old) }
+fn shared_parts(fields: &mut Pieces) -> Result<(Role, u16, Kdf, Aead), Reason>
+    ensures read { Reads (λ parts. (parts, fields.new)) result (shared_parts_of fields.old) }
     ensures size { OnOk result (sum_by length fields.new ≤ sum_by length fields.old) }
 {
     let role = words::role(fields)?;
     let kem = fields.number(0, 65_535)? as u16;
     let kdf = read_kdf(fields)?;
-    let aead = words::aead(version, fields)?;
+    let aead = words::aead(fields)?;
     Ok((role, kem, kdf, aead))
 }
 
 // `share ROLE KEM KDF AEAD SECRET MODE INFO PSK PSKID LIMIT`
 #[tactic(auto, unfolding(crate::specs::Forms::share))]
-fn share(version: u8, pool: &mut Vec<u8>, fields: &mut Pieces) -> Result<ContextLine, Stop>
+fn share(pool: &mut Vec<u8>, fields: &mut Pieces) -> Result<ContextLine, Stop>
     requires room { vec_len pool.old + sum_by length fields.old < 2 ^ 32 }
     ensures read { Gives (λ line. (line, pool.new.items)) result
-        (share_of version pool.old.items fields.old) }
+        (share_of pool.old.items fields.old) }
     ensures size { OnOk result (vec_len pool.new ≤ vec_len pool.old + sum_by length fields.old) }
 {
     fields.exactly(10)?;
-    let (role, kem, kdf, aead) = shared_parts(version, fields)?;
+    let (role, kem, kdf, aead) = shared_parts(fields)?;
     let secret = fields.bytes(pool, MOST_FIELD)?;
     let kind = ContextKind::Share { role, kem, secret };
     schedule(kind, kdf, aead, pool, fields)
 }
 
 // `KDF AEAD KEY`
-fn key_parts(version: u8, fields: &mut Pieces) -> Result<(Kdf, Aead, u32), Reason>
-    ensures read { Reads (λ parts. (parts, fields.new)) result
-        (key_parts_of version fields.old) }
+fn key_parts(fields: &mut Pieces) -> Result<(Kdf, Aead, u32), Reason>
+    ensures read { Reads (λ parts. (parts, fields.new)) result (key_parts_of fields.old) }
     ensures size { OnOk result (sum_by length fields.new ≤ sum_by length fields.old) }
 {
     let kdf = read_kdf(fields)?;
-    let aead = words::aead(version, fields)?;
+    let aead = words::aead(fields)?;
     let key = fields.number(0, 65_535)? as u32;
     Ok((kdf, aead, key))
 }
 
 // `send KDF AEAD KEY MODE INFO PSK PSKID LIMIT`
 #[tactic(auto, unfolding(crate::specs::Forms::send))]
-fn send(version: u8, pool: &mut Vec<u8>, fields: &mut Pieces) -> Result<ContextLine, Stop>
+fn send(pool: &mut Vec<u8>, fields: &mut Pieces) -> Result<ContextLine, Stop>
     requires room { vec_len pool.old + sum_by length fields.old < 2 ^ 32 }
     ensures read { Gives (λ line. (line, pool.new.items)) result
-        (send_of version pool.old.items fields.old) }
+        (send_of pool.old.items fields.old) }
     ensures size { OnOk result (vec_len pool.new ≤ vec_len pool.old + sum_by length fields.old) }
 {
     fields.exactly(8)?;
-    let (kdf, aead, key) = key_parts(version, fields)?;
+    let (kdf, aead, key) = key_parts(fields)?;
     schedule(ContextKind::Send { key }, kdf, aead, pool, fields)
 }
 
 // `recv KDF AEAD KEY ENC MODE INFO PSK PSKID LIMIT`
 #[tactic(auto, unfolding(crate::specs::Forms::recv))]
-fn recv(version: u8, pool: &mut Vec<u8>, fields: &mut Pieces) -> Result<ContextLine, Stop>
+fn recv(pool: &mut Vec<u8>, fields: &mut Pieces) -> Result<ContextLine, Stop>
     requires room { vec_len pool.old + sum_by length fields.old < 2 ^ 32 }
     ensures read { Gives (λ line. (line, pool.new.items)) result
-        (recv_of version pool.old.items fields.old) }
+        (recv_of pool.old.items fields.old) }
     ensures size { OnOk result (vec_len pool.new ≤ vec_len pool.old + sum_by length fields.old) }
 {
     fields.exactly(9)?;
-    let (kdf, aead, key) = key_parts(version, fields)?;
+    let (kdf, aead, key) = key_parts(fields)?;
     let enc = read_message(pool, fields, MOST_FIELD)?;
     schedule(ContextKind::Recv { key, enc }, kdf, aead, pool, fields)
 }
 
-/// A context line of this word, in a text of this version.
+/// A context line of this word.
 pub fn context(
-    version: u8,
     word: ContextWord,
     pool: &mut Vec<u8>,
     fields: &mut Pieces,
 ) -> Result<ContextLine, Stop>
     requires room { vec_len pool.old + sum_by length fields.old < 2 ^ 32 }
     ensures read { Gives (λ line. (line, pool.new.items)) result
-        (context_of version word pool.old.items fields.old) }
+        (context_of word pool.old.items fields.old) }
     ensures size { OnOk result (vec_len pool.new ≤ vec_len pool.old + sum_by length fields.old) }
 {
     match word {
-        ContextWord::Share => share(version, pool, fields),
-        ContextWord::Send => send(version, pool, fields),
-        ContextWord::Recv => recv(version, pool, fields),
+        ContextWord::Share => share(pool, fields),
+        ContextWord::Send => send(pool, fields),
+        ContextWord::Recv => recv(pool, fields),
     }
 }

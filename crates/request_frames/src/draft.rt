@@ -7,8 +7,8 @@ ghost use Rattle.request_frames.specs.Drafts.{plan_of, IsKept};
 
 use crate::open_lanes::OpenLanes;
 use crate::words;
-use crate::words::LineWord;
-use batch_plans::{ContextLine, KeyLine, PlainList, Plan, limits, versions};
+use crate::words::{LineWord, is_text};
+use batch_plans::{ContextLine, KeyLine, PlainList, Plan, limits};
 use call_places::Item;
 use field_text::{Draft, Pieces, Reason, Stop};
 use std::alloc::{AllocError, Global};
@@ -119,8 +119,13 @@ impl Draft for BatchDraft {
     ghost kept = { IsKept };
 
     fn begin(alloc: Global, header: &[u8]) -> Result<BatchDraft, Reason> {
-        let version = versions::read_version(header)?;
-        Ok(BatchDraft::of_version(alloc, version))
+        if is_text(header, b"hpkebatch 1") {
+            Ok(BatchDraft::of_version(alloc, 1))
+        } else if is_text(header, b"hpkebatch 2") {
+            Ok(BatchDraft::of_version(alloc, 2))
+        } else {
+            Err(Reason::Header)
+        }
     }
 
     fn word(&self, piece: &[u8]) -> Result<LineWord, Reason> {

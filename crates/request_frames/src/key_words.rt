@@ -3,7 +3,7 @@
 ghost use Rattle.std.specs.Prelude.{◌≡◌, ◌≤◌, length, sum_by, OnOk};
 ghost use Rattle.field_text.specs.Fields.{next};
 ghost use Rattle.field_text.specs.Readings.{Reads};
-ghost use Rattle.request_frames.specs.KeyWords.{key_word_text, key_draws, kdf as kdf_field};
+ghost use Rattle.request_frames.specs.KeyWords.{key_draws, kdf as kdf_field};
 
 use batch_plans::KeySet;
 use field_text::{Pieces, Reason, read_number};
@@ -18,20 +18,6 @@ pub enum KeyWord {
 }
 
 impl KeyWord {
-    /// How the word is spelled.
-    pub fn text(self) -> &'static [u8]
-        ensures { result.now ≡ key_word_text self }
-    {
-        match self {
-            KeyWord::Generate(KeySet::Sntrup761) => b"keygen",
-            KeyWord::Generate(KeySet::Sntrup857) => b"keygen857",
-            KeyWord::Secret(KeySet::Sntrup761) => b"secret",
-            KeyWord::Secret(KeySet::Sntrup857) => b"secret857",
-            KeyWord::Peer(KeySet::Sntrup761) => b"peer",
-            KeyWord::Peer(KeySet::Sntrup857) => b"peer857",
-        }
-    }
-
     /// Whether the line stands only where there is a seed.
     pub fn draws(self) -> bool
         ensures { result ≡ key_draws self }

@@ -9,14 +9,13 @@
 //! [`read_live`] and [`read_live_front`] do the same for a batch whose lanes add and retire contexts
 //! while they are served, by `live` of `specs/Live.antt`; [`one_live_reading`],
 //! [`one_live_spelling`] and [`live_fronts_are_batches`] are its laws. Such a batch has the lines of
-//! a batch of its version, and in its lanes lines `add` and `retire` besides. Its calls may name a
+//! a batch of version 2, and in its lanes lines `add` and `retire` besides. Its calls may name a
 //! context that a line adds. Whether a call finds its context live is not known here.
 //!
 //! For grammars with other lines there are the lines by themselves, [`BatchDraft`], and the fields
 //! alone, [`read_number`] and [`read_bytes`]. The lines of the seed and of keys are those of batches
-//! of capsules too: [`read_first_word`] reads the word of any line, [`read_rand`] and [`read_key`]
-//! read the fields that follow such a line's word, and [`read_kdf`], [`aead_of`] and [`read_message`]
-//! one field of a line of another kind, each just as its definition
+//! of capsules too: [`read_rand`] and [`read_key`] read the fields that follow such a line's word,
+//! [`read_kdf`] and [`read_message`] one field of a line of another kind, each just as its definition
 //! in `specs/KeyWords.antt` or `specs/KeyForms.antt` says, with the bytes at the end of one pool.
 //! `specs/KeyText.antt` has the text of what was read. Where such a line may be, and how many there
 //! may be, each grammar says for itself.
@@ -35,7 +34,6 @@ mod call_lines;
 mod contexts;
 mod draft;
 mod fields;
-mod first_words;
 mod key_lines;
 mod key_words;
 mod live_draft;
@@ -57,7 +55,6 @@ pub use batch_plans::{
 pub use draft::BatchDraft;
 pub use field_text::{BadBatch, Printed, ReadBatchFault, Reason};
 pub use fields::{FieldFault, read_bytes, read_number};
-pub use first_words::{FirstWord, read_first_word};
 pub use key_lines::{read_key, read_rand};
 pub use key_words::{KeyWord, read_kdf};
 pub use live_reading::{
@@ -67,4 +64,4 @@ pub use messages::read_message;
 pub use reading::{fronts_are_batches, one_reading, read_batch, read_front};
 pub use reply_frames::{print_answers, print_bad, print_reply, print_setup};
 pub use spelling::one_spelling;
-pub use words::{CallWord, ContextWord, LineWord, aead_of, line_word};
+pub use words::{CallWord, ContextWord, LineWord, line_word};

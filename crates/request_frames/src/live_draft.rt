@@ -3,7 +3,8 @@
 use crate::draft::BatchDraft;
 use crate::live_words;
 use crate::live_words::LiveWord;
-use batch_plans::{Plan, limits, versions};
+use crate::words::is_text;
+use batch_plans::{Plan, limits};
 use field_text::{Draft, Pieces, Reason, Stop};
 use std::alloc::Global;
 
@@ -35,14 +36,17 @@ impl Draft for LiveDraft {
     ghost kept = { λ draft. IsKept draft.batch };
 
     fn begin(alloc: Global, header: &[u8]) -> Result<LiveDraft, Reason> {
-        let version = versions::read_stamped_version(header)?;
-        Ok(LiveDraft {
-            batch: BatchDraft::of_version(alloc, version),
-        })
+        if is_text(header, b"hpkebatch 2") {
+            Ok(LiveDraft {
+                batch: BatchDraft::of_version(alloc, 2),
+            })
+        } else {
+            Err(Reason::Header)
+        }
     }
 
     fn word(&self, piece: &[u8]) -> Result<LiveWord, Reason> {
-        live_words::word(self.batch.version, piece)
+        live_words::word(piece)
     }
 
     fn may_stand(&self, word: LiveWord) -> bool {

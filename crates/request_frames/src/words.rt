@@ -1,16 +1,15 @@
 //! The pieces of a line that are one of a few words or numbers.
 
-ghost use Rattle.std.specs.Prelude.{◌≡◌, ◌≤◌, length, sum_by, OnOk};
+ghost use Rattle.std.specs.Prelude.{◌≡◌, ◌+◌, ◌++◌, ◌≤◌, length, sum_by, OnOk};
 ghost use Rattle.std.specs.Str.{bytes_eq};
 ghost use Rattle.field_text.specs.Fields.{next};
 ghost use Rattle.field_text.specs.Readings.{Reads};
-ghost use Rattle.request_frames.specs.Words.{draws};
+ghost use Rattle.request_frames.specs.Words.{set_up_words, lane_words, word_among, draws};
 ghost use Rattle.request_frames.specs.Words.{line_word as line_word_of, role as role_of};
 ghost use Rattle.request_frames.specs.Words.{mode as mode_of, aead as aead_field};
 
-use crate::first_words::{FirstWord, read_first_word};
 use crate::key_words::KeyWord;
-use batch_plans::versions;
+use batch_plans::KeySet;
 use field_text::{Pieces, Reason, read_number};
 use hkdf_labelled::Aead;
 use key_schedule::{Mode, Role};
@@ -60,31 +59,44 @@ pub(crate) fn is_text(bytes: &[u8], text: &[u8]) -> bool
     bytes == text
 }
 
-impl FirstWord for LineWord {
-    ghost use Rattle.request_frames.specs.Words.{word_text};
-    ghost use Rattle.request_frames.specs.declared.words.LineWord.TheVariants.{Key};
-
-    ghost spelled = { word_text };
-
-    ghost key = { Key };
-
-    fn text(self) -> &'static [u8] {
-        match self {
-            LineWord::Rand => b"rand",
-            LineWord::Key(word) => word.text(),
-            LineWord::Context(ContextWord::Share) => b"share",
-            LineWord::Context(ContextWord::Send) => b"send",
-            LineWord::Context(ContextWord::Recv) => b"recv",
-            LineWord::Lane => b"lane",
-            LineWord::Call(CallWord::Seal) => b"seal",
-            LineWord::Call(CallWord::Unseal) => b"unseal",
-            LineWord::Call(CallWord::UnsealAll) => b"unsealall",
-            LineWord::Call(CallWord::Export) => b"export",
-        }
+fn lane_word(piece: &[u8]) -> Result<LineWord, Reason>
+    ensures { Reads (λ word. word) result (word_among lane_words piece.now) }
+{
+    if is_text(piece, b"lane") {
+        Ok(LineWord::Lane)
+    } else if is_text(piece, b"seal") {
+        Ok(LineWord::Call(CallWord::Seal))
+    } else if is_text(piece, b"unseal") {
+        Ok(LineWord::Call(CallWord::Unseal))
+    } else if is_text(piece, b"unsealall") {
+        Ok(LineWord::Call(CallWord::UnsealAll))
+    } else if is_text(piece, b"export") {
+        Ok(LineWord::Call(CallWord::Export))
+    } else {
+        Err(Reason::Word)
     }
+}
 
-    fn of_key(word: KeyWord) -> LineWord {
-        LineWord::Key(word)
+// The words of both versions.
+fn common_word(piece: &[u8]) -> Result<LineWord, Reason>
+    ensures { Reads (λ word. word) result (word_among (set_up_words ++ lane_words) piece.now) }
+{
+    if is_text(piece, b"rand") {
+        Ok(LineWord::Rand)
+    } else if is_text(piece, b"keygen") {
+        Ok(LineWord::Key(KeyWord::Generate(KeySet::Sntrup761)))
+    } else if is_text(piece, b"secret") {
+        Ok(LineWord::Key(KeyWord::Secret(KeySet::Sntrup761)))
+    } else if is_text(piece, b"peer") {
+        Ok(LineWord::Key(KeyWord::Peer(KeySet::Sntrup761)))
+    } else if is_text(piece, b"share") {
+        Ok(LineWord::Context(ContextWord::Share))
+    } else if is_text(piece, b"send") {
+        Ok(LineWord::Context(ContextWord::Send))
+    } else if is_text(piece, b"recv") {
+        Ok(LineWord::Context(ContextWord::Recv))
+    } else {
+        lane_word(piece)
     }
 }
 
@@ -92,18 +104,17 @@ impl FirstWord for LineWord {
 pub fn line_word(version: u8, piece: &[u8]) -> Result<LineWord, Reason>
     ensures { Reads (λ word. word) result (line_word_of version piece.now) }
 {
-    let further = [
-        LineWord::Rand,
-        LineWord::Context(ContextWord::Share),
-        LineWord::Context(ContextWord::Send),
-        LineWord::Context(ContextWord::Recv),
-        LineWord::Lane,
-        LineWord::Call(CallWord::Seal),
-        LineWord::Call(CallWord::Unseal),
-        LineWord::Call(CallWord::UnsealAll),
-        LineWord::Call(CallWord::Export),
-    ];
-    read_first_word(version, &further, piece)
+    if version != 2 {
+        common_word(piece)
+    } else if is_text(piece, b"keygen857") {
+        Ok(LineWord::Key(KeyWord::Generate(KeySet::Sntrup857)))
+    } else if is_text(piece, b"secret857") {
+        Ok(LineWord::Key(KeyWord::Secret(KeySet::Sntrup857)))
+    } else if is_text(piece, b"peer857") {
+        Ok(LineWord::Key(KeyWord::Peer(KeySet::Sntrup857)))
+    } else {
+        common_word(piece)
+    }
 }
 
 /// The next piece as ROLE.
@@ -138,21 +149,19 @@ pub fn mode(fields: &mut Pieces) -> Result<Mode, Reason>
     }
 }
 
-/// What a piece says as AEAD: the id in RFC 9180, 7.3, of one that this version has.
-pub fn aead_of(version: u8, piece: &[u8]) -> Result<Aead, Reason>
-    ensures { Reads (λ aead. aead) result (aead_field version piece.now) }
+fn aead_of(piece: &[u8]) -> Result<Aead, Reason>
+    ensures { Reads (λ aead. aead) result (aead_field piece.now) }
 {
     let id = read_number(piece, 1, 65_535)?;
-    versions::aead_named(version, id as u16).ok_or(Reason::Range)
+    Aead::named(id as u16).ok_or(Reason::Range)
 }
 
-/// The next piece as AEAD.
+/// The next piece as AEAD: its id in RFC 9180, 7.3, but not that of ChaCha20Poly1305.
 #[tactic(auto, unfolding(field_text::specs::Fields::next))]
-pub fn aead(version: u8, fields: &mut Pieces) -> Result<Aead, Reason>
-    ensures read { Reads (λ aead. (aead, fields.new)) result
-        (next (aead_field version) fields.old) }
+pub fn aead(fields: &mut Pieces) -> Result<Aead, Reason>
+    ensures read { Reads (λ aead. (aead, fields.new)) result (next aead_field fields.old) }
     ensures size { OnOk result (sum_by length fields.new ≤ sum_by length fields.old) }
 {
     let piece = fields.piece()?;
-    aead_of(version, piece)
+    aead_of(piece)
 }

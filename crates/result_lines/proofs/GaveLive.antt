@@ -106,10 +106,10 @@ told_live_back plan keys replies contexts lines guesses journals notes complete 
     let journal_text = journals_text count journals in
     let table = concat (table_lines notes) in
     let text = told_live_text plan keys replies contexts lines guesses journals notes in
-    let parts : text ≡ setup plan.version keys (take count replies) ++ (lane_text ++ (journal_text ++ (table ++ codes "end\n"))) =
-    live_parts plan.version count keys replies lanes journals notes in
+    let parts : text ≡ setup keys (take count replies) ++ (lane_text ++ (journal_text ++ (table ++ codes "end\n"))) =
+    live_parts count keys replies lanes journals notes in
     let start = nothing_yet text in
-    let a = setup_gave plan.version keys (take count replies) start (lane_text ++ (journal_text ++ (table ++ codes "end\n"))) (ap lines_of parts) in
+    let a = setup_gave 2 keys (take count replies) start (lane_text ++ (journal_text ++ (table ++ codes "end\n"))) (ap lines_of parts) in
     let b = lanes_gave contexts 0 calls lines guesses a.new (journal_text ++ (table ++ codes "end\n")) (no_guesses a.new.guesses a.grew.guesses)
     complete.count complete.kept all within a.grew.left in
     let ends : EndsMarks PlacesAndNotes (table ++ codes "end\n") =
@@ -120,7 +120,7 @@ told_live_back plan keys replies contexts lines guesses journals notes complete 
     record {
       told = z.new;
       is =
-          step_gives (with_setup plan.version keys (take count replies) start) _ a.new a.is
+          step_gives (with_setup 2 keys (take count replies) start) _ a.new a.is
           ∙ step_gives (with_lanes contexts 0 calls a.new) _ b.new b.is
           ∙ step_gives (with_all_journals plan b.new) _ c.new c.is
           ∙ step_gives (with_lines (table_lines notes) c.new) _ d.new d.is

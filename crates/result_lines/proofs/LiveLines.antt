@@ -183,7 +183,7 @@ module _ (live : LiveRun) (within : IsWithinLimits live.plan) where
     pub live_text_is : (keys : List KeyReply)
         → live_run_text keys live ≡ told_live_text live.plan keys live.replies live.standing (live_replies live) (all_opened run) live.journals live.notes
     live_text_is keys =
-        ap (λ (lanes : List (List (List ℕ))). concat (live_lines live.plan.version (line_count live.plan) keys live.replies lanes live.journals live.notes)) (lanes_are 0 live.plan.lanes refl)
+        ap (λ (lanes : List (List (List ℕ))). concat (live_lines (line_count live.plan) keys live.replies lanes live.journals live.notes)) (lanes_are 0 live.plan.lanes refl)
 
   -- ---- each reply is a line
 

@@ -214,7 +214,7 @@ pub table_back : (plan : Plan) (keys : List KeyReply) (replies : List ContextRep
 unfolding live_lines
 table_back plan keys replies contexts lines guesses journals notes all within marks noted rise =
     let count = line_count plan in
-    let v = version_line plan.version in
+    let v = version_line 2 in
     let ks = numbered key_line 0 keys in
     let cs = numbered context_line 0 (take count replies) in
     let lanes = (looked_up_plan plan notes).lanes in
@@ -230,7 +230,7 @@ table_back plan keys replies contexts lines guesses journals notes all within ma
     ∙ append_assoc (concat before) (codes "table\n" ++ own) (codes "end\n")
     ∙ ap (λ (bytes : List ℕ). concat before ++ bytes) (append_assoc (codes "table\n") own (codes "end\n")) in
     let setup : All IsOther (v ∷ (ks ++ cs)) =
-    headed (codes "hpkebatch ") plan.version (ks ++ cs) (numbered_line (codes "hpkebatch ") plan.version refl) refl
+    headed (codes "hpkebatch ") 2 (ks ++ cs) (numbered_line (codes "hpkebatch ") 2 refl) refl
     (All-append IsOther ks cs (numbered_other key_line key_other 0 keys) (numbered_other context_line context_other 0 (take count replies))) in
     let others : All IsOther before =
     All-append IsOther (((v ∷ (ks ++ cs)) ++ ls) ++ js) more

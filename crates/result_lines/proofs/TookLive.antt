@@ -73,17 +73,17 @@ all_took plan told new text left e =
 -- ---- the whole result
 
 -- the text of the set-up
-abbrev pub setup : ℕ → List KeyReply → List ContextReply → List ℕ
-setup version keys replies = version_line version ++ (concat (numbered key_line 0 keys) ++ concat (numbered context_line 0 replies))
+abbrev pub setup : List KeyReply → List ContextReply → List ℕ
+setup keys replies = version_line 2 ++ (concat (numbered key_line 0 keys) ++ concat (numbered context_line 0 replies))
 
 -- the parts of a text of replies
-pub live_parts : (version lines : ℕ) (keys : List KeyReply) (replies : List ContextReply) (lanes : List (List (List ℕ))) (journals : List (List Mark)) (notes : List Entry)
-    → concat (live_lines version lines keys replies lanes journals notes)
-    ≡ setup version keys (take lines replies)
+pub live_parts : (lines : ℕ) (keys : List KeyReply) (replies : List ContextReply) (lanes : List (List (List ℕ))) (journals : List (List Mark)) (notes : List Entry)
+    → concat (live_lines lines keys replies lanes journals notes)
+    ≡ setup keys (take lines replies)
     ++ (concat (all_lines (numbered lane_lines 0 lanes)) ++ (journals_text lines journals ++ (concat (table_lines notes) ++ codes "end\n")))
 unfolding live_lines
-live_parts version lines keys replies lanes journals notes =
-    let v = version_line version in
+live_parts lines keys replies lanes journals notes =
+    let v = version_line 2 in
     let ks = numbered key_line 0 keys in
     let cs = numbered context_line 0 (take lines replies) in
     let ls = all_lines (numbered lane_lines 0 lanes) in
@@ -111,9 +111,9 @@ told_live_took plan keys replies contexts notes text told e =
     let count = line_count plan in
     let calls = (looked_up_plan plan notes).lanes in
     let start = nothing_yet text in
-    let f1 = step_ok (with_setup plan.version keys (take count replies) start) _ told e in
+    let f1 = step_ok (with_setup 2 keys (take count replies) start) _ told e in
     let t1 : ToldView = f1.0 in
-    let a = setup_took plan.version keys (take count replies) start t1 text refl f1.1 in
+    let a = setup_took 2 keys (take count replies) start t1 text refl f1.1 in
     let f2 = step_ok (with_lanes contexts 0 calls t1) _ told f1.2 in
     let t2 : ToldView = f2.0 in
     let b = lanes_took contexts 0 calls t1 t2 a.after a.grew.left (no_guesses t1.guesses a.grew.guesses) f2.1 in
@@ -135,11 +135,11 @@ told_live_took plan keys replies contexts notes text told e =
     record {
       is =
           a.parts
-          ∙ ap (λ (bytes : List ℕ). setup plan.version keys (take count replies) ++ bytes)
+          ∙ ap (λ (bytes : List ℕ). setup keys (take count replies) ++ bytes)
           (b.parts ∙ ap (λ (bytes : List ℕ). concat (all_lines (numbered lane_lines 0 lanes)) ++ bytes)
           (c.parts ∙ ap (λ (bytes : List ℕ). journals_text count c.journals ++ bytes)
           (d.parts ∙ ap (λ (bytes : List ℕ). concat (table_lines notes) ++ bytes) z.0)))
-          ∙ sym (live_parts plan.version count keys replies lanes c.journals notes)
+          ∙ sym (live_parts count keys replies lanes c.journals notes)
           ∙ (λ i. told_live_text plan keys replies contexts (sym lines_are i) (sym guesses_are i) (sym journals_are i) notes);
       complete = record {
         count = ap length lines_are ∙ b.count;

@@ -24,7 +24,7 @@ use Rattle.result_lines.specs.Printed.{told_lanes, lines_told, guesses_told, Are
 abbrev pub told_live_text : Plan → List KeyReply → List ContextReply → List (Option ContextView)
     → List (List ℕ) → List (List Batch) → List (List Mark) → List Entry → List ℕ
 told_live_text plan keys replies contexts lines guesses journals notes =
-    concat (live_lines plan.version (line_count plan) keys replies
+    concat (live_lines (line_count plan) keys replies
     (told_lanes contexts (looked_up_plan plan notes).lanes lines guesses) journals notes)
 
 -- ---- what can be told

@@ -40,7 +40,7 @@ with_all_journals plan told = do
 unfoldable pub told_live_by : Plan → List KeyReply → List ContextReply → List (Option ContextView)
     → List Entry → List ℕ → Result ToldView ℕ
 told_live_by plan keys replies contexts notes text = do
-  told ← with_setup plan.version keys (take (line_count plan) replies) (nothing_yet text)
+  told ← with_setup 2 keys (take (line_count plan) replies) (nothing_yet text)
   told ← with_lanes contexts 0 (looked_up_plan plan notes).lanes told
   told ← with_all_journals plan told
   told ← with_lines (table_lines notes) told

@@ -108,7 +108,7 @@ fn read_live_lines(
     read_setup(
         told,
         alloc,
-        plan.version,
+        2,
         set_up.keys,
         line_replies(plan, set_up.replies),
     )?;
@@ -131,17 +131,10 @@ pub fn read_live_setup<'a>(
 ) -> Result<Told<'a>, Stop>
     requires { length text.now ≤ most_input }
     ensures { Tells (λ told. told) result
-        (with_setup plan.now.version keys.now (take (lines_in plan.now) replies.now)
-        (nothing_yet text.now)) }
+        (with_setup 2 keys.now (take (lines_in plan.now) replies.now) (nothing_yet text.now)) }
 {
     let mut told = Told::nothing_yet(alloc, text);
-    read_setup(
-        &mut told,
-        alloc,
-        plan.version,
-        keys,
-        line_replies(plan, replies),
-    )?;
+    read_setup(&mut told, alloc, 2, keys, line_replies(plan, replies))?;
     Ok(told)
 }
 

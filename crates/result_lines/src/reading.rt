@@ -12,7 +12,7 @@ ghost use Rattle.result_lines.specs.Told.{nothing_yet, told_by};
 use crate::stamps::Stamps;
 use crate::stop::Stop;
 use crate::told::Told;
-use batch_plans::{CallLine, ContextLine, ContextReply, KeyReply, PlainList, Plan, versions};
+use batch_plans::{CallLine, ContextLine, ContextReply, KeyReply, PlainList, Plan};
 use hpke_context::Context;
 use reply_frames::LinePrinter;
 use std::alloc::Global;
@@ -92,7 +92,7 @@ pub(crate) fn read_journals(
 fn stamps_of(version: u8) -> Stamps
     ensures { result ≡ stamps_for (has_stamps version) }
 {
-    if versions::has_stamps(version) {
+    if version == 2 {
         Stamps::Places
     } else {
         Stamps::Unprinted

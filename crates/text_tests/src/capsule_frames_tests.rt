@@ -160,7 +160,7 @@ fn replies_are_printed(rt: HostRuntime) {
     let keys = keys(&rt, alloc);
     let replies = replies(&rt, alloc);
     let mut sink = sink_of(&rt, alloc, 2_000, 0);
-    let printed = print_capsules(2, &keys, &replies, &mut sink);
+    let printed = print_capsules(&keys, &replies, &mut sink);
     assert_same(&rt, printed, Printed::Whole, "printed");
     let want =
         b"hpkebatch 2\nkey 0 peer\nasked 01\nanswered 02 03\ntook -\ntook 05\nrefused noncesize\nend\n";

@@ -11,7 +11,7 @@ returns-in-Ok g c =
     let plan = c.args.plan.now in
     let answers = c.in-Ok.answers in
     replied g.K.Sink.written g.K.Sink.faults c.args.sink.now c.tell_capsules-outcome.new.sink IsCapsuleReply plan
-    (capsules_text plan.plan.version answers.keys answers.replies) c.tell_capsules-outcome.result (record {
+    (capsules_text answers.keys answers.replies) c.tell_capsules-outcome.result (record {
       keys = answers.keys;
       replies = answers.replies;
       are = subst (λ r. IfOk r (λ a. AreReplies plan a.keys a.replies)) c.in-Ok.is c.requires;

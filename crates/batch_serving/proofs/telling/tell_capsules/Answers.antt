@@ -9,8 +9,7 @@ pub returns : goal.returns
 returns g c =
     let p = c.print_capsules.ensures in
     let keys = c.args.answers.now.keys in
-    let version = c.args.version in
     subst (λ (text : List ℕ). Writes g.K.Sink.written g.K.Sink.faults c.args.sink.now c.print_capsules.new.sink
-    (Says Done text) c.end_of.result) (ap (capsules_text version keys) c.as_slice.ensures.items)
+    (Says Done text) c.end_of.result) (ap (capsules_text keys) c.as_slice.ensures.items)
     (done_told g.K.Sink.written g.K.Sink.faults c.args.sink.now c.print_capsules.new.sink c.print_capsules.result
-    (capsules_text version keys c.as_slice.result.now) c.end_of.result c.end_of.ensures p.whole p.no_fault p.cut p.failed)
+    (capsules_text keys c.as_slice.result.now) c.end_of.result c.end_of.ensures p.whole p.no_fault p.cut p.failed)

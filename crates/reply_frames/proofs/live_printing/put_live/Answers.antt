@@ -34,7 +34,7 @@ table_text notes = concat (table_lines notes)
 
 -- the parts of a reply, one behind the other
 parts : (lines : ℕ) (plan : Plan) (answers : Answers) → lines ≡ line_count plan
-    → version_line plan.version ++ setup_text answers.keys (take lines answers.contexts)
+    → version_line 2 ++ setup_text answers.keys (take lines answers.contexts)
     ++ lanes_text plan.lanes answers.lanes
     ++ journals_text (take lines answers.journals)
     ++ added_text (drop lines answers.journals)
@@ -42,7 +42,7 @@ parts : (lines : ℕ) (plan : Plan) (answers : Answers) → lines ≡ line_count
     ≡ live_text plan answers
 unfolding live_lines
 parts lines plan answers is =
-    let front = version_line plan.version ∷ setup_lines answers.keys (take lines answers.contexts) in
+    let front = version_line 2 ∷ setup_lines answers.keys (take lines answers.contexts) in
     let calls = all_lines (numbered lane_lines 0 (lanes_given plan.lanes answers.lanes)) in
     let marks = all_lines (numbered (journal_lines true) 0 (take lines answers.journals)) in
     let added = all_lines (numbered added_journal_lines 0 (drop lines answers.journals)) in
@@ -53,7 +53,7 @@ parts lines plan answers is =
     ∙ ap (λ (text : List ℕ). (text ++ concat table) ++ concat end) (concat-append (front ++ calls ++ marks) added)
     ∙ ap (λ (text : List ℕ). ((text ++ concat added) ++ concat table) ++ concat end) (concat-append (front ++ calls) marks)
     ∙ ap (λ (text : List ℕ). (((text ++ concat marks) ++ concat added) ++ concat table) ++ concat end) (concat-append front calls))
-    ∙ ap (λ (lines : ℕ). concat (live_lines plan.version lines answers.keys answers.contexts (lanes_given plan.lanes answers.lanes) answers.journals answers.notes)) is
+    ∙ ap (λ (lines : ℕ). concat (live_lines lines answers.keys answers.contexts (lanes_given plan.lanes answers.lanes) answers.journals answers.notes)) is
 
 pub returns : goal.returns
 returns g c =
